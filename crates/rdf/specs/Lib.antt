@@ -1,0 +1,4 @@
+pub mod Term
+pub mod Triple
+pub mod Refusal
+pub mod Order

@@ -1,0 +1,39 @@
+-- What follows from statements and facts: RDF 1.1 Semantics, section 9.2.1, the rules rdfs2, rdfs3, rdfs7 and rdfs9, as
+-- document 01, "What follows", narrows them. Definitions only.
+use mathlib.Core.Path.{_≡_}
+use mathlib.Core.Bool.{true, false}
+use mathlib.Core.List.{List, [], _∷_, List·Memᴰ}
+use mathlib.Core.Logic.{_⊎_}
+use Prim.Native.Nat.{ℕ}
+use Rattle.rdf.specs.declared.Triple.{Triple}
+use Rattle.rdf.specs.Term.{type, subClassOf, subPropertyOf, domain, range, isLiteral, isVocabulary}
+use Rattle.rdf.specs.Triple.{triple}
+
+-- The facts that hold, given the statements S and the explicit facts F.
+pub data Holds (S F : List Triple) : Triple → Type 0 where
+  explicit : {t : Triple} → List·Memᴰ t F → Holds S F t
+  -- "Domain: p 4 c and a p b give a 1 c."
+  rdfs2 : {p c a b : ℕ} → List·Memᴰ (triple p domain c) S → Holds S F (triple a p b) → Holds S F (triple a type c)
+  -- "Range: p 5 c and a p b give b 1 c, unless b is a literal, for then the result would be no triple."
+  rdfs3 : {p c a b : ℕ} → List·Memᴰ (triple p range c) S → isLiteral b ≡ false → Holds S F (triple a p b) → Holds S F (triple b type c)
+  -- "Subproperty: p 3 q and a p b give a q b."
+  rdfs7 : {p q a b : ℕ} → List·Memᴰ (triple p subPropertyOf q) S → Holds S F (triple a p b) → Holds S F (triple a q b)
+  -- "Subclass: c 2 d and a 1 c give a 1 d."
+  rdfs9 : {c d a : ℕ} → List·Memᴰ (triple c subClassOf d) S → Holds S F (triple a type c) → Holds S F (triple a type d)
+
+-- "One fact and the statements carry a set of facts, itself included."
+abbrev pub Carries : List Triple → Triple → Triple → Type 0
+Carries S f t = Holds S (f ∷ []) t
+
+-- The triples that a question is put to: "statements match as explicit, without closure", and the facts that hold.
+abbrev pub InGraph : List Triple → List Triple → Triple → Type 0
+InGraph S F t = List·Memᴰ t S ⊎ Holds S F t
+
+-- Zero or more steps of the property k from a to b: statements a k x, x k y, .. z k b.
+pub data Reach (S : List Triple) (k a : ℕ) : ℕ → Type 0 where
+  stay : Reach S k a a
+  step : {b c : ℕ} → Reach S k a b → List·Memᴰ (triple b k c) S → Reach S k a c
+
+-- No statement has a vocabulary URI on a side. Every well-formed table of statements is so.
+abbrev pub NoVocabulary : List Triple → Type 0
+NoVocabulary S = (t : Triple) → List·Memᴰ t S → (isVocabulary (t .subject) ≡ false) × (isVocabulary (t .object) ≡ false)

@@ -1,0 +1,3 @@
+pub mod Entailment
+pub mod Closure
+pub mod Saturation
