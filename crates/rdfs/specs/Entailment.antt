@@ -34,6 +34,12 @@ pub data Reach (S : List Triple) (k a : ℕ) : ℕ → Type 0 where
   stay : Reach S k a a
   step : {b c : ℕ} → Reach S k a b → List·Memᴰ (triple b k c) S → Reach S k a c
 
+-- b is reached by steps of the property k from one of xs.
+pub record ReachFrom (S : List Triple) (k : ℕ) (xs : List ℕ) (b : ℕ) : Type 0 where
+  pub start : ℕ
+  pub listed : List·Memᴰ start xs
+  pub path : Reach S k start b
+
 -- No statement has a vocabulary URI on a side. Every well-formed table of statements is so.
 abbrev pub NoVocabulary : List Triple → Type 0
 NoVocabulary S = (t : Triple) → List·Memᴰ t S → (isVocabulary (t .subject) ≡ false) × (isVocabulary (t .object) ≡ false)
