@@ -1,0 +1,72 @@
+-- The alternatives of an atom: how it is reformulated over explicit facts (document 01, "Questions and their rewriting"; source
+-- document 000, section 4). Definitions only.
+use Prim.Native.Nat.{ℕ}
+use mathlib.Core.Path.{_≡_}
+use mathlib.Core.Bool.{Bool, true, false, _&&_, _||_, not, cond}
+use mathlib.Core.List.{List, [], _∷_, _++_, map, flatMap, List·Memᴰ}
+use lib.Dec.{eqb}
+use Rattle.rdf.specs.declared.Triple.{Triple}
+use Rattle.rdf.specs.Term.{type, subClassOf, subPropertyOf, domain, range, isVariable}
+use Rattle.rdf.specs.Triple.{triple}
+use Rattle.rdf.specs.Order.{ascend}
+use Rattle.rdfs.specs.Entailment.{Reach}
+use Rattle.rdfs.specs.Closure.{reach, spread, objects}
+
+-- Whether a word of an atom admits x: it is x or a variable.
+abbrev pub admits : ℕ → ℕ → Bool
+admits w x = isVariable w || eqb w x
+
+-- "Kinds 1 to 3 need a property of 1 or a variable, and an object equal to target or variable."
+abbrev pub admitsClass : Triple → ℕ → Bool
+admitsClass a c = admits (a .property) type && admits (a .object) c
+
+-- "Kind 4 a property equal to target or variable."
+abbrev pub admitsProperty : Triple → ℕ → Bool
+admitsProperty a q = admits (a .property) q
+
+-- ---- as document 01 words it
+
+-- "An alternative of an atom is kind, source, target", under the statements S.
+pub data IsAlternative (S : List Triple) (a : Triple) : ℕ → ℕ → ℕ → Type 0 where
+  -- "0 0 0: an explicit triple as it is."
+  explicit : IsAlternative S a 0 0 0
+  -- "Kind 1: a 1 source gives a 1 target, where one or more subclass steps lead from source to target and the two differ."
+  subclass : {c d : ℕ} → Reach S subClassOf c d → ¬ (c ≡ d) → admitsClass a d ≡ true → IsAlternative S a 1 c d
+  -- "Kind 2: a source b gives a 1 target, where zero or more subproperty steps, one domain, then zero or more subclass steps lead there."
+  domain : {p q c d : ℕ} → Reach S subPropertyOf p q → List·Memᴰ (triple q domain c) S → Reach S subClassOf c d → admitsClass a d ≡ true → IsAlternative S a 2 p d
+  -- "Kind 3: the same with range, for b not a literal."
+  range : {p q c d : ℕ} → Reach S subPropertyOf p q → List·Memᴰ (triple q range c) S → Reach S subClassOf c d → admitsClass a d ≡ true → IsAlternative S a 3 p d
+  -- "Kind 4: a source b gives a target b, by one or more subproperty steps, source and target different."
+  subproperty : {p q : ℕ} → Reach S subPropertyOf p q → ¬ (p ≡ q) → admitsProperty a q ≡ true → IsAlternative S a 4 p q
+
+-- ---- computed
+
+-- Of some elements, those that pass a test.
+unfoldable pub select : {A : Type 0} → (A → Bool) → List A → List A
+select test [] = []
+select test (x ∷ xs) = cond (test x) (x ∷ select test xs) (select test xs)
+
+-- The targets that lie over one of some classes, paired with a kind and a source, as an atom admits them.
+unfoldable pub toClasses : Triple → ℕ → ℕ → List ℕ → List Triple
+toClasses a kind source cs = map (triple kind source) (select (admitsClass a) cs)
+
+-- The same for properties.
+unfoldable pub toProperties : Triple → ℕ → ℕ → List ℕ → List Triple
+toProperties a kind source qs = map (triple kind source) (select (admitsProperty a) qs)
+
+-- All but x.
+unfoldable pub without : ℕ → List ℕ → List ℕ
+without x xs = select (λ y. not (eqb x y)) xs
+
+-- The alternatives of kinds 1 to 4 with the source x.
+unfoldable pub alternativesFrom : List Triple → Triple → ℕ → List Triple
+alternativesFrom S a x =
+    let qs = reach S subPropertyOf x in
+    toClasses a 1 x (without x (reach S subClassOf x))
+    ++ (toClasses a 2 x (spread S subClassOf (objects S domain qs))
+    ++ (toClasses a 3 x (spread S subClassOf (objects S range qs))
+    ++ toProperties a 4 x (without x qs)))
+
+-- "All that qualify are given, once, ascending." A source of kinds 1 to 4 is the subject of a statement.
+unfoldable pub alternatives : List Triple → Triple → List Triple
+alternatives S a = ascend (triple 0 0 0 ∷ flatMap (λ (t : Triple). alternativesFrom S a (t .subject)) S)
