@@ -29,15 +29,15 @@ admitsProperty a q = admits (a .property) q
 -- "An alternative of an atom is kind, source, target", under the statements S.
 pub data IsAlternative (S : List Triple) (a : Triple) : ℕ → ℕ → ℕ → Type 0 where
   -- "0 0 0: an explicit triple as it is."
-  explicit : IsAlternative S a 0 0 0
+  as-it-is : IsAlternative S a 0 0 0
   -- "Kind 1: a 1 source gives a 1 target, where one or more subclass steps lead from source to target and the two differ."
-  subclass : {c d : ℕ} → Reach S subClassOf c d → ¬ (c ≡ d) → admitsClass a d ≡ true → IsAlternative S a 1 c d
+  by-subclass : {c d : ℕ} → Reach S subClassOf c d → ¬ (c ≡ d) → admitsClass a d ≡ true → IsAlternative S a 1 c d
   -- "Kind 2: a source b gives a 1 target, where zero or more subproperty steps, one domain, then zero or more subclass steps lead there."
-  domain : {p q c d : ℕ} → Reach S subPropertyOf p q → List·Memᴰ (triple q domain c) S → Reach S subClassOf c d → admitsClass a d ≡ true → IsAlternative S a 2 p d
+  by-domain : {p q c d : ℕ} → Reach S subPropertyOf p q → List·Memᴰ (triple q domain c) S → Reach S subClassOf c d → admitsClass a d ≡ true → IsAlternative S a 2 p d
   -- "Kind 3: the same with range, for b not a literal."
-  range : {p q c d : ℕ} → Reach S subPropertyOf p q → List·Memᴰ (triple q range c) S → Reach S subClassOf c d → admitsClass a d ≡ true → IsAlternative S a 3 p d
+  by-range : {p q c d : ℕ} → Reach S subPropertyOf p q → List·Memᴰ (triple q range c) S → Reach S subClassOf c d → admitsClass a d ≡ true → IsAlternative S a 3 p d
   -- "Kind 4: a source b gives a target b, by one or more subproperty steps, source and target different."
-  subproperty : {p q : ℕ} → Reach S subPropertyOf p q → ¬ (p ≡ q) → admitsProperty a q ≡ true → IsAlternative S a 4 p q
+  by-subproperty : {p q : ℕ} → Reach S subPropertyOf p q → ¬ (p ≡ q) → admitsProperty a q ≡ true → IsAlternative S a 4 p q
 
 -- ---- computed
 
