@@ -66,15 +66,15 @@ abbrev pub examples : List Example
 examples =
     -- the rows that `families` prints
     keeps S F (
-      (triple 32 1 16, 1) ∷ (triple 32 1 17, 2) ∷ (triple 32 1 18, 2) ∷ (triple 32 19 33, 1) ∷ (triple 32 20 33, 1)
-      ∷ (triple 33 1 16, 1) ∷ (triple 33 1 17, 1) ∷ (triple 33 1 18, 1) ∷ []
+    (triple 32 1 16, 1) ∷ (triple 32 1 17, 2) ∷ (triple 32 1 18, 2) ∷ (triple 32 19 33, 1) ∷ (triple 32 20 33, 1)
+    ∷ (triple 33 1 16, 1) ∷ (triple 33 1 17, 1) ∷ (triple 33 1 18, 1) ∷ []
     )
     -- "32 1 17 has support 2."
     ∷ supports S F (triple 32 1 17) 2
     -- "With 32 1 16 withdrawn 7 rows stay, 32 1 17 with 1."
     ∷ keepsWithout S F (triple 32 1 16) (
-      (triple 32 1 17, 1) ∷ (triple 32 1 18, 1) ∷ (triple 32 19 33, 1) ∷ (triple 32 20 33, 1)
-      ∷ (triple 33 1 16, 1) ∷ (triple 33 1 17, 1) ∷ (triple 33 1 18, 1) ∷ []
+    (triple 32 1 17, 1) ∷ (triple 32 1 18, 1) ∷ (triple 32 19 33, 1) ∷ (triple 32 20 33, 1)
+    ∷ (triple 33 1 16, 1) ∷ (triple 33 1 17, 1) ∷ (triple 33 1 18, 1) ∷ []
     )
     -- "Variable 0 in "v0 1 17" gives 32, 33."
     ∷ answersWith S F (triple v0 1 17 ∷ []) (v0 ∷ []) ((32 ∷ []) ∷ (33 ∷ []) ∷ [])
