@@ -1,5 +1,5 @@
 -- The alternatives of an atom: how it is reformulated over explicit facts (document 01, "Questions and their rewriting"; source
--- document 000, section 4). Definitions only.
+-- document 000, section 4.3). Definitions only.
 use Prim.Native.Nat.{ℕ}
 use mathlib.Core.Path.{_≡_}
 use mathlib.Core.Bool.{Bool, true, false, _&&_, _||_, not, cond}
