@@ -1,2 +1,3 @@
 pub mod Sets
 pub mod Reach
+pub mod Entailment
