@@ -1,0 +1,6 @@
+pub mod Sets
+pub mod Reach
+pub mod Entailment
+pub mod Carried
+pub mod Counts
+pub mod Kept
