@@ -13,8 +13,8 @@ use Rattle.rdf.specs.Triple.{triple}
 use Rattle.rdf.specs.Order.{triple-eq, choose, Ascending}
 use Rattle.rdf.proofs.Order.{of-subject, of-property, of-object, choose-elim, choose-yes, choose-no}
 use Rattle.rdf.proofs.Ascending.{ascend-asc, ascend-in, ascend-out}
-use Rattle.rdfs.specs.Entailment.{Holds, explicit, rdfs2, rdfs3, rdfs7, rdfs9, Carries, Reach, stay, step, ReachFrom, NoVocabulary}
-use Rattle.rdfs.specs.Closure.{leaves, spread, reach, objects, properties, subjectClasses, objectClasses, conclusions, carried}
+use Rattle.rdfs.specs.Entailment.{explicit, rdfs2, rdfs3, rdfs7, rdfs9, Carries, Reach, stay, step, ReachFrom, NoVocabulary}
+use Rattle.rdfs.specs.Closure.{leaves, objects, properties, subjectClasses, objectClasses, conclusions, carried}
 use Rattle.rdfs.proofs.Sets.{Distinct, ascending-distinct, distinct-length}
 use Rattle.rdfs.proofs.Reach.{from-step, spread-iff, reach-iff}
 use Rattle.rdfs.proofs.Entailment.{not-vocabulary}

@@ -1,6 +1,6 @@
 -- Laws of kept facts: `lookup`, `raise` and `lower`; the supports fix the list. Assumes nothing.
 use mathlib.Core.Path.{_≡_, refl, sym, ap₂, _∙_}
-use mathlib.Core.List.{List, [], _∷_, List·Memᴰ, List·Memᴰ·head, List·Memᴰ·tail, List·Memᴰ·cases-cons, List·Memᴰ·not-nil}
+use mathlib.Core.List.{[], _∷_, List·Memᴰ, List·Memᴰ·head, List·Memᴰ·tail, List·Memᴰ·cases-cons, List·Memᴰ·not-nil}
 use mathlib.Core.Logic.{⊎-elim, by-cases, _↔_}
 use Prim.Native.Nat.{ℕ, zero, suc, _+_, _-_, _≤_, _<_}
 use native.Mathlib.Omega.{arith}
@@ -8,7 +8,7 @@ use lib.ListN.{length}
 use Rattle.rdf.specs.declared.Triple.{Triple}
 use Rattle.rdf.specs.Order.{Less, Trichotomy, less, same, more, compareTriples, equalTriples, choose, Above, Ascending}
 use Rattle.rdf.proofs.Order.{less-trans, less-ne, choose-yes, choose-no, byOrder-elim}
-use Rattle.rdf.proofs.Ascending.{above-asc, above-member}
+use Rattle.rdf.proofs.Ascending.{above-member}
 use Rattle.rdfs.specs.Saturation.{Kept, lookup, raise, oneLess, lower, keptRows, keptSupports}
 use Rattle.rdfs.proofs.Counts.{KeptAbove, Counts}
 
@@ -93,6 +93,13 @@ lookup-raise t (e ∷ k) u a =
     (λ l. by-cases (equalTriples u (e .0))
     (λ p. omega (arith, lookup-same e (raise t k) u p, lookup-same e k u p, one-no u t (λ c. less-ne l (sym p ∙ c))))
     (λ n. omega (arith, lookup-other e (raise t k) u n, lookup-other e k u n, lookup-raise t k u (kept-counts (e .0) k (a .1)))))
+
+-- Raising drops no row, and adds at most one.
+pub raise-length : (t : Triple) (k : Kept) → (length k ≤ length (raise t k)) × (length (raise t k) ≤ suc (length k))
+unfolding raise
+raise-length t [] = omega arith
+raise-length t (e ∷ k) =
+    byOrder-elim (λ (r : Kept). (suc (length k) ≤ length r) × (length r ≤ suc (suc (length k)))) (compareTriples t (e .0)) (λ _. omega arith) (λ _. omega arith) (λ _. omega (arith, raise-length t k))
 
 -- ---- lower
 

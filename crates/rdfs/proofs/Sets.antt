@@ -1,12 +1,12 @@
 -- Lists as sets: `add` and `addAll`, lists without repeats, and their lengths. Assumes nothing.
 use mathlib.Core.Path.{_≡_, refl, sym, ap, _∙_}
 use mathlib.Core.List.{List, [], _∷_, List·Memᴰ, List·Memᴰ·head, List·Memᴰ·tail, List·Memᴰ·cases-cons, List·Memᴰ·not-nil, Memᴰ·cast}
-use mathlib.Core.Logic.{_⊎_, inl, inr, ⊎-elim}
-use Prim.Native.Nat.{ℕ, suc, _≤_}
+use mathlib.Core.Logic.{_⊎_, inr, ⊎-elim}
+use Prim.Native.Nat.{suc, _≤_}
 use native.Mathlib.Omega.{arith}
 use lib.ListN.{length}
 use Rattle.rdf.specs.declared.Triple.{Triple}
-use Rattle.rdf.specs.Order.{Above, Ascending, less-irrefl}
+use Rattle.rdf.specs.Order.{Ascending, less-irrefl}
 use Rattle.rdf.proofs.Order.{choose-elim}
 use Rattle.rdf.proofs.Ascending.{above-asc, above-member}
 use Rattle.rdfs.specs.Closure.{isIn, add, addAll}
