@@ -25,6 +25,7 @@ use Rattle.rdfs.proofs.Kept.{one, lookup-nil, one-yes, one-no, raise-co
 abbrev pub among : Triple → List Triple → ℕ
 among u ts = choose (isIn equalTriples u ts) 1 0
 
+-- It is at most 1.
 among-bound : (u : Triple) (ts : List Triple) → among u ts ≤ 1
 among-bound u ts = choose-elim {A = ℕ} (λ n. n ≤ 1) (isIn equalTriples u ts) {x = 1} {y = 0} (λ _. omega arith) (λ _. omega arith)
 
@@ -33,11 +34,13 @@ count : Triple → List Triple → ℕ
 count u [] = 0
 count u (t ∷ ts) = one u t + count u ts
 
+-- What is not there does not count,
 count-absent : (u : Triple) (ts : List Triple) → ¬ List·Memᴰ u ts → count u ts ≡ 0
 unfolding count
 count-absent u [] n = refl
 count-absent u (t ∷ ts) n = omega (arith, one-no u t (λ e. n (List·Memᴰ·head e)), count-absent u ts (λ m. n (List·Memᴰ·tail m)))
 
+-- and what is there counts once where nothing stands twice.
 count-present : (u : Triple) (ts : List Triple) → Distinct ts → List·Memᴰ u ts → count u ts ≡ 1
 unfolding count
 count-present u [] d m = absurd (List·Memᴰ·not-nil m)
@@ -50,12 +53,13 @@ count-present u (t ∷ ts) d m =
 count-among : (u : Triple) (ts : List Triple) → Ascending ts → count u ts ≡ among u ts
 count-among u ts a = choose-elim (λ (n : ℕ). count u ts ≡ n) (isIn equalTriples u ts) (count-present u ts (ascending-distinct ts a)) (count-absent u ts)
 
--- Raising and lowering keep the order and the supports above 0.
+-- Raising keeps the order and the supports above 0.
 pub raiseAll-counts : (ts : List Triple) (k : Kept) → Counts k → Counts (raiseAll ts k)
 unfolding raiseAll
 raiseAll-counts [] k a = a
 raiseAll-counts (t ∷ ts) k a = raise-counts t (raiseAll ts k) (raiseAll-counts ts k a)
 
+-- Lowering does, too.
 pub lowerAll-counts : (ts : List Triple) (k : Kept) → Counts k → Counts (lowerAll ts k)
 unfolding lowerAll
 lowerAll-counts [] k a = a
@@ -73,11 +77,13 @@ unfolding lowerAll
 lowerAll-length [] k = omega arith
 lowerAll-length (t ∷ ts) k = omega (arith, lower-length t (lowerAll ts k), lowerAll-length ts k)
 
+-- Raising adds to a support as often as the row is raised,
 raiseAll-count : (ts : List Triple) (k : Kept) (u : Triple) → Counts k → lookup (raiseAll ts k) u ≡ count u ts + lookup k u
 unfolding raiseAll count
 raiseAll-count [] k u a = omega arith
 raiseAll-count (t ∷ ts) k u a = omega (arith, lookup-raise t (raiseAll ts k) u (raiseAll-counts ts k a), raiseAll-count ts k u a)
 
+-- and lowering takes from it as often.
 lowerAll-count : (ts : List Triple) (k : Kept) (u : Triple) → Counts k → lookup (lowerAll ts k) u ≡ lookup k u - count u ts
 unfolding lowerAll count
 lowerAll-count [] k u a = omega arith
@@ -97,7 +103,7 @@ lookup-lowerAll ts k u o a = omega (arith, lowerAll-count ts k u a, count-among 
 pub saturation-counts : (S F : List Triple) → Counts (saturation S F)
 unfolding saturation
 saturation-counts S [] = tt
-saturation-counts S (f ∷ F) = raiseAll-counts (carried S f) (saturation S F) (saturation-counts S F)
+saturation-counts S (f ∷ F) = raiseAll-counts _ (saturation S F) (saturation-counts S F)
 
 -- One fact more in front.
 saturation-cons : (S : List Triple) (f : Triple) (F : List Triple) (u : Triple) → lookup (saturation S (f ∷ F)) u ≡ among u (carried S f) + lookup (saturation S F) u
@@ -116,11 +122,13 @@ saturation-unique S F k a h = kept-ext k (saturation S F) a (saturation-counts S
 
 -- ---- the support is the number of the facts that carry the row
 
+-- A fact is counted where it is listed.
 bit-length : {P : Type 0} (d : Dec P) (f : Triple) {n : ℕ} (l : List Triple) → n ≡ length l → choose d 1 0 + n ≡ length (choose d (f ∷ l) l)
 unfolding choose
 bit-length (yes p) f l e = omega arith
 bit-length (no h) f l e = omega arith
 
+-- A fact that lists t is a carrier.
 carriers-in : (S F : List Triple) (t f : Triple) → List·Memᴰ f F → List·Memᴰ t (carried S f) → List·Memᴰ f (carriers S F t)
 unfolding carriers
 carriers-in S [] t f m i = absurd (List·Memᴰ·not-nil m)
@@ -129,6 +137,7 @@ carriers-in S (g ∷ F) t f m i =
     (λ _. ⊎-elim List·Memᴰ·head (λ j. List·Memᴰ·tail (carriers-in S F t f j i)) (List·Memᴰ·cases-cons m))
     (λ n. ⊎-elim (λ (e : f ≡ g). absurd (n (rw e at i))) (λ j. carriers-in S F t f j i) (List·Memᴰ·cases-cons m))
 
+-- A carrier is a fact that lists t.
 carriers-out : (S F : List Triple) (t f : Triple) → List·Memᴰ f (carriers S F t) → List·Memᴰ f F × List·Memᴰ t (carried S f)
 unfolding carriers
 carriers-out S [] t f m = absurd (List·Memᴰ·not-nil m)
@@ -171,10 +180,12 @@ saturation-supports S F n m =
 
 -- ---- the rows that are kept are the rows that hold
 
+-- A list that is not empty has a member,
 first-of : (l : List Triple) → 0 < length l → (f : Triple) × List·Memᴰ f l
 first-of [] h = absurd (omega arith)
 first-of (f ∷ l) h = (f, List·Memᴰ·head refl)
 
+-- and one with a member is not empty.
 not-empty : {f : Triple} (l : List Triple) → List·Memᴰ f l → 0 < length l
 not-empty [] m = absurd (List·Memᴰ·not-nil m)
 not-empty (g ∷ l) m = omega arith
@@ -211,6 +222,7 @@ saturation-allowed S F v w t m = holds-allowed v w (saturation-kept S F t (allow
 
 -- ---- a fact more, a fact less
 
+-- A new fact adds to the supports of what it carries.
 insert-support : (S : List Triple) (f : Triple) (F : List Triple) (u : Triple) → ¬ List·Memᴰ f F → lookup (saturation S (insert f F)) u ≡ among u (carried S f) + lookup (saturation S F) u
 unfolding insert
 insert-support S f [] u n = saturation-cons S f [] u
@@ -220,6 +232,7 @@ insert-support S f (g ∷ F) u n =
     (λ q. absurd (n (List·Memᴰ·head q)))
     (λ _. omega (arith, saturation-cons S g (insert f F) u, saturation-cons S g F u, insert-support S f F u (λ m. n (List·Memᴰ·tail m))))
 
+-- A fact that goes takes from the supports of what it carried.
 remove-support : (S : List Triple) (f : Triple) (F : List Triple) (u : Triple) → List·Memᴰ f F → lookup (saturation S F) u ≡ among u (carried S f) + lookup (saturation S (remove f F)) u
 unfolding remove
 remove-support S f [] u m = absurd (List·Memᴰ·not-nil m)
@@ -244,6 +257,7 @@ lower-saturation S F f m =
 
 -- ---- fewer statements, no more rows
 
+-- What implies more counts no more.
 bit-le : {P Q : Type 0} (d : Dec P) (e : Dec Q) → (P → Q) → choose d 1 0 ≤ choose e 1 0
 bit-le d e f = choose-elim (λ (n : ℕ). n ≤ choose e 1 0) d (λ p. omega (arith, choose-yes {A = ℕ} e 1 0 (f p))) (λ _. omega arith)
 

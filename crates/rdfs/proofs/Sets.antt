@@ -63,6 +63,7 @@ record Without {A : Type 0} (x : A) (ys : List A) : Type 0 where
   shorter : length ys ≡ suc (length left)
   others : (y : A) → List·Memᴰ y ys → ¬ (y ≡ x) → List·Memᴰ y left
 
+-- A member can be taken out.
 without : {A : Type 0} {x : A} (ys : List A) → List·Memᴰ x ys → Without x ys
 without [] m = absurd (List·Memᴰ·not-nil m)
 without {A} {x} (z ∷ ys) m =
@@ -72,6 +73,7 @@ without {A} {x} (z ∷ ys) m =
     record { left = z ∷ r .left; shorter = ap suc (r .shorter); others = λ y j n. ⊎-elim List·Memᴰ·head (λ k. List·Memᴰ·tail (r .others y k n)) (List·Memᴰ·cases-cons j) })
     (List·Memᴰ·cases-cons m)
 
+-- The members of xs, each once, lie in ys: xs is not longer.
 pub distinct-length : {A : Type 0} (xs ys : List A) → Distinct xs → ((x : A) → List·Memᴰ x xs → List·Memᴰ x ys) → length xs ≤ length ys
 distinct-length [] ys d h = omega arith
 distinct-length (x ∷ xs) ys d h =
