@@ -1,6 +1,6 @@
 -- What a list of kept facts must be: ascending, every support at least 1. Definitions only.
-use mathlib.Core.List.{List, [], _∷_}
-use Prim.Native.Nat.{ℕ, _<_}
+use mathlib.Core.List.{[], _∷_}
+use Prim.Native.Nat.{_<_}
 use Rattle.rdf.specs.declared.Triple.{Triple}
 use Rattle.rdf.specs.Order.{Less}
 use Rattle.rdfs.specs.Saturation.{Kept}

@@ -1,6 +1,6 @@
 -- Laws of kept facts: `lookup`, `raise` and `lower`; the supports fix the list. Assumes nothing.
 use mathlib.Core.Path.{_≡_, refl, sym, ap₂, _∙_}
-use mathlib.Core.List.{List, [], _∷_, List·Memᴰ, List·Memᴰ·head, List·Memᴰ·tail, List·Memᴰ·cases-cons, List·Memᴰ·not-nil}
+use mathlib.Core.List.{[], _∷_, List·Memᴰ, List·Memᴰ·head, List·Memᴰ·tail, List·Memᴰ·cases-cons, List·Memᴰ·not-nil}
 use mathlib.Core.Logic.{⊎-elim, by-cases, _↔_}
 use Prim.Native.Nat.{ℕ, zero, suc, _+_, _-_, _≤_, _<_}
 use native.Mathlib.Omega.{arith}
@@ -8,7 +8,7 @@ use lib.ListN.{length}
 use Rattle.rdf.specs.declared.Triple.{Triple}
 use Rattle.rdf.specs.Order.{Less, Trichotomy, less, same, more, compareTriples, equalTriples, choose, Above, Ascending}
 use Rattle.rdf.proofs.Order.{less-trans, less-ne, choose-yes, choose-no, byOrder-elim}
-use Rattle.rdf.proofs.Ascending.{above-asc, above-member}
+use Rattle.rdf.proofs.Ascending.{above-member}
 use Rattle.rdfs.specs.Saturation.{Kept, lookup, raise, oneLess, lower, keptRows, keptSupports}
 use Rattle.rdfs.proofs.Counts.{KeptAbove, Counts}
 
@@ -45,10 +45,12 @@ one-no u t q = choose-no (equalTriples u t) 1 0 q
 
 -- ---- order
 
+-- A list above u is above what is less than u.
 kept-weaken : {t u : Triple} (k : Kept) → Less t u → KeptAbove u k → KeptAbove t k
 kept-weaken [] h a = tt
 kept-weaken (e ∷ k) h a = (less-trans h (a .0), a .1, a .2)
 
+-- A list above t is a list of kept facts.
 kept-counts : (t : Triple) (k : Kept) → KeptAbove t k → Counts k
 kept-counts t [] a = tt
 kept-counts t (e ∷ k) a = (a .1, a .2)
@@ -64,6 +66,7 @@ first-absent {t} e k l a u q = absent {t = t} (e ∷ k) (l, a .0, a .1) u (λ h.
 
 -- ---- raise
 
+-- Raising a row above v keeps the list above v.
 kept-above-raise : {v : Triple} (t : Triple) (k : Kept) → Less v t → KeptAbove v k → KeptAbove v (raise t k)
 unfolding raise
 kept-above-raise t [] h a = (h, omega arith, tt)
@@ -94,19 +97,43 @@ lookup-raise t (e ∷ k) u a =
     (λ p. omega (arith, lookup-same e (raise t k) u p, lookup-same e k u p, one-no u t (λ c. less-ne l (sym p ∙ c))))
     (λ n. omega (arith, lookup-other e (raise t k) u n, lookup-other e k u n, lookup-raise t k u (kept-counts (e .0) k (a .1)))))
 
+-- Raising drops no row, and adds at most one.
+pub raise-length : (t : Triple) (k : Kept) → (length k ≤ length (raise t k)) × (length (raise t k) ≤ suc (length k))
+unfolding raise
+raise-length t [] = omega arith
+raise-length t (e ∷ k) =
+    byOrder-elim (λ (r : Kept). (suc (length k) ≤ length r) × (length r ≤ suc (suc (length k)))) (compareTriples t (e .0)) (λ _. omega arith) (λ _. omega arith) (λ _. omega (arith, raise-length t k))
+
 -- ---- lower
 
+-- A row with one support less,
+oneLess-same : (t : Triple) (n : ℕ) (k : Kept) (u : Triple) → KeptAbove t k → u ≡ t → lookup (oneLess t n k) u ≡ n - 1
+unfolding oneLess
+oneLess-same t zero k u a q = omega (arith, absent k a u (λ h. less-ne h (sym q)))
+oneLess-same t (suc zero) k u a q = omega (arith, absent k a u (λ h. less-ne h (sym q)))
+oneLess-same t (suc (suc n)) k u a q = omega (arith, lookup-same (t, suc n) k u q)
+
+-- and any other row.
+oneLess-other : (t : Triple) (n : ℕ) (k : Kept) (u : Triple) → ¬ (u ≡ t) → lookup (oneLess t n k) u ≡ lookup k u
+unfolding oneLess
+oneLess-other t zero k u q = refl
+oneLess-other t (suc zero) k u q = refl
+oneLess-other t (suc (suc n)) k u q = lookup-other (t, suc n) k u q
+
+-- The list stays above what it was above,
 kept-above-oneLess : {v : Triple} (t : Triple) (n : ℕ) (k : Kept) → Less v t → KeptAbove t k → KeptAbove v (oneLess t n k)
 unfolding oneLess
 kept-above-oneLess t zero k h a = kept-weaken k h a
 kept-above-oneLess t (suc zero) k h a = kept-weaken k h a
 kept-above-oneLess t (suc (suc n)) k h a = (h, omega arith, a)
 
+-- also where a later row is lowered.
 kept-above-lower : (v t : Triple) (k : Kept) → KeptAbove v k → KeptAbove v (lower t k)
 unfolding lower
 kept-above-lower v t [] a = tt
 kept-above-lower v t (e ∷ k) a = byOrder-elim (KeptAbove v) (compareTriples t (e .0)) (λ _. a) (λ _. kept-above-oneLess (e .0) (e .1) k (a .0) (a .2)) (λ _. (a .0, a .1, kept-above-lower (e .0) t k (a .2)))
 
+-- Its supports stay above 0.
 counts-oneLess : (t : Triple) (n : ℕ) (k : Kept) → KeptAbove t k → Counts (oneLess t n k)
 unfolding oneLess
 counts-oneLess t zero k a = kept-counts t k a
@@ -118,18 +145,6 @@ pub lower-counts : (t : Triple) (k : Kept) → Counts k → Counts (lower t k)
 unfolding lower
 lower-counts t [] a = tt
 lower-counts t (e ∷ k) a = byOrder-elim Counts (compareTriples t (e .0)) (λ _. a) (λ _. counts-oneLess (e .0) (e .1) k (a .1)) (λ _. (a .0, kept-above-lower (e .0) t k (a .1)))
-
-oneLess-same : (t : Triple) (n : ℕ) (k : Kept) (u : Triple) → KeptAbove t k → u ≡ t → lookup (oneLess t n k) u ≡ n - 1
-unfolding oneLess
-oneLess-same t zero k u a q = omega (arith, absent k a u (λ h. less-ne h (sym q)))
-oneLess-same t (suc zero) k u a q = omega (arith, absent k a u (λ h. less-ne h (sym q)))
-oneLess-same t (suc (suc n)) k u a q = omega (arith, lookup-same (t, suc n) k u q)
-
-oneLess-other : (t : Triple) (n : ℕ) (k : Kept) (u : Triple) → ¬ (u ≡ t) → lookup (oneLess t n k) u ≡ lookup k u
-unfolding oneLess
-oneLess-other t zero k u q = refl
-oneLess-other t (suc zero) k u q = refl
-oneLess-other t (suc (suc n)) k u q = lookup-other (t, suc n) k u q
 
 -- Lowering t gives it one support less, if it has any, and changes no other.
 pub lookup-lower : (t : Triple) (k : Kept) (u : Triple) → Counts k → lookup (lower t k) u ≡ lookup k u - one u t
@@ -147,6 +162,7 @@ lookup-lower t (e ∷ k) u a =
     (λ p. omega (arith, lookup-same e (lower t k) u p, lookup-same e k u p, one-no u t (λ c. less-ne l (sym p ∙ c))))
     (λ n. omega (arith, lookup-other e (lower t k) u n, lookup-other e k u n, lookup-lower t k u (kept-counts (e .0) k (a .1)))))
 
+-- It has no more rows.
 oneLess-length : (t : Triple) (n : ℕ) (k : Kept) → length (oneLess t n k) ≤ suc (length k)
 unfolding oneLess
 oneLess-length t zero k = omega arith
@@ -199,11 +215,12 @@ kept-ext (e ∷ j) (g ∷ k) a b h = go (kept-ext j k (kept-counts (e .0) j (a .
 
 -- ---- the rows and the supports of a list of kept facts
 
--- The rows ascend.
+-- The rows of a list above t ascend from t on.
 above-rows : (t : Triple) (k : Kept) → KeptAbove t k → Above t (keptRows k)
 above-rows t [] a = tt
 above-rows t (e ∷ k) a = (a .0, above-rows (e .0) k (a .2))
 
+-- So do the rows of any list of kept facts.
 pub kept-ascends : (k : Kept) → Counts k → Ascending (keptRows k)
 kept-ascends [] a = tt
 kept-ascends (e ∷ k) a = above-rows (e .0) k (a .1)
@@ -213,6 +230,7 @@ pub kept-positive : (k : Kept) → Counts k → (n : ℕ) → List·Memᴰ n (ke
 kept-positive [] a n m = absurd (List·Memᴰ·not-nil m)
 kept-positive (e ∷ k) a n m = ⊎-elim (λ q. rw q (a .0)) (kept-positive k (kept-counts (e .0) k (a .1)) n) (List·Memᴰ·cases-cons m)
 
+-- Rows that ascend from t on, with supports of at least 1.
 above-of : (t : Triple) (k : Kept) → Above t (keptRows k) → ((n : ℕ) → List·Memᴰ n (keptSupports k) → 0 < n) → KeptAbove t k
 above-of t [] a h = tt
 above-of t (e ∷ k) a h = (a .0, h (e .1) (List·Memᴰ·head refl), above-of (e .0) k (a .1) (λ n m. h n (List·Memᴰ·tail m)))

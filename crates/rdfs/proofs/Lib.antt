@@ -4,3 +4,4 @@ pub mod Entailment
 pub mod Carried
 pub mod Counts
 pub mod Kept
+pub mod Saturation
