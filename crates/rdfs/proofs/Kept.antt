@@ -10,7 +10,7 @@ use Rattle.rdf.specs.Order.{Less, Trichotomy, less, same, more, compareTriples,
 use Rattle.rdf.proofs.Order.{less-trans, less-ne, choose-yes, choose-no, byOrder-elim}
 use Rattle.rdf.proofs.Ascending.{above-member}
 use Rattle.rdfs.specs.Saturation.{Kept, lookup, raise, oneLess, lower, keptRows, keptSupports}
-use Rattle.rdfs.proofs.Counts.{KeptAbove, Counts}
+use Rattle.rdfs.specs.Counts.{KeptAbove, Counts}
 
 -- 1 if u is t, else 0.
 pub one : Triple → Triple → ℕ

@@ -2,6 +2,5 @@ pub mod Sets
 pub mod Reach
 pub mod Entailment
 pub mod Carried
-pub mod Counts
 pub mod Kept
 pub mod Saturation

@@ -16,7 +16,7 @@ use Rattle.rdfs.specs.Saturation.{carriers, support, Kept, lookup, raise
 use Rattle.rdfs.proofs.Sets.{Distinct, ascending-distinct}
 use Rattle.rdfs.proofs.Entailment.{holds-iff-carried, holds-mono, holds-allowed, allowed-no-vocabulary}
 use Rattle.rdfs.proofs.Carried.{carried-ascends, carried-iff}
-use Rattle.rdfs.proofs.Counts.{Counts}
+use Rattle.rdfs.specs.Counts.{Counts}
 use Rattle.rdfs.proofs.Kept.{one, lookup-nil, one-yes, one-no, raise-counts, lower-counts, lookup-raise, lookup-lower, raise-length, lower-length, kept-ext, kept-shorter, kept-ascends, kept-positive, lookup-kept, support-of}
 
 -- ---- many rows raised, many lowered
