@@ -70,7 +70,7 @@ enough allowed most (n ∷ ws) h k =
 
 -- ---- the whole test
 
-some-word : (allowed : Triple → Bool) (most : ℕ) (ws : List ℕ) → isTable allowed most ws ≡ true → 0 < length ws
+pub some-word : (allowed : Triple → Bool) (most : ℕ) (ws : List ℕ) → isTable allowed most ws ≡ true → 0 < length ws
 unfolding isTable
 some-word allowed most [] e = absurd (let z : _≡_ {A = ℕ} 0 1 = cc in omega arith)
 some-word allowed most (n ∷ ws) e = omega arith

@@ -16,11 +16,11 @@ is-allowed-fact-requires c κs = search needs
 
 -- src/lib.rt:163:1
 returns : tie.Need-returns
-returns c = ?
+returns c = rw (c .before .if1 .taken) (c .is-allowed-statement .ensures)
 
 -- src/lib.rt:163:1
 returns-2 : tie.Need-returns-2
-returns-2 c = ?
+returns-2 c = rw (c .before .if1 .left) (c .is-allowed-fact .ensures)
 
 pub is-allowed-spec : {M : Type 1} → statement M
 is-allowed-spec =

@@ -1,3 +1,6 @@
+use native.Mathlib.Omega.{arith}
+use lib.ListN.{length-set}
+use Rattle.table.proofs.Remove.{drop-row}
 use borrow.Author.Needs.{needs}
 use Rattle.table.proofs.remove_at.Statement.{statement}
 use Rattle.table.proofs.remove_at.Tie as tie
@@ -51,7 +54,7 @@ mul-t-2 c = search needs
 
 -- src/lib.rt:146:5
 slice-write-t-2 : tie.Need-slice-write-t-2
-slice-write-t-2 c = ?
+slice-write-t-2 c = simp length-set (omega arith)
 
 -- src/lib.rt:147:7
 add-t-2 : tie.Need-add-t-2
@@ -63,7 +66,7 @@ mul-t-3 c = search needs
 
 -- src/lib.rt:147:5
 slice-write-t-3 : tie.Need-slice-write-t-3
-slice-write-t-3 c = ?
+slice-write-t-3 c = simp length-set (omega arith)
 
 -- src/lib.rt:148:12
 sub-t : tie.Need-sub-t
@@ -71,7 +74,7 @@ sub-t c = search needs
 
 -- src/lib.rt:148:5
 slice-write-t-4 : tie.Need-slice-write-t-4
-slice-write-t-4 c = ?
+slice-write-t-4 c = simp length-set (omega arith)
 
 -- src/lib.rt:136:1
 same-length : tie.Need-same-length
@@ -79,7 +82,7 @@ same-length c = search needs
 
 -- src/lib.rt:136:1
 returns : tie.Need-returns
-returns c = ?
+returns c = drop-row _ _ _ (c .before .before .before .before .before .before .pre .0) (c .before .before .before .before .before .before .pre .1) (c .before .before .move-down .ensures)
 
 pub remove-at-spec : {M : Type 1} → statement M
 remove-at-spec =

@@ -1,3 +1,5 @@
+use mathlib.Core.Path.{refl}
+use Rattle.table.specs.Table.{rowAt}
 use borrow.Author.Needs.{needs}
 use Rattle.table.proofs.row_at.Statement.{statement}
 use Rattle.table.proofs.row_at.Tie as tie
@@ -46,7 +48,8 @@ shared-slice-read-t14 c = search needs
 
 -- src/lib.rt:84:1
 returns : tie.Need-returns
-returns c = ?
+unfolding rowAt
+returns c = refl
 
 pub row-at-spec : {M : Type 1} → statement M
 row-at-spec =
