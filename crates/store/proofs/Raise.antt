@@ -8,6 +8,12 @@ use Rattle.rdf.specs.declared.Triple.{Triple}
 use Rattle.rdf.specs.Order.{Less, Trichotomy, less, same, more, compareTriples, byOrder, Above, Ascending}
 use Rattle.rdf.proofs.Order.{less-trans, byOrder-less, byOrder-same, byOrder-more}
 use Rattle.rdf.proofs.Ascending.{above-asc}
+use Rattle.table.specs.declared.Ordering.{Ordering}
+use Rattle.table.specs.declared.Ordering.the-variants.{Lower, Equal, Higher}
+use Rattle.table.specs.Table.{rowAt}
+use Rattle.table.specs.Search.{ordering}
+use Rattle.table.proofs.Place.{ordering-says}
+use Rattle.store.specs.Entries.{lastOrdering}
 use Rattle.rdfs.specs.Saturation.{Kept, raise, raiseAll, keptRows}
 use Rattle.rdfs.proofs.Saturation.{raiseAll-length}
 
@@ -134,3 +140,30 @@ rising-room {m} {ts} {lo} {done} R =
 pub rising-end : {m : Kept} {lo done : Kept} → Rising m [] lo done → lo ++ done ≡ m
 unfolding raiseAll
 rising-end R = R .whole
+
+-- ---- how the last row stands to another
+
+pub last-none : (i : ℕ) (ws : List ℕ) (x : Triple) → i ≡ 0 → Lower ≡ lastOrdering i ws x
+unfolding lastOrdering
+last-none zero ws x e = refl
+last-none (suc i) ws x e = absurd (omega arith)
+
+pub last-some : (i : ℕ) (ws : List ℕ) (x : Triple) (r : Ordering) → (i ≡ 0 → ⊥) → r ≡ ordering (rowAt ws (i - 1)) x → r ≡ lastOrdering i ws x
+unfolding lastOrdering
+last-some zero ws x r n e = absurd (n refl)
+last-some (suc i) ws x r n e = let q : suc i - 1 ≡ i = omega arith in rw q at e
+
+-- What an ordering says of the last row and x.
+abbrev pub LastSays : Ordering → ℕ → List ℕ → Triple → Type 0
+LastSays Higher i ws x = (0 < i) × Less x (rowAt ws (i - 1))
+LastSays Equal i ws x = (0 < i) × (rowAt ws (i - 1) ≡ x)
+LastSays Lower i ws x = 0 < i → Less (rowAt ws (i - 1)) x
+
+pub last-says : (o : Ordering) (i : ℕ) (ws : List ℕ) (x : Triple) → o ≡ lastOrdering i ws x → LastSays o i ws x
+unfolding lastOrdering
+last-says Higher zero ws x e = absurd (let z : _≡_ {A = ℕ} 0 1 = cc in omega arith)
+last-says Equal zero ws x e = absurd (let z : _≡_ {A = ℕ} 0 1 = cc in omega arith)
+last-says Lower zero ws x e = λ h. absurd (omega arith)
+last-says Higher (suc i) ws x e = let q : suc i - 1 ≡ i = omega arith in (omega arith, rw q (ordering-says (rowAt ws i) x Higher e))
+last-says Equal (suc i) ws x e = let q : suc i - 1 ≡ i = omega arith in (omega arith, rw q (ordering-says (rowAt ws i) x Equal e))
+last-says Lower (suc i) ws x e = let q : suc i - 1 ≡ i = omega arith in λ h. rw q (ordering-says (rowAt ws i) x Lower e)

@@ -1,13 +1,17 @@
 -- Kept facts in the words of their two tables, place by place, as the functions on them ask for it and leave it. Definitions only.
-use Prim.Native.Nat.{ℕ, _+_, _-_, _*_, _^_, _≤_, _<_}
+use Prim.Native.Nat.{ℕ, zero, suc, _+_, _-_, _*_, _^_, _≤_, _<_}
 use mathlib.Core.Path.{_≡_}
 use mathlib.Core.List.{List, zip}
 use lib.ListN.{length, getD, drop, set, replicate}
 use Rattle.rdf.specs.declared.Triple.{Triple}
 use Rattle.rdf.specs.Order.{Ascending}
-use Rattle.table.specs.Table.{count, firstRows, rows, layout, supportLayout}
+use Rattle.table.specs.declared.Ordering.{Ordering}
+use Rattle.table.specs.declared.Ordering.the-variants.{Lower}
+use Rattle.table.specs.Table.{rowAt, firstRows, rows, layout, supportLayout}
+use Rattle.table.specs.Search.{ordering}
 use Rattle.table.specs.Laid.{Laid}
-use Rattle.rdfs.specs.Saturation.{Kept, keptRows, keptSupports}
+use Rattle.rdfs.specs.Saturation.{Kept, raiseAll, keptRows, keptSupports}
+use Rattle.store.specs.Store.{keptOf}
 
 -- The rows and supports of the first n places.
 unfoldable pub entries : ℕ → List ℕ → List ℕ → Kept
@@ -35,6 +39,23 @@ pub record KeptTables (ws us : List ℕ) : Type 0 where
   pub ascends : Ascending (rows ws)
   pub places : length (rows ws) ≤ length us
   pub zero-places : drop (length (rows ws)) us ≡ replicate (length us - length (rows ws)) 0
+
+-- The rows and supports that are to be raised: each support has a number above it, the c rows rs ascend, so many of them are
+-- missing, and there is room for those.
+pub record Raisable (ws us rs : List ℕ) (c missing : ℕ) : Type 0 where
+  pub tables : KeptTables ws us
+  pub below-most : (p : ℕ) → p < length (rows ws) → getD us p 0 < 65535
+  pub listed : c * 3 ≤ length rs
+  pub raised-ascend : Ascending (firstRows c rs)
+  pub counted : missing + length (rows ws) ≡ length (raiseAll (firstRows c rs) (keptOf ws us))
+  pub words : (length (rows ws) + missing) * 3 < length ws
+  pub places : length (rows ws) + missing ≤ length us
+  pub countable : length (rows ws) + missing < 2 ^ 32
+
+-- How the row before place i stands to x. Where there is none, it is lower.
+unfoldable pub lastOrdering : ℕ → List ℕ → Triple → Ordering
+lastOrdering zero ws x = Lower
+lastOrdering (suc i) ws x = ordering (rowAt ws i) x
 
 -- Tables of the same lengths as ws and us that hold the kept facts k.
 pub record Holding (k : Kept) (ws us ws' us' : List ℕ) : Type 0 where

@@ -1,4 +1,5 @@
 // Lone updates of a store in lent tables (document 01, "Tables").
+pub mod kept;
 
 // The answer of an update.
 pub enum Answer {
