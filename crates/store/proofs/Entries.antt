@@ -7,7 +7,7 @@ use native.Mathlib.Decide.{ℕ-discrete}
 use native.Mathlib.Numerals.{add-one}
 use native.Mathlib.Omega.{arith}
 use lib.ListN.{length, getD, take, drop, set, replicate, length-set, length-drop, length-append, length-map, take-append-drop}
-use lib.Seq.{getD-set-same, getD-set-other, getD-drop, getD-take, ext-getD, drop-set-lt, length-take-le}
+use lib.Seq.{drop-cons, getD-set-same, getD-set-other, getD-drop, getD-take, ext-getD, drop-set-lt, length-take-le}
 use Rattle.rdf.specs.declared.Triple.{Triple}
 use Rattle.rdf.specs.Triple.{triple}
 use Rattle.table.specs.Table.{count, tripleFrom, rowAt, firstRows, rows, flatten, layout, supportLayout}
@@ -126,6 +126,30 @@ drop-putRow i n x ws h =
     drop-set-lt (n * 3 + 1) (set (set ws (i * 3 + 1) (x .subject)) (i * 3 + 1 + 1) (x .property)) (i * 3 + 1 + 2) (x .object) (omega arith)
     ∙ drop-set-lt (n * 3 + 1) (set ws (i * 3 + 1) (x .subject)) (i * 3 + 1 + 1) (x .property) (omega arith)
     ∙ drop-set-lt (n * 3 + 1) ws (i * 3 + 1) (x .subject) (omega arith)
+
+-- So does the count.
+pub count-putRow : (i : ℕ) (x : Triple) (ws : List ℕ) → count (putRow i x ws) ≡ count ws
+unfolding putRow
+count-putRow i x ws = put-other ws (i * 3 + 1) (x .subject) (x .property) (x .object) 0 (λ q. omega arith) (λ q. omega arith) (λ q. omega arith)
+
+-- What stands from the row on: its words, and those behind it.
+pub drop-putRow-here : (i : ℕ) (x : Triple) (ws : List ℕ) → i * 3 + 3 < length ws → drop (i * 3 + 1) (putRow i x ws) ≡ x .subject ∷ x .property ∷ x .object ∷ drop (suc i * 3 + 1) ws
+unfolding rowAt
+drop-putRow-here i x ws h =
+    let a : ℕ = i * 3 + 1 in
+    let v : List ℕ = putRow i x ws in
+    let l : length v ≡ length ws = length-putRow i x ws in
+    let e₁ : suc a ≡ a + 1 = omega arith in
+    let e₂ : suc (a + 1) ≡ a + 2 = omega arith in
+    let e₃ : suc (a + 2) ≡ suc i * 3 + 1 = omega arith in
+    let d₁ : drop a v ≡ getD v a 0 ∷ drop (a + 1) v = rw e₁ at (drop-cons v a 0 (omega arith)) in
+    let d₂ : drop (a + 1) v ≡ getD v (a + 1) 0 ∷ drop (a + 2) v = rw e₂ at (drop-cons v (a + 1) 0 (omega arith)) in
+    let d₃ : drop (a + 2) v ≡ getD v (a + 2) 0 ∷ drop (suc i * 3 + 1) v = rw e₃ at (drop-cons v (a + 2) 0 (omega arith)) in
+    let d₄ : drop (suc i * 3 + 1) v ≡ drop (suc i * 3 + 1) ws = drop-putRow i (suc i) x ws (omega arith) in
+    rw (d₁, d₂, d₃, d₄) (λ z. words-of (rowAt-same i x ws h z) ++ drop (suc i * 3 + 1) ws)
+  where
+    words-of : Triple → List ℕ
+    words-of t = t .subject ∷ t .property ∷ t .object ∷ []
 
 -- A row and its support written are an entry set.
 pub entries-put : (n i : ℕ) (x : Triple) (s : ℕ) (ws us : List ℕ) → i < n → n ≤ length us → n * 3 < length ws

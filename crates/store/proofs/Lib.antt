@@ -1,3 +1,5 @@
 pub mod Entries
 pub mod Raise
 pub mod RaisePass
+pub mod Lower
+pub mod LowerPass

@@ -1,13 +1,13 @@
 -- Kept facts in the words of their two tables, place by place, as the functions on them ask for it and leave it. Definitions only.
 use Prim.Native.Nat.{ℕ, zero, suc, _+_, _-_, _*_, _^_, _≤_, _<_}
 use mathlib.Core.Path.{_≡_}
-use mathlib.Core.List.{List, zip}
-use lib.ListN.{length, getD, drop, set, replicate}
+use mathlib.Core.List.{List, _++_, zip}
+use lib.ListN.{length, getD, take, drop, set, replicate}
 use Rattle.rdf.specs.declared.Triple.{Triple}
-use Rattle.rdf.specs.Order.{Ascending}
+use Rattle.rdf.specs.Order.{Less, Ascending}
 use Rattle.table.specs.declared.Ordering.{Ordering}
 use Rattle.table.specs.declared.Ordering.the-variants.{Lower}
-use Rattle.table.specs.Table.{rowAt, firstRows, rows, layout, supportLayout}
+use Rattle.table.specs.Table.{count, tripleFrom, rowAt, firstRows, rows, layout, supportLayout}
 use Rattle.table.specs.Search.{ordering}
 use Rattle.table.specs.Laid.{Laid}
 use Rattle.rdfs.specs.Saturation.{Kept, raiseAll, keptRows, keptSupports}
@@ -51,6 +51,34 @@ pub record Raisable (ws us rs : List ℕ) (c missing : ℕ) : Type 0 where
   pub words : (length (rows ws) + missing) * 3 < length ws
   pub places : length (rows ws) + missing ≤ length us
   pub countable : length (rows ws) + missing < 2 ^ 32
+
+-- The rows that are to be lowered: the c rows rs ascend.
+pub record Lowerable (ws us rs : List ℕ) (c : ℕ) : Type 0 where
+  pub tables : KeptTables ws us
+  pub listed : c * 3 ≤ length rs
+  pub lowered-ascend : Ascending (firstRows c rs)
+
+-- Rows are less than the first of others from the start to place i.
+pub record Passed (i : ℕ) (ws rs : List ℕ) : Type 0 where
+  pub within : i ≤ length (rows ws)
+  pub below : (p : ℕ) → p < i → Less (rowAt ws p) (tripleFrom rs 0)
+
+-- The tables ws' and us', made of ws and us, hold the kept facts k in n places: those before place write, and those from place read on.
+pub record Gapped (k : Kept) (n read write : ℕ) (ws us ws' us' : List ℕ) : Type 0 where
+  pub room : Room n ws' us'
+  pub same-words : length ws' ≡ length ws
+  pub same-places : length us' ≡ length us
+  pub same-count : count ws' ≡ count ws
+  pub write-le : write ≤ read
+  pub read-le : read ≤ n
+  pub is : take write (entries n ws' us') ++ drop read (entries n ws' us') ≡ k
+
+-- The same tables, with zeros from place n on.
+pub record Cleared (n : ℕ) (ws us ws' us' : List ℕ) : Type 0 where
+  pub room : Room n ws' us'
+  pub same-words : length ws' ≡ length ws
+  pub same-places : length us' ≡ length us
+  pub same-entries : entries n ws' us' ≡ entries n ws us
 
 -- How the row before place i stands to x. Where there is none, it is lower.
 unfoldable pub lastOrdering : ℕ → List ℕ → Triple → Ordering
