@@ -3,3 +3,4 @@ pub mod Raise
 pub mod RaisePass
 pub mod Lower
 pub mod LowerPass
+pub mod Missing

@@ -118,7 +118,7 @@ clear-step k (suc z) {ws₀} {us₀} {ws} {us} {ws'} {us'} C h N =
 
 -- ---- parts of ascending rows
 
-ascending-drop : (i : ℕ) (us : List Triple) → Ascending us → Ascending (drop i us)
+pub ascending-drop : (i : ℕ) (us : List Triple) → Ascending us → Ascending (drop i us)
 ascending-drop zero us a = a
 ascending-drop (suc i) [] a = tt
 ascending-drop (suc i) (u ∷ us) a = ascending-drop i us (above-asc u us a)
@@ -356,3 +356,11 @@ gap-closed {m} {n} {k} {ws₀} {us₀} {ws} {us} {ws'} {us'} G C =
       row-words = rw (← (G .same-words), ← (C .same-words), ← is) (room-rows (C .room));
       support-places = rw (← (G .same-places), ← (C .same-places), ← is) (room-supports (C .room));
     }
+
+pub clear-end : {k z : ℕ} {ws₀ us₀ ws us : List ℕ} → Clearing k z ws₀ us₀ ws us → z ≤ k → Cleared k ws₀ us₀ ws us
+clear-end {k} {z} {ws₀} {us₀} {ws} {us} C h =
+    let e : z ≡ k = let l = C .k-le in omega arith in
+    record { room = subst (λ (n : ℕ). Room n ws us) e (C .room); same-words = C .same-words; same-places = C .same-places; same-entries = C .same-entries }
+
+pub gap-end : {m : Kept} {n i k : ℕ} {ws₀ us₀ ws us : List ℕ} → Gapped m n i k ws₀ us₀ ws us → n ≤ i → Gapped m n n k ws₀ us₀ ws us
+gap-end {m} {n} {i} {k} {ws₀} {us₀} {ws} {us} G h = let e : i ≡ n = let l = G .read-le in omega arith in subst (λ (p : ℕ). Gapped m n p k ws₀ us₀ ws us) e G

@@ -7,6 +7,8 @@ use Rattle.rdf.specs.declared.Triple.{Triple}
 use Rattle.rdf.specs.Order.{Less, Ascending}
 use Rattle.table.specs.declared.Ordering.{Ordering}
 use Rattle.table.specs.declared.Ordering.the-variants.{Lower}
+use Rattle.table.specs.declared.Found.{Found}
+use Rattle.table.specs.declared.Found.the-variants.{At, Gap}
 use Rattle.table.specs.Table.{count, tripleFrom, rowAt, firstRows, rows, layout, supportLayout}
 use Rattle.table.specs.Search.{ordering}
 use Rattle.table.specs.Laid.{Laid}
@@ -39,6 +41,23 @@ pub record KeptTables (ws us : List ℕ) : Type 0 where
   pub ascends : Ascending (rows ws)
   pub places : length (rows ws) ≤ length us
   pub zero-places : drop (length (rows ws)) us ≡ replicate (length us - length (rows ws)) 0
+
+-- The rows that are looked for: those kept ascend, and so do the c rows rs.
+pub record Sought (ws rs : List ℕ) (c : ℕ) : Type 0 where
+  pub laid : Laid ws
+  pub ascends : Ascending (rows ws)
+  pub listed : c * 3 ≤ length rs
+  pub sought-ascend : Ascending (firstRows c rs)
+
+-- 1 where a row is missing, else 0.
+abbrev pub absence : Found → ℕ
+absence (At i) = 0
+absence (Gap i) = 1
+
+-- The place where a row stands or would stand.
+abbrev pub placeOf : Found → ℕ
+placeOf (At i) = i
+placeOf (Gap i) = i
 
 -- The rows and supports that are to be raised: each support has a number above it, the c rows rs ascend, so many of them are
 -- missing, and there is room for those.

@@ -3,23 +3,33 @@ use rdf::Triple;
 use table::Found;
 use table::Ordering;
 ghost use mathlib.Core.Path.{_≡_};
+ghost use mathlib.Core.Bool.{true};
+ghost use mathlib.Core.List.{_++_};
 ghost use Prim.Native.Nat.{_+_, _*_, _≤_, _<_};
-ghost use lib.ListN.{length};
-ghost use Rattle.table.specs.Table.{tripleFrom, firstRows};
-ghost use Rattle.rdfs.specs.Saturation.{raiseAll};
+ghost use lib.ListN.{length, take, drop};
+ghost use Rattle.rdf.specs.Order.{isAscending};
+ghost use Rattle.table.specs.Table.{tripleFrom, firstRows, rows};
+ghost use Rattle.table.specs.Search.{place};
+ghost use Rattle.rdfs.specs.Saturation.{Kept, keptRows, raiseAll, lowerAll};
 ghost use Rattle.store.specs.Store.{keptOf};
-ghost use Rattle.store.specs.Entries.{Entered, lastOrdering, Raisable, Holding};
+ghost use Rattle.store.specs.Entries.{entries, Room, Entered, Sought, absence, placeOf, lastOrdering, Raisable, Lowerable, Passed, Gapped, Cleared, Holding};
+
+// Where lowering stands: the rows before place write are done, and those from place read on stand as they did.
+pub struct Moved {
+    pub read: usize,
+    pub write: usize,
+}
 
 // Row i of rows with no count before them.
-fn row_from(rows: &[u32], i: usize) -> Triple
-    requires { ⌜ i * 3 + 2 < length (now rows) ⌝ }
-    ensures { λ r. ⌜ r ≡ tripleFrom (now (rows .entry)) (i * 3) ⌝ }
+fn row_from(list: &[u32], i: usize) -> Triple
+    requires { ⌜ i * 3 + 2 < length (now list) ⌝ }
+    ensures { λ r. ⌜ r ≡ tripleFrom (now (list .entry)) (i * 3) ⌝ }
 {
     let at = i * 3;
     Triple {
-        subject: rows[at],
-        property: rows[at + 1],
-        object: rows[at + 2],
+        subject: list[at],
+        property: list[at + 1],
+        object: list[at + 2],
     }
 }
 
@@ -35,6 +45,33 @@ fn put_entry(kept: &mut [u32], supports: &mut [u16], i: usize, x: Triple, suppor
     supports[i] = support;
 }
 
+// 1 where x is not among the first n rows, else 0.
+fn absent(t: &[u32], n: usize, x: Triple) -> usize
+    requires { ⌜ n * 3 < length (now t) ⌝ }
+    requires { ⌜ isAscending (firstRows n (drop 1 (now t))) ≡ true ⌝ }
+    ensures { λ r. ⌜ r ≡ absence (place x (firstRows n (drop 1 (now (t .entry))))) ⌝ }
+{
+    match table::find(t, n, x) {
+        Found::At(_) => 0,
+        Found::Gap(_) => 1,
+    }
+}
+
+// How many of c ascending rows are not kept: the number of rows that raising them adds. A binary search for each.
+pub fn count_missing(kept: &[u32], list: &[u32], c: usize) -> usize
+    requires { ⌜ Sought (now kept) (now list) c ⌝ }
+    ensures { λ r. ⌜ ((k : Kept) → keptRows k ≡ rows (now (kept .entry)) → r + length k ≡ length (raiseAll (firstRows c (now (list .entry))) k)) ⌝ }
+{
+    let n = kept[0] as usize;
+    let mut missing = 0;
+    let mut j = 0;
+    while j < c {
+        missing += absent(kept, n, row_from(list, j));
+        j += 1;
+    }
+    missing
+}
+
 // How the row before place i stands to x. Where there is none, it is lower.
 fn compare_last(t: &[u32], i: usize, x: Triple) -> Ordering
     requires { ⌜ i * 3 < length (now t) ⌝ }
@@ -48,9 +85,9 @@ fn compare_last(t: &[u32], i: usize, x: Triple) -> Ordering
 
 // Raises the support of each of c ascending rows by 1; those missing, of which there are so many, enter with 1. One pass from the
 // last row to the first: what is moved goes up, so that nothing is overwritten before it is read.
-pub fn raise_all(kept: &mut [u32], supports: &mut [u16], rows: &[u32], c: usize, missing: usize)
-    requires { ⌜ Raisable (now kept) (now supports) (now rows) c missing ⌝ }
-    ensures { λ _. ⌜ Holding (raiseAll (firstRows c (now (rows .entry))) (keptOf (now (kept .entry)) (now (supports .entry)))) (now (kept .entry)) (now (supports .entry)) (now (kept .exit)) (now (supports .exit)) ⌝ }
+pub fn raise_all(kept: &mut [u32], supports: &mut [u16], list: &[u32], c: usize, missing: usize)
+    requires { ⌜ Raisable (now kept) (now supports) (now list) c missing ⌝ }
+    ensures { λ _. ⌜ Holding (raiseAll (firstRows c (now (list .entry))) (keptOf (now (kept .entry)) (now (supports .entry)))) (now (kept .entry)) (now (supports .entry)) (now (kept .exit)) (now (supports .exit)) ⌝ }
 {
     let n = kept[0] as usize;
     let after = n + missing;
@@ -58,7 +95,7 @@ pub fn raise_all(kept: &mut [u32], supports: &mut [u16], rows: &[u32], c: usize,
     let mut j = c;
     let mut k = after;
     while 0 < j {
-        let x = row_from(rows, j - 1);
+        let x = row_from(list, j - 1);
         match compare_last(kept, i, x) {
             Ordering::Higher => {
                 i -= 1;
@@ -82,4 +119,126 @@ pub fn raise_all(kept: &mut [u32], supports: &mut [u16], rows: &[u32], c: usize,
         }
     }
     kept[0] = after as u32;
+}
+
+// The place where x stands among the first n rows, or would stand.
+fn first_place(t: &[u32], n: usize, x: Triple) -> usize
+    requires { ⌜ n * 3 < length (now t) ⌝ }
+    requires { ⌜ isAscending (firstRows n (drop 1 (now t))) ≡ true ⌝ }
+    ensures { λ r. ⌜ r ≡ placeOf (place x (firstRows n (drop 1 (now (t .entry))))) ⌝ }
+{
+    match table::find(t, n, x) {
+        Found::At(i) => i,
+        Found::Gap(i) => i,
+    }
+}
+
+// A place before which every row is less than each of c ascending rows.
+fn start_place(kept: &[u32], list: &[u32], c: usize) -> usize
+    requires { ⌜ Sought (now kept) (now list) c ⌝ }
+    ensures { λ r. ⌜ Passed r (now (kept .entry)) (now (list .entry)) ⌝ }
+{
+    if c == 0 {
+        return 0;
+    }
+    first_place(kept, kept[0] as usize, row_from(list, 0))
+}
+
+// Lowers the support of each of c ascending rows that is kept by 1, from place from on; a row at 0 goes. What is left before place
+// write is done, and the rows from place read on stay as they are, once no row is left to lower.
+fn lower_rows(kept: &mut [u32], supports: &mut [u16], list: &[u32], c: usize, from: usize) -> Moved
+    requires { ⌜ Lowerable (now kept) (now supports) (now list) c ⌝ }
+    requires { ⌜ Passed from (now kept) (now list) ⌝ }
+    ensures { λ r. ⌜ Gapped (lowerAll (firstRows c (now (list .entry))) (keptOf (now (kept .entry)) (now (supports .entry)))) (length (rows (now (kept .entry)))) (r .read) (r .write) (now (kept .entry)) (now (supports .entry)) (now (kept .exit)) (now (supports .exit)) ⌝ }
+{
+    let n = kept[0] as usize;
+    let mut i = from;
+    let mut j = 0;
+    let mut k = from;
+    while j < c {
+        if n <= i {
+            return Moved { read: i, write: k };
+        }
+        let x = row_from(list, j);
+        match table::compare_at(kept, i, x) {
+            Ordering::Lower => {
+                let row = table::row_at(kept, i);
+                let support = supports[i];
+                put_entry(kept, supports, k, row, support);
+                i += 1;
+                k += 1;
+            }
+            Ordering::Higher => {
+                j += 1;
+            }
+            Ordering::Equal => {
+                let support = supports[i];
+                if 1 < support {
+                    put_entry(kept, supports, k, x, support - 1);
+                    i += 1;
+                    j += 1;
+                    k += 1;
+                    continue;
+                }
+                i += 1;
+                j += 1;
+            }
+        }
+    }
+    Moved { read: i, write: k }
+}
+
+// Moves the rows from place from on, of n, with their supports, to place to on. Returns the place behind the last.
+fn move_rest(kept: &mut [u32], supports: &mut [u16], from: usize, to: usize, n: usize) -> usize
+    requires { ⌜ Room n (now kept) (now supports) ⌝ }
+    requires { ⌜ (to ≤ from) × (from ≤ n) ⌝ }
+    ensures { λ r. ⌜ Gapped (take to (entries n (now (kept .entry)) (now (supports .entry))) ++ drop from (entries n (now (kept .entry)) (now (supports .entry)))) n n r (now (kept .entry)) (now (supports .entry)) (now (kept .exit)) (now (supports .exit)) ⌝ }
+{
+    let mut i = from;
+    let mut k = to;
+    while i < n {
+        let row = table::row_at(kept, i);
+        let support = supports[i];
+        put_entry(kept, supports, k, row, support);
+        i += 1;
+        k += 1;
+    }
+    k
+}
+
+// Clears the places from place k on, of n.
+fn clear_rows(kept: &mut [u32], supports: &mut [u16], k: usize, n: usize)
+    requires { ⌜ Room n (now kept) (now supports) ⌝ }
+    requires { ⌜ k ≤ n ⌝ }
+    ensures { λ _. ⌜ Cleared k (now (kept .entry)) (now (supports .entry)) (now (kept .exit)) (now (supports .exit)) ⌝ }
+{
+    let none = Triple {
+        subject: 0,
+        property: 0,
+        object: 0,
+    };
+    let mut z = n;
+    while k < z {
+        z -= 1;
+        put_entry(kept, supports, z, none, 0);
+    }
+}
+
+// Lowers the support of each of c ascending rows that is kept by 1; a row at 0 goes. One pass that starts where the first of them
+// stands, and ends where no row is left to lower if none has gone.
+pub fn lower_all(kept: &mut [u32], supports: &mut [u16], list: &[u32], c: usize)
+    requires { ⌜ Lowerable (now kept) (now supports) (now list) c ⌝ }
+    ensures { λ _. ⌜ Holding (lowerAll (firstRows c (now (list .entry))) (keptOf (now (kept .entry)) (now (supports .entry)))) (now (kept .entry)) (now (supports .entry)) (now (kept .exit)) (now (supports .exit)) ⌝ }
+{
+    let n = kept[0] as usize;
+    let from = start_place(kept, list, c);
+    let moved = lower_rows(kept, supports, list, c, from);
+    let read = moved.read;
+    let write = moved.write;
+    if read == write {
+        return;
+    }
+    let k = move_rest(kept, supports, read, write, n);
+    clear_rows(kept, supports, k, n);
+    kept[0] = k as u32;
 }
