@@ -234,8 +234,8 @@ module _ (ws₀ us₀ rs : List ℕ) (c : ℕ) where
             j-le = L .j-le;
             high = next-high ws' us' (put-back (L .room) N' kn i w);
             whole = rw (put-front (L .room) N' kn, put-back (L .room) N' kn i w)
-            (append-assoc (take k E) (d ∷ []) (lowerAll ts (drop (i + 1) E))
-            ∙ ap (λ (t : Kept). take k E ++ t) (sym (lowerAll-past ts d (drop (i + 1) E) above) ∙ ap (lowerAll ts) (sym (next-entry (L .room) i h))) ∙ L .whole);
+                (append-assoc (take k E) (d ∷ []) (lowerAll ts (drop (i + 1) E))
+                ∙ ap (λ (t : Kept). take k E ++ t) (sym (lowerAll-past ts d (drop (i + 1) E) above) ∙ ap (lowerAll ts) (sym (next-entry (L .room) i h))) ∙ L .whole);
           }
 
       -- It is higher: the row is missing.
@@ -280,8 +280,8 @@ module _ (ws₀ us₀ rs : List ℕ) (c : ℕ) where
             j-le = omega arith;
             high = next-high ws' us' (put-back (L .room) N' kn i w);
             whole = rw (put-front (L .room) N' kn, put-back (L .room) N' kn i w)
-            (append-assoc (take k E) ((t, getD us i 0 - 1) ∷ []) (lowerAll ts (drop (i + 1) E))
-            ∙ ap (λ (r : Kept). take k E ++ r) (sym (lowerAll-stays t ts (getD us i 0) (drop (i + 1) E) (rows-above j l) s) ∙ sym (λ z. lowerAll (rows-from j l z) (first-is h (q ∙ e) z))) ∙ L .whole);
+                (append-assoc (take k E) ((t, getD us i 0 - 1) ∷ []) (lowerAll ts (drop (i + 1) E))
+                ∙ ap (λ (r : Kept). take k E ++ r) (sym (lowerAll-stays t ts (getD us i 0) (drop (i + 1) E) (rows-above j l) s) ∙ sym (λ z. lowerAll (rows-from j l z) (first-is h (q ∙ e) z))) ∙ L .whole);
           }
 
       -- or none, and goes.
@@ -364,3 +364,19 @@ clear-end {k} {z} {ws₀} {us₀} {ws} {us} C h =
 
 pub gap-end : {m : Kept} {n i k : ℕ} {ws₀ us₀ ws us : List ℕ} → Gapped m n i k ws₀ us₀ ws us → n ≤ i → Gapped m n n k ws₀ us₀ ws us
 gap-end {m} {n} {i} {k} {ws₀} {us₀} {ws} {us} G h = let e : i ≡ n = let l = G .read-le in omega arith in subst (λ (p : ℕ). Gapped m n p k ws₀ us₀ ws us) e G
+
+-- The places are those that the count gives.
+pub gap-count : {m : Kept} {n i k : ℕ} {ws₀ us₀ ws us : List ℕ} → Gapped m n i k ws₀ us₀ ws us → count ws₀ ≡ n → Gapped m (count ws₀) i k ws₀ us₀ ws us
+gap-count {m} {n} {i} {k} {ws₀} {us₀} {ws} {us} G e = subst (λ (p : ℕ). Gapped m p i k ws₀ us₀ ws us) (sym e) G
+
+-- What is moved of tables with a gap holds what they held.
+pub gap-trans : {m : Kept} {n i j k l : ℕ} {ws₀ us₀ ws us ws' us' : List ℕ} → Gapped m n i k ws₀ us₀ ws us → Gapped (take k (entries n ws us) ++ drop i (entries n ws us)) n j l ws us ws' us' → Gapped m n j l ws₀ us₀ ws' us'
+gap-trans G H = record {
+  room = H .room;
+  same-words = H .same-words ∙ G .same-words;
+  same-places = H .same-places ∙ G .same-places;
+  same-count = H .same-count ∙ G .same-count;
+  write-le = H .write-le;
+  read-le = H .read-le;
+  is = H .is ∙ G .is;
+}

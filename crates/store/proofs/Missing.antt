@@ -79,7 +79,7 @@ raise-absent t k n =
 
 -- The rows that raising adds, one by one.
 raiseAll-more : (t : Triple) (ts : List Triple) (k : Kept) (f : Found) → Ascending (keptRows k) → Above t ts → place t (keptRows k) ≡ f → length (raiseAll (t ∷ ts) k) ≡ absence f + length (raiseAll ts k)
-unfolding raiseAll
+unfolding raiseAll absence
 raiseAll-more t ts k (At i) a b e =
     let q = raise-present t (raiseAll ts k) (raiseAll-asc ts k a) (raiseAll-old ts k (at-member t (keptRows k) i e)) in
     omega arith
@@ -99,8 +99,12 @@ pub counting-start : (ws rs : List ℕ) (c : ℕ) → Counting ws rs c 0 0
 counting-start ws rs c = record { j-le = omega arith; few = omega arith; counted = λ k e. omega arith }
 
 absence-few : (f : Found) → absence f ≤ 1
+unfolding absence
 absence-few (At i) = omega arith
 absence-few (Gap i) = omega arith
+
+pub absence-bound : (r : ℕ) (f : Found) → r ≡ absence f → r ≤ 1
+absence-bound r f e = omega (arith, absence-few f)
 
 pub counting-step : {ws rs : List ℕ} {c missing j : ℕ} → Sought ws rs c → Counting ws rs c missing j → (r : ℕ) (x : Triple) → j < c → x ≡ tripleFrom rs (j * 3) → r ≡ absence (place x (firstRows (count ws) (drop 1 ws)))
     → Counting ws rs c (missing + r) (j + 1)
@@ -133,6 +137,7 @@ sought-ready {ws} S = rw (firstRows-rows ws (count ws) (length-rows ws)) (isAsce
 -- ---- where the first row stands
 
 placed-passed : (ws rs : List ℕ) (f : Found) → place (tripleFrom rs 0) (firstRows (count ws) (drop 1 ws)) ≡ f → Passed (placeOf f) ws rs
+unfolding placeOf
 placed-passed ws rs (At i) e =
     let s = stands-at (tripleFrom rs 0) (firstRows (count ws) (drop 1 ws)) i e in
     let w : i < count ws = rw length-firstRows at (s .within) in

@@ -118,7 +118,7 @@ pub rising-equal : {m : Kept} {done : Kept} (ts : List Triple) (t : Triple) (lo 
     → Rising m ts lo ((t, suc n) ∷ done)
 rising-equal {m} {done} ts t lo n R h k = record {
   whole = ap (raiseAll ts) (sym (raise-past t lo ((t, n) ∷ done) h ∙ ap (λ (r : Kept). lo ++ r) (raise-first t n done)) ∙ ap (raise t) (sym (append-assoc lo ((t, n) ∷ []) done)))
-  ∙ sym (raiseAll-snoc ts t (lo ++ ((t, n) ∷ []) ++ done)) ∙ R .whole;
+      ∙ sym (raiseAll-snoc ts t (lo ++ ((t, n) ∷ []) ++ done)) ∙ R .whole;
   ahead = k;
 }
 
@@ -126,7 +126,7 @@ rising-equal {m} {done} ts t lo n R h k = record {
 pub rising-lower : {m : Kept} {done : Kept} (ts : List Triple) (t : Triple) (lo : Kept) → Rising m (ts ++ (t ∷ [])) lo done → AllLess (keptRows lo) t → AllLess ts t → Rising m ts lo ((t, 1) ∷ done)
 rising-lower {m} {done} ts t lo R h k = record {
   whole = ap (raiseAll ts) (sym (raise-past t lo done h ∙ ap (λ (r : Kept). lo ++ r) (raise-new t done (before-last ts t done (R .ahead)))))
-  ∙ sym (raiseAll-snoc ts t (lo ++ done)) ∙ R .whole;
+      ∙ sym (raiseAll-snoc ts t (lo ++ done)) ∙ R .whole;
   ahead = k;
 }
 

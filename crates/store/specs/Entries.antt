@@ -50,12 +50,12 @@ pub record Sought (ws rs : List ℕ) (c : ℕ) : Type 0 where
   pub sought-ascend : Ascending (firstRows c rs)
 
 -- 1 where a row is missing, else 0.
-abbrev pub absence : Found → ℕ
+unfoldable pub absence : Found → ℕ
 absence (At i) = 0
 absence (Gap i) = 1
 
 -- The place where a row stands or would stand.
-abbrev pub placeOf : Found → ℕ
+unfoldable pub placeOf : Found → ℕ
 placeOf (At i) = i
 placeOf (Gap i) = i
 

@@ -21,10 +21,12 @@ enum-told-2 c = search needs
 
 -- src/kept.rt:49:1
 returns : tie.Need-returns
+unfolding absence
 returns c = ap absence (sym (c .enum-told .given .1) ∙ c .before .before .find .ensures)
 
 -- src/kept.rt:49:1
 returns-2 : tie.Need-returns-2
+unfolding absence
 returns-2 c = ap absence (sym (c .enum-told2 .given .1) ∙ c .before .before .find .ensures)
 
 pub absent-spec : {M : Type 1} → statement M

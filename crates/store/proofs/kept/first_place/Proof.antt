@@ -21,10 +21,12 @@ enum-known-i-2 c = search needs
 
 -- src/kept.rt:125:1
 returns : tie.Need-returns
+unfolding placeOf
 returns c = ap placeOf (sym (c .before .i .given .1) ∙ c .before .before .before .find .ensures)
 
 -- src/kept.rt:125:1
 returns-2 : tie.Need-returns-2
+unfolding placeOf
 returns-2 c = ap placeOf (sym (c .before .i2 .given .1) ∙ c .before .before .before .find .ensures)
 
 pub first-place-spec : {M : Type 1} → statement M

@@ -1,3 +1,7 @@
+use mathlib.Core.Path.{refl, sym, _∙_}
+use native.Mathlib.Omega.{arith}
+use lib.ListN.{length-set}
+use Rattle.store.proofs.LowerPass.{gap-count, gap-trans, gap-none, gap-closed}
 use borrow.Author.Needs.{needs}
 use Rattle.store.proofs.kept.lower_all.Statement.{statement}
 use Rattle.store.proofs.kept.lower_all.Tie as tie
@@ -34,11 +38,11 @@ same-length-2 c = search needs
 
 -- src/kept.rt:239:9
 returns : tie.Need-returns
-returns c = ?
+returns c = gap-none (gap-count (c .before .before .before .before .before .lower-rows .ensures) (c .before .before .before .before .before .before .before .before .before .before .before .before .before .before .pre .tables .laid .counted)) (c .if1 .taken) refl
 
 -- src/kept.rt:241:9
 move-rest-requires : tie.Need-move-rest-requires
-move-rest-requires c κs = ?
+move-rest-requires c κs = let G = gap-count (c .before .before .before .before .before .before .before .lower-rows .ensures) (c .before .before .before .before .before .before .before .before .before .before .before .before .before .before .before .before .pre .tables .laid .counted) in (G .room, (G .write-le, G .read-le))
 
 -- src/kept.rt:242:5
 clear-rows-requires : tie.Need-clear-rows-requires
@@ -46,7 +50,7 @@ clear-rows-requires c κs = search needs
 
 -- src/kept.rt:243:15
 cast-kept : tie.Need-cast-kept
-cast-kept c = ?
+cast-kept c = let G = gap-count (c .before .before .before .before .before .before .before .before .before .before .before .before .before .before .before .before .before .before .before .lower-rows .ensures) (c .before .before .before .before .before .before .before .before .before .before .before .before .before .before .before .before .before .before .before .before .before .before .before .before .before .before .before .before .pre .tables .laid .counted) in omega (arith, c .before .before .before .before .before .before .before .before .before .before .before .move-rest .ensures .write-le, c .before .before .before .before .before .before .before .before .before .before .before .before .before .before .before .before .before .before .before .before .before .before .before .before .before .before .before .slice-known .given 0)
 
 -- src/kept.rt:243:5
 slice-write-kept : tie.Need-slice-write-kept
@@ -54,7 +58,7 @@ slice-write-kept c = search needs
 
 -- src/kept.rt:229:1
 same-length-3 : tie.Need-same-length-3
-same-length-3 c = ?
+same-length-3 c = length-set (c .before .before .before .before .clear-rows .last .0) 0 (c .before .before .before .before .before .before .before .before .before .before .before .move-rest .result) ∙ c .before .before .before .before .clear-rows .ensures .same-words ∙ c .before .before .before .before .before .before .before .before .before .before .before .move-rest .ensures .same-words ∙ c .before .before .before .before .before .before .before .before .before .before .before .before .before .before .before .before .before .before .before .lower-rows .ensures .same-words
 
 -- src/kept.rt:229:1
 same-length-4 : tie.Need-same-length-4
@@ -62,7 +66,7 @@ same-length-4 c = search needs
 
 -- src/kept.rt:229:1
 returns-2 : tie.Need-returns-2
-returns-2 c = ?
+returns-2 c = gap-closed (gap-trans (gap-count (c .before .before .before .before .before .before .before .before .before .before .before .before .before .before .before .before .before .before .before .lower-rows .ensures) (c .before .before .before .before .before .before .before .before .before .before .before .before .before .before .before .before .before .before .before .before .before .before .before .before .before .before .before .before .pre .tables .laid .counted)) (c .before .before .before .before .before .before .before .before .before .before .before .move-rest .ensures)) (c .before .before .before .before .clear-rows .ensures)
 
 pub lower-all-spec : {M : Type 1} → statement M
 lower-all-spec =

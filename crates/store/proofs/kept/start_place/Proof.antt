@@ -1,3 +1,4 @@
+use Rattle.store.proofs.Missing.{first-passed, none-passed, sought-ready}
 use borrow.Author.Needs.{needs}
 use Rattle.store.proofs.kept.start_place.Statement.{statement}
 use Rattle.store.proofs.kept.start_place.Tie as tie
@@ -8,7 +9,7 @@ use Rattle.store.proofs.kept.row_from.Reads as row-from-reads
 
 -- src/kept.rt:142:9
 returns : tie.Need-returns
-returns c = ?
+returns c = none-passed _ _
 
 -- src/kept.rt:144:23
 shared-slice-read-first-place : tie.Need-shared-slice-read-first-place
@@ -24,11 +25,11 @@ row-from-requires c κs = search needs
 
 -- src/kept.rt:144:5
 first-place-requires : tie.Need-first-place-requires
-first-place-requires c κs = ?
+first-place-requires c κs = (search needs, sought-ready (c .before .before .before .before .before .pre))
 
 -- src/kept.rt:137:1
 returns-2 : tie.Need-returns-2
-returns-2 c = ?
+returns-2 c = first-passed _ _ _ _ (c .before .row-from .ensures) (c .first-place .ensures)
 
 pub start-place-spec : {M : Type 1} → statement M
 start-place-spec =
