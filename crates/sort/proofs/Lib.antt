@@ -1,0 +1,9 @@
+pub mod Order
+pub mod Tables
+pub mod SortLaws
+pub mod Ordered
+pub mod RowWords
+pub mod HeapLaws
+pub mod QuickLaws
+pub mod DistinctLaws
+pub mod HeldWords
