@@ -2,3 +2,4 @@ pub mod Sets
 pub mod Reach
 pub mod Entailment
 pub mod Carried
+pub mod MarkLaws

@@ -1,6 +1,6 @@
 -- A work list of terms and marks on statements: what each function over them does. Definitions only.
 use mathlib.Core.Path.{_≡_}
-use mathlib.Core.Bool.{true, cond}
+use mathlib.Core.Bool.{Bool, true, false, cond}
 use mathlib.Core.List.{List, List·Memᴰ}
 use mathlib.Core.Logic.{_↔_}
 use Prim.Native.Nat.{ℕ, zero, suc, _+_, _*_, _≤_, _<_}
@@ -10,6 +10,7 @@ use Rattle.rdf.specs.declared.Triple.{Triple}
 use Rattle.rdf.specs.Triple.{triple}
 use Rattle.rdf.specs.Order.{isAscending}
 use Rattle.table.specs.Table.{rowAt, firstRows}
+use Rattle.rdfs.specs.Entailment.{Reach}
 
 -- The words st hold m statements, ascending, after their count.
 pub record Statements (st : List ℕ) (m : ℕ) : Type 0 where
@@ -21,6 +22,11 @@ pub record Statements (st : List ℕ) (m : ℕ) : Type 0 where
 pub record HasSubject (st : List ℕ) (x k j : ℕ) : Type 0 where
   pub subject : rowAt st j .subject ≡ x
   pub property : rowAt st j .property ≡ k
+
+-- The test r tells whether P holds.
+pub record Tells (r : Bool) (P : Type 0) : Type 0 where
+  pub if-true : r ≡ true → P
+  pub if-false : r ≡ false → P → ⊥
 
 -- j is where the rows of the subject x and the property k begin, if there are any: none is before j, and from j on no row is below them.
 pub record Begins (st : List ℕ) (m x k j : ℕ) : Type 0 where
@@ -61,15 +67,26 @@ pub record ObjectOf (st : List ℕ) (m k : ℕ) (Q : ℕ → Type 0) (o : ℕ) :
   pub holds : Q subject
   pub statement : List·Memᴰ (triple subject k o) (firstRows m (drop 1 st))
 
--- The terms from n on, below n', are the objects of the statements of property k whose subjects Q holds of, unless the statement had
--- a mark before: each term cost a mark, and each such statement has a mark now. Terms below n and marks of other properties are as they were.
-pub record Extended (st : List ℕ) (m k : ℕ) (Q : ℕ → Type 0) (used found : List ℕ) (n : ℕ) (used' found' : List ℕ) (n' : ℕ) : Type 0 where
+-- b is reached by steps of the property k from a term of which Q holds.
+pub record ReachedFrom (st : List ℕ) (m k : ℕ) (Q : ℕ → Type 0) (b : ℕ) : Type 0 where
+  pub start : ℕ
+  pub holds : Q start
+  pub path : Reach (firstRows m (drop 1 st)) k start b
+
+-- Terms were appended to found from n on, below n', for marks on statements of the property k: each cost a mark. The terms below n
+-- and the marks of other properties are as they were.
+pub record Grown (st : List ℕ) (m k : ℕ) (used found : List ℕ) (n : ℕ) (used' found' : List ℕ) (n' : ℕ) : Type 0 where
   pub grows : n ≤ n'
   pub cost : n' + unused m used' ≡ n + unused m used
   pub kept : (i : ℕ) → i < n → getD found' i 0 ≡ getD found i 0
   pub other : (j : ℕ) → j < m → ¬ (rowAt st j .property ≡ k) → getD used' j 0 ≡ getD used j 0
+  pub uniform : Uniform st m used'
+
+-- The terms appended are objects of the statements of the property k whose subject is one of which Q holds. Each such statement has
+-- a mark, and where it got it now its object was appended.
+pub record Extended (st : List ℕ) (m k : ℕ) (Q : ℕ → Type 0) (used found : List ℕ) (n : ℕ) (used' found' : List ℕ) (n' : ℕ) : Type 0 where
+  pub grown : Grown st m k used found n used' found' n'
   pub marked : (j : ℕ) → j < m → ¬ (getD used j 0 ≡ 0) → ¬ (getD used' j 0 ≡ 0)
   pub gained : (j : ℕ) → j < m → getD used j 0 ≡ 0 → ¬ (getD used' j 0 ≡ 0) → Within found' n n' (rowAt st j .object)
   pub origin : (i : ℕ) → n ≤ i → i < n' → ObjectOf st m k Q (getD found' i 0)
   pub done : (j : ℕ) → j < m → rowAt st j .property ≡ k → Q (rowAt st j .subject) → ¬ (getD used' j 0 ≡ 0)
-  pub uniform : Uniform st m used'

@@ -1,2 +1,2 @@
 // What follows (document 01, "What follows").
-mod reach; // reach.rt: what is reached by steps, in a work list of terms
+mod work_list; // work_list.rt: what is reached by steps of a property

@@ -1,17 +1,14 @@
 // What is reached by steps of a property: a work list of terms, found, and for each statement a mark once its object is there.
 // The words st hold m statements, ascending, after their count.
 ghost use mathlib.Core.Path.{_≡_};
-ghost use mathlib.Core.Bool.{Bool, true, false, _&&_};
 ghost use Prim.Native.Nat.{ℕ, _+_, _*_, _<_, _≤_};
 ghost use lib.ListN.{length, getD};
-ghost use lib.Dec.{eqb};
-ghost use Rattle.table.specs.Table.{rowAt};
-ghost use Rattle.rdfs.specs.Marks.{Statements, HasSubject, Begins, Within, Unused, Room, Extended};
+ghost use Rattle.rdfs.specs.Marks.{Statements, HasSubject, Tells, Begins, Within, Unused, Room, Extended};
 
 // Whether row j has the subject x and the property k.
 fn has_subject(st: &[u32], j: usize, x: u32, k: u32) -> bool
     requires { ⌜ j * 3 + 3 < length (now st) ⌝ }
-    ensures { λ r. ⌜ r ≡ (eqb (rowAt (now (st .entry)) j .subject) x && eqb (rowAt (now (st .entry)) j .property) k) ⌝ }
+    ensures { λ r. ⌜ Tells r (HasSubject (now (st .entry)) x k j) ⌝ }
 {
     let at = j * 3 + 1;
     (st[at] == x) & (st[at + 1] == k)
@@ -32,8 +29,9 @@ fn append_block(st: &[u32], m: usize, k: u32, x: u32, first: usize, used: &mut [
         if !has_subject(st, j, x, k) {
             return e;
         }
+        let at = j * 3 + 1;
         used[j] = 1;
-        found[e] = st[j * 3 + 3];
+        found[e] = st[at + 2];
         e += 1;
         j += 1;
     }
