@@ -3,3 +3,5 @@ pub mod Reach
 pub mod Entailment
 pub mod Carried
 pub mod MarkLaws
+pub mod Begin
+pub mod WorkLaws
