@@ -5,3 +5,4 @@ pub mod Carried
 pub mod MarkLaws
 pub mod Begin
 pub mod WorkLaws
+pub mod ConclusionLaws

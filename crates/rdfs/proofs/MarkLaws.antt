@@ -1,8 +1,8 @@
 -- Laws of marks on statements, and of the rows of one subject and property. Assumes nothing.
 use mathlib.Core.Path.{_≡_, refl, sym, ap, _∙_}
 use mathlib.Core.Bool.{Bool, true, false, cond, _&&_}
-use mathlib.Core.List.{List, [], _∷_, List·Memᴰ, List·Memᴰ·head, List·Memᴰ·tail, List·Memᴰ·cases-cons, List·Memᴰ·not-nil, Memᴰ·cast}
-use mathlib.Core.Logic.{_⊎_, inl, inr, ⊎-elim, by-cases}
+use mathlib.Core.List.{List, List·Memᴰ, Memᴰ·cast}
+use mathlib.Core.Logic.{by-cases}
 use Prim.Native.Nat.{ℕ, zero, suc, _+_, _-_, _*_, _≤_, _<_}
 use native.Mathlib.Decide.{ℕ-discrete, decLt}
 use native.Mathlib.Omega.{arith}
@@ -16,7 +16,7 @@ use Rattle.rdf.specs.Order.{Less, by-subject, by-property, by-object, isAscendi
 use Rattle.rdf.proofs.Ascending.{isAscending-iff, and-left, and-right}
 use Rattle.table.specs.Table.{rowAt, firstRows}
 use Rattle.table.proofs.Rows.{length-firstRows, getD-rowAt}
-use Rattle.table.proofs.Place.{ascending-getD}
+use Rattle.table.proofs.Place.{ascending-getD, getD-member, member-getD}
 use Rattle.rdfs.specs.Marks.{Statements, HasSubject, Tells, Begins, Within, unused, Uniform, Unused, Room, ObjectOf, Grown, Extended}
 
 -- ---- how many statements have no mark
@@ -38,26 +38,6 @@ unused-set (suc m) used j h l z =
 
 -- ---- the rows as members of a list, and their order
 
-module _ {A : Type 0} where
-  -- An element is a member.
-  getD-member : (l : List A) (i : ℕ) (d : A) → i < length l → List·Memᴰ (getD l i d) l
-  getD-member [] i d h = absurd (omega arith)
-  getD-member (x ∷ l) zero d h = List·Memᴰ·head refl
-  getD-member (x ∷ l) (suc i) d h = List·Memᴰ·tail (getD-member l i d (omega arith))
-
-  -- Where a member stands.
-  record Stands (l : List A) (d a : A) : Type 0 where
-    pub at : ℕ
-    pub below : at < length l
-    pub is : getD l at d ≡ a
-
-  member-stands : (l : List A) (d a : A) → List·Memᴰ a l → Stands l d a
-  member-stands [] d a m = absurd (List·Memᴰ·not-nil m)
-  member-stands (x ∷ l) d a m =
-      ⊎-elim (λ (e : a ≡ x). record { at = 0; below = omega arith; is = sym e })
-      (λ j. let s = member-stands l d a j in record { at = suc (s .at); below = omega (arith, s .below); is = s .is })
-      (List·Memᴰ·cases-cons m)
-
 -- A triple for places past the end.
 noTriple : Triple
 noTriple = triple 0 0 0
@@ -76,9 +56,9 @@ pub record RowOf (st : List ℕ) (m : ℕ) (t : Triple) : Type 0 where
 
 pub member-row : (st : List ℕ) (m : ℕ) (t : Triple) → List·Memᴰ t (firstRows m (drop 1 st)) → RowOf st m t
 member-row st m t i =
-    let s = member-stands (firstRows m (drop 1 st)) noTriple t i in
-    let l : s .at < m = omega (arith, s .below, length-firstRows m (drop 1 st)) in
-    record { at = s .at; below = l; is = sym (getD-rowAt st m (s .at) noTriple l) ∙ s .is }
+    let r = member-getD (firstRows m (drop 1 st)) i in
+    let l : r .0 < m = omega (arith, r .1, length-firstRows m (drop 1 st)) in
+    record { at = r .0; below = l; is = sym (getD-rowAt st m (r .0) t l) ∙ r .2 t }
 
 -- A row of the subject x and the property k, as a member.
 pub has-member : (st : List ℕ) (m x k j : ℕ) → j < m → HasSubject st x k j → List·Memᴰ (triple x k (rowAt st j .object)) (firstRows m (drop 1 st))

@@ -154,3 +154,7 @@ close-end {st} {used₀} {found₀} {used} {found} {m} {k} {from} {n} {e} l u t 
     on : {c : ℕ} (a : ℕ) → Within found from e a → Reach (firstRows m (drop 1 st)) k a c → Within found from e c
     on a w stay = w
     on a w (step {b} {c} p s) = within-wider l (omega arith) (stated-in u (t .done) b c (on a w p) s)
+
+-- Room does not depend on the terms.
+pub room-for : {st used found found' : List ℕ} {m n n' : ℕ} → Room st m used found n → n' ≤ n → length found' ≡ length found → Room st m used found' n'
+room-for r l f = record { marks = r .marks; places = omega (arith, r .places); uniform = r .uniform }

@@ -1,6 +1,6 @@
 -- Either answer of the search is where the rows begin.
-use mathlib.Core.Path.{refl, ap}
-use Rattle.rdfs.proofs.Begin.{index, begins-found}
+use mathlib.Core.Path.{sym, _∙_}
+use Rattle.rdfs.proofs.Begin.{begins-at, begins-gap}
 use borrow.Author.Needs.{needs}
 use Rattle.rdfs.proofs.work_list.first_row.Statement.{statement}
 use Rattle.rdfs.proofs.work_list.first_row.Tie as tie
@@ -22,11 +22,11 @@ enum-known-i-2 c = search needs
 
 -- src/work_list.rt:45:1
 returns : tie.Need-returns
-returns c = begins-found (c .before .before .before .before .before .args .st .now) _ _ _ _ _ (c .before .before .before .before .before .pre) (c .before .before .before .find .ensures) (ap index (c .before .i .given .1))
+returns c = begins-at (c .before .before .before .before .before .args .st .now) _ _ _ _ (c .before .before .before .before .before .pre) (sym (c .before .before .before .find .ensures) ∙ c .before .i .given .1)
 
 -- src/work_list.rt:45:1
 returns-2 : tie.Need-returns-2
-returns-2 c = begins-found (c .before .before .before .before .before .args .st .now) _ _ _ _ _ (c .before .before .before .before .before .pre) (c .before .before .before .find .ensures) (ap index (c .before .i2 .given .1))
+returns-2 c = begins-gap (c .before .before .before .before .before .args .st .now) _ _ _ _ (c .before .before .before .before .before .pre) (sym (c .before .before .before .find .ensures) ∙ c .before .i2 .given .1)
 
 pub first-row-spec : {M : Type 1} → statement M
 first-row-spec = tie.close (tie.spec find-requires enum-known-i enum-known-i-2 returns returns-2)
