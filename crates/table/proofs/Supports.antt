@@ -1,6 +1,6 @@
 -- Well-formed supports are the layout of the supports of the rows, each between 1 and the number of facts, and back. Assumes nothing.
 use Prim.Native.Nat.{ℕ, _+_, _-_, _≤_, _<_}
-use mathlib.Core.Path.{_≡_, refl, sym, ap, _∙_}
+use mathlib.Core.Path.{_≡_}
 use mathlib.Core.Bool.{Bool, true, false, _&&_}
 use mathlib.Core.List.{List, _++_}
 use native.Mathlib.Omega.{arith}
@@ -11,7 +11,7 @@ use borrow.Author.Tests.{leb-true, le-leb, lt-leb}
 use Rattle.rdf.proofs.Ascending.{and-left, and-right}
 use Rattle.table.specs.Table.{areZero, all, isSupport, isSupportTable, supportLayout}
 use Rattle.table.specs.Laid.{Supports}
-use Rattle.table.proofs.All.{and-false, all-getD, getD-all, replicate-of, areZero-replicate}
+use Rattle.table.proofs.All.{and-false, all-getD, all-more, all-stop, all-end, replicate-of, areZero-replicate}
 
 -- ---- one support
 
@@ -75,3 +75,20 @@ too-few facts n us h = rw (lt-leb n (length us) h)
 pub enough-places : (facts n : ℕ) (us : List ℕ) → n ≤ length us → isSupportTable facts n us ≡ (all (isSupport facts) (take n us) && areZero (drop n us))
 unfolding isSupportTable
 enough-places facts n us h = rw (le-leb n (length us) h)
+
+-- The scan of the supports goes by what is left.
+module _ (facts n : ℕ) (us : List ℕ) (fits : n ≤ length us) (i : ℕ) where
+  at-support : (b : Bool) → i < n → isSupport facts (getD us i 0) ≡ b → isSupport facts (getD (take n us) i 0) ≡ b
+  at-support b h e = rw (getD-take n us i 0 h) e
+
+  inside : i < n → i < length (take n us)
+  inside h = rw (length-take-le n us fits) h
+
+  pub support-more : i < n → 1 ≤ getD us i 0 → getD us i 0 ≤ facts → all (isSupport facts) (drop i (take n us)) ≡ all (isSupport facts) (drop (i + 1) (take n us))
+  support-more h a b = all-more (isSupport facts) (take n us) i 0 (inside h) (at-support true h (between-isSupport facts (getD us i 0) a b))
+
+  pub support-stop : i < n → isSupport facts (getD us i 0) ≡ false → all (isSupport facts) (drop i (take n us)) ≡ false
+  support-stop h e = all-stop (isSupport facts) (take n us) i 0 (inside h) (at-support false h e)
+
+  pub support-end : n ≤ i → all (isSupport facts) (drop i (take n us)) ≡ true
+  support-end h = all-end (isSupport facts) (take n us) i (rw (length-take-le n us fits) h)
