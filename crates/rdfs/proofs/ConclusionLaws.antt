@@ -22,7 +22,7 @@ use Rattle.rdfs.proofs.Carried.{objects-iff, properties-iff, subjectSta
 use Rattle.rdfs.proofs.WorkLaws.{within-kept, within-wider}
 
 -- One equivalence after the other.
-both : {A B C : Type 0} → A ↔ B → B ↔ C → A ↔ C
+pub both : {A B C : Type 0} → A ↔ B → B ↔ C → A ↔ C
 both f g = (λ a. g .0 (f .0 a), λ c. f .1 (g .1 c))
 
 back : {A B : Type 0} → A ↔ B → B ↔ A

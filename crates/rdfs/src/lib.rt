@@ -100,3 +100,79 @@ fn append_object_classes(st: &[u32], m: usize, fact: Triple, used: &mut [u8], fo
     let e = append_all(st, m, Term::RANGE, used, found, 0, a, n);
     close(st, m, Term::SUB_CLASS_OF, used, found, n, e)
 }
+
+// The terms that a fact's conclusions are made of, in found, and where each part ends. The classes of the subject and those of the object
+// are reached over the same statements, so each has marks of its own.
+fn find_terms(st: &[u32], m: usize, fact: Triple, found: &mut [u32]) -> Ends
+    requires { ⌜ Statements (now st) m ⌝ }
+    requires { ⌜ 1026 ≤ length (now found) ⌝ }
+    ensures { λ r. ⌜ Concluded (firstRows m (drop 1 (now (st .entry)))) m fact (now (found .exit)) (r .properties) (r .subject) (r .object) ⌝ }
+{
+    let mut used = no_marks();
+    let mut again = no_marks();
+    let properties = append_properties(st, m, fact, &mut used, found);
+    let subject = append_subject_classes(st, m, fact, &mut used, found, properties);
+    let object = append_object_classes(st, m, fact, &mut again, found, properties, subject);
+    Ends {
+        properties: properties,
+        subject: subject,
+        object: object,
+    }
+}
+
+// The conclusion by the term x at place i of those found.
+fn conclusion(fact: Triple, ends: Ends, x: u32, i: usize) -> Triple
+    ensures { λ r. ⌜ r ≡ conclusionAt fact (ends .properties) (ends .subject) x i ⌝ }
+{
+    if i < ends.properties {
+        return Triple {
+            subject: fact.subject,
+            property: x,
+            object: fact.object,
+        };
+    }
+    if i < ends.subject {
+        return Triple {
+            subject: fact.subject,
+            property: Term::TYPE,
+            object: x,
+        };
+    }
+    Triple {
+        subject: fact.object,
+        property: Term::TYPE,
+        object: x,
+    }
+}
+
+// Writes the conclusions, three words each, in the order of the terms found.
+fn write_conclusions(fact: Triple, ends: Ends, found: &[u32], out: &mut [u32])
+    requires { ⌜ (ends .object ≤ length (now found)) × (ends .object * 3 ≤ length (now out)) ⌝ }
+    ensures { λ _. ⌜ ((i : ℕ) → i < ends .object → tripleFrom (now (out .exit)) (i * 3) ≡ conclusionAt fact (ends .properties) (ends .subject) (getD (now (found .entry)) i 0) i) ⌝ }
+{
+    let n = ends.object;
+    let mut i = 0;
+    while i < n {
+        let t = conclusion(fact, ends, found[i], i);
+        let at = i * 3;
+        out[at] = t.subject;
+        out[at + 1] = t.property;
+        out[at + 2] = t.object;
+        i += 1;
+    }
+}
+
+// What a fact carries, itself included: its rows, ascending, each once, three words each, into out. How many they are.
+pub fn carry(statements: &[u32], fact: Triple, out: &mut [u32]) -> usize
+    requires { ⌜ isStatementTable (now statements) ≡ true ⌝ }
+    requires { ⌜ 3078 ≤ length (now out) ⌝ }
+    ensures { λ r. ⌜ r ≡ length (carried (rows (now (statements .entry))) fact) ⌝ }
+    ensures { λ r. ⌜ take (r * 3) (now (out .exit)) ≡ flatten (carried (rows (now (statements .entry))) fact) ⌝ }
+{
+    let m = statements[0] as usize;
+    let mut found = no_terms();
+    let ends = find_terms(statements, m, fact, &mut found);
+    write_conclusions(fact, ends, &found, out);
+    let n = ends.object;
+    sort::sort_distinct(out, 3, n)
+}
