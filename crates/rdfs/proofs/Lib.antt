@@ -4,3 +4,9 @@ pub mod Entailment
 pub mod Carried
 pub mod Kept
 pub mod Saturation
+pub mod MarkLaws
+pub mod Begin
+pub mod WorkLaws
+pub mod ConclusionLaws
+pub mod WordRows
+pub mod WrittenLaws

@@ -2,3 +2,5 @@ pub mod Entailment
 pub mod Closure
 pub mod Saturation
 pub mod Counts
+pub mod Marks
+pub mod Conclusions
