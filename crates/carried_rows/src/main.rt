@@ -7,8 +7,22 @@ ghost use lib.ListN.{length, replicate};
 
 fn main() {
     let statements: [u32; 16] = [5, 16, 2, 17, 17, 2, 18, 19, 3, 20, 20, 4, 17, 20, 5, 16];
-    print_carried(&statements, Triple { subject: 32, property: 19, object: 33 });
-    print_carried(&statements, Triple { subject: 32, property: 1, object: 16 });
+    print_carried(
+        &statements,
+        Triple {
+            subject: 32,
+            property: 19,
+            object: 33,
+        },
+    );
+    print_carried(
+        &statements,
+        Triple {
+            subject: 32,
+            property: 1,
+            object: 16,
+        },
+    );
 }
 
 // Room for all that a fact can carry.
@@ -37,7 +51,11 @@ fn print_rows(rows: &[u32], n: usize)
     let mut i = 0;
     while i < n {
         let at = i * 3;
-        let t = Triple { subject: rows[at], property: rows[at + 1], object: rows[at + 2] };
+        let t = Triple {
+            subject: rows[at],
+            property: rows[at + 1],
+            object: rows[at + 2],
+        };
         io::write_all(1, b"  ");
         print_row(t);
         i += 1;

@@ -1,83 +1,65 @@
+use borrow.Author.Needs.{needs}
+-- Prints rows within the slice: i is at most n. Assumes nothing.
+use Prim.Native.Nat.{_≤_, _-_}
 use Rattle.carried_rows.proofs.print_rows.Statement.{statement}
 use Rattle.carried_rows.proofs.print_rows.Tie as tie
-use Rattle.carried_rows.proofs.print_rows.Reads as reads
-use Rattle.carried_rows.proofs.print_rows.Lts as lts
-use Rattle.carried_rows.proofs.print_row.Reads as print-row-reads
-use Rattle.io.proofs.write_all.Reads as write-all-reads
 
 abbrev Inv-loop : tie.InvT-loop
-Inv-loop rows n i₀ t6 i = ?
+Inv-loop rows n i₀ t6 i = i ≤ n
 
 abbrev μ-loop : tie.MeasureT-loop
-μ-loop rows n i₀ t6 i = ?
+μ-loop rows n i₀ t6 i = n - i
 
--- src/main.rt:38:5
 loop-holds : tie.Need-loop-holds Inv-loop μ-loop
-loop-holds c = ?
+loop-holds c = search needs
 
--- src/main.rt:39:18
 mul-at : tie.Need-mul-at Inv-loop μ-loop
-mul-at c = ?
+mul-at c = search needs
 
--- src/main.rt:40:35
 mul-t8 : tie.Need-mul-t8 Inv-loop μ-loop
-mul-t8 c = ?
+mul-t8 c = search needs
 
--- src/main.rt:40:35
 shared-slice-read-t10 : tie.Need-shared-slice-read-t10 Inv-loop μ-loop
-shared-slice-read-t10 c = ?
+shared-slice-read-t10 c = search needs
 
--- src/main.rt:40:60
 add-t11 : tie.Need-add-t11 Inv-loop μ-loop
-add-t11 c = ?
+add-t11 c = search needs
 
--- src/main.rt:40:55
 mul-t12 : tie.Need-mul-t12 Inv-loop μ-loop
-mul-t12 c = ?
+mul-t12 c = search needs
 
--- src/main.rt:40:55
 shared-slice-read-t14 : tie.Need-shared-slice-read-t14 Inv-loop μ-loop
-shared-slice-read-t14 c = ?
+shared-slice-read-t14 c = search needs
 
--- src/main.rt:40:82
 add-t15 : tie.Need-add-t15 Inv-loop μ-loop
-add-t15 c = ?
+add-t15 c = search needs
 
--- src/main.rt:40:77
 mul-t16 : tie.Need-mul-t16 Inv-loop μ-loop
-mul-t16 c = ?
+mul-t16 c = search needs
 
--- src/main.rt:40:77
 shared-slice-read-t18 : tie.Need-shared-slice-read-t18 Inv-loop μ-loop
-shared-slice-read-t18 c = ?
+shared-slice-read-t18 c = search needs
 
--- src/main.rt:41:26
 slice-aggregate-write-all : tie.Need-slice-aggregate-write-all Inv-loop μ-loop
-slice-aggregate-write-all c = ?
+slice-aggregate-write-all c = search needs
 
--- src/main.rt:41:9
 write-all-requires : tie.Need-write-all-requires Inv-loop μ-loop
-write-all-requires c κs = ?
+write-all-requires c κs = search needs
 
--- src/main.rt:42:9
 print-row-requires : tie.Need-print-row-requires Inv-loop μ-loop
-print-row-requires c κs = ?
+print-row-requires c κs = search needs
 
--- src/main.rt:43:9
 add-i : tie.Need-add-i Inv-loop μ-loop
-add-i c = ?
+add-i c = search needs
 
--- src/main.rt:38:5
 loop-less : tie.Need-loop-less Inv-loop μ-loop
-loop-less c = ?
+loop-less c = search needs
 
--- src/main.rt:38:5
 loop-again : tie.Need-loop-again Inv-loop μ-loop
-loop-again c = ?
+loop-again c = search needs
 
--- src/main.rt:34:1
 returns : tie.Need-returns Inv-loop μ-loop
-returns c = ?
+returns c = search needs
 
 pub print-rows-spec : {M : Type 1} → statement M
 print-rows-spec =
