@@ -63,9 +63,9 @@ joined {found} {xs} {ys} {a} {b} {c} p q f g x = (
 one : (found : List ℕ) (n v x : ℕ) → n < length found → Within (set found n v) n (n + 1) x ↔ List·Memᴰ x (v ∷ [])
 one found n v x l = (
   λ w.
-  let q : w .at ≡ n = omega (arith, w .low, w .high) in
-  let z : x ≡ v = sym (w .is) ∙ (ap (λ (i : ℕ). getD (set found n v) i 0) q ∙ getD-set-same found n v 0 l) in
-  List·Memᴰ·head z,
+      let q : w .at ≡ n = omega (arith, w .low, w .high) in
+      let z : x ≡ v = sym (w .is) ∙ (ap (λ (i : ℕ). getD (set found n v) i 0) q ∙ getD-set-same found n v 0 l) in
+      List·Memᴰ·head z,
   λ i. record { at = n; low = omega arith; high = omega arith; is = getD-set-same found n v 0 l ∙ sym (List·Memᴰ·eq-of-singleton i) },
 )
 
@@ -80,7 +80,8 @@ listed-properties st m f found found' r l h =
     record {
       grows = omega arith;
       kept = λ i c. absurd (omega arith);
-      exact = λ q. both (h q) (both (reached-list (λ x. one found 0 (f .property) x l) q) (both (reached-one S subPropertyOf (f .property) q) (back (properties-iff S f q)))) }
+      exact = λ q. both (h q) (both (reached-list (λ x. one found 0 (f .property) x l) q) (both (reached-one S subPropertyOf (f .property) q) (back (properties-iff S f q))));
+    }
 
 -- ---- the type that a fact gives
 
@@ -121,7 +122,8 @@ module _ (st : List ℕ) (m : ℕ) (f : Triple) where
       record {
         grows = omega (arith, t .grows, g .grows, h .grows);
         kept = λ i l. h .kept i (omega (arith, t .grows, g .grows)) ∙ g .kept i (omega (arith, t .grows)) ∙ t .kept i l;
-        exact = λ c. both (y c) (both (reached-list starts c) (back (subject-iff S f c))) }
+        exact = λ c. both (y c) (both (reached-list starts c) (back (subject-iff S f c)));
+      }
 
   pub listed-object : (used found found₁ found₂ used₁ used₂ : List ℕ) (a n e r : ℕ) → a ≤ n →
       ((q : ℕ) → Within found 0 a q ↔ List·Memᴰ q (properties (firstRows m (drop 1 st)) f)) → isLiteral (f .object) ≡ false →

@@ -164,8 +164,8 @@ module _ (st : List ℕ) (m k x first : ℕ) (used₀ found₀ : List ℕ) (n : 
       after = λ i a. getD-set-other used j i 1 0 (λ q. omega arith) ∙ b .after i (omega arith);
       kept = λ i a. getD-set-other found e i (rowAt st j .object) 0 (λ q. omega (arith, b .count, b .low)) ∙ b .kept i a;
       objects = λ i p a c d. by-cases (ℕ-discrete i j)
-        (λ q. let z : p ≡ e = omega (arith, b .count) in rw (z, q) (getD-set-same found e (rowAt st j .object) 0 block-place))
-        (λ q. getD-set-other found e p (rowAt st j .object) 0 (λ z. q (omega (arith, b .count))) ∙ b .objects i p a (omega arith) d);
+          (λ q. let z : p ≡ e = omega (arith, b .count) in rw (z, q) (getD-set-same found e (rowAt st j .object) 0 block-place))
+          (λ q. getD-set-other found e p (rowAt st j .object) 0 (λ z. q (omega (arith, b .count))) ∙ b .objects i p a (omega arith) d);
     }
 
   module _ (begins : Begins st m x k first) (none : (i : ℕ) → j ≤ i → i < m → HasSubject st x k i → ⊥) where
@@ -192,13 +192,13 @@ module _ (st : List ℕ) (m k x first : ℕ) (used₀ found₀ : List ℕ) (n : 
       kept = b .kept;
       other = λ i l p. outside i (λ z. p (b .rows i (z .0) (z .1) .property));
       uniform = λ i i' l l' p q. side (getD used i 0 ≡ getD used i' 0) i
-        (λ a c.
-        let h = b .rows i a c in
-        let w = inside i' l' (record { subject = sym p ∙ h .subject; property = sym q ∙ h .property }) in
-        b .marks i a c ∙ sym (b .marks i' (w .0) (w .1)))
-        (λ z.
-        let z' : (first ≤ i') × (i' < j) → ⊥ = λ w. (let h = b .rows i' (w .0) (w .1) in z (inside i l (record { subject = p ∙ h .subject; property = q ∙ h .property }))) in
-        outside i z ∙ room .uniform i i' l l' p q ∙ sym (outside i' z'));
+          (λ a c.
+          let h = b .rows i a c in
+          let w = inside i' l' (record { subject = sym p ∙ h .subject; property = sym q ∙ h .property }) in
+          b .marks i a c ∙ sym (b .marks i' (w .0) (w .1)))
+          (λ z.
+          let z' : (first ≤ i') × (i' < j) → ⊥ = λ w. (let h = b .rows i' (w .0) (w .1) in z (inside i l (record { subject = p ∙ h .subject; property = q ∙ h .property }))) in
+          outside i z ∙ room .uniform i i' l l' p q ∙ sym (outside i' z'));
     }
 
     pub block-end : Extended st m k (λ y. y ≡ x) used₀ found₀ n used found e
@@ -206,13 +206,13 @@ module _ (st : List ℕ) (m k x first : ℕ) (used₀ found₀ : List ℕ) (n : 
       grown = grown;
       marked = λ i l p q. side ⊥ i (λ a c. omega (arith, b .marks i a c)) (λ z. p (sym (outside i z) ∙ q));
       gained = λ i l p q. side (Within found n e (rowAt st i .object)) i
-        (λ a c. record { at = n + (i - first); low = omega arith; high = omega (arith, b .count); is = b .objects i (n + (i - first)) a c (omega arith) })
-        (λ z. absurd (q (outside i z ∙ p)));
+          (λ a c. record { at = n + (i - first); low = omega arith; high = omega (arith, b .count); is = b .objects i (n + (i - first)) a c (omega arith) })
+          (λ z. absurd (q (outside i z ∙ p)));
       origin = λ p a c.
-        let i : ℕ = first + (p - n) in
-        let l : i < j = omega (arith, b .count) in
-        let o : getD found p 0 ≡ rowAt st i .object = b .objects i p (omega arith) l (omega arith) in
-        record { subject = x; holds = refl; statement = rw o (has-member st m x k i (omega (arith, b .high)) (b .rows i (omega arith) l)) };
+          let i : ℕ = first + (p - n) in
+          let l : i < j = omega (arith, b .count) in
+          let o : getD found p 0 ≡ rowAt st i .object = b .objects i p (omega arith) l (omega arith) in
+          record { subject = x; holds = refl; statement = rw o (has-member st m x k i (omega (arith, b .high)) (b .rows i (omega arith) l)) };
       done = λ i l p q z. let w = inside i l (record { subject = q; property = p }) in omega (arith, b .marks i (w .0) (w .1));
     }
 

@@ -42,7 +42,13 @@ fn no_terms() -> [u32; 1026]
 }
 
 // The properties of a fact, from the start of found on: its own, and what is reached from there. Their end.
-fn append_properties(st: &[u32], m: usize, fact: Triple, used: &mut [u8], found: &mut [u32]) -> usize
+fn append_properties(
+    st: &[u32],
+    m: usize,
+    fact: Triple,
+    used: &mut [u8],
+    found: &mut [u32],
+) -> usize
     requires { ⌜ Statements (now st) m ⌝ }
     requires { ⌜ Room (now st) m (now used) (now found) 1 ⌝ }
     requires { ⌜ Unused (now st) m subPropertyOf (now used) ⌝ }
@@ -70,7 +76,14 @@ fn append_type(fact: Triple, found: &mut [u32], n: usize) -> usize
 
 // The classes of a fact's subject, appended at n: the object of a type and the domains of its properties, which are found[0..n], and
 // what is reached from there. The new end.
-fn append_subject_classes(st: &[u32], m: usize, fact: Triple, used: &mut [u8], found: &mut [u32], n: usize) -> usize
+fn append_subject_classes(
+    st: &[u32],
+    m: usize,
+    fact: Triple,
+    used: &mut [u8],
+    found: &mut [u32],
+    n: usize,
+) -> usize
     requires { ⌜ Statements (now st) m ⌝ }
     requires { ⌜ Room (now st) m (now used) (now found) (n + 1) ⌝ }
     requires { ⌜ Unused (now st) m domain (now used) × Unused (now st) m subClassOf (now used) ⌝ }
@@ -85,7 +98,15 @@ fn append_subject_classes(st: &[u32], m: usize, fact: Triple, used: &mut [u8], f
 
 // The classes of a fact's object, appended at n: the ranges of its properties, which are found[0..a], and what is reached from there; none
 // if the object is a literal. The new end.
-fn append_object_classes(st: &[u32], m: usize, fact: Triple, used: &mut [u8], found: &mut [u32], a: usize, n: usize) -> usize
+fn append_object_classes(
+    st: &[u32],
+    m: usize,
+    fact: Triple,
+    used: &mut [u8],
+    found: &mut [u32],
+    a: usize,
+    n: usize,
+) -> usize
     requires { ⌜ Statements (now st) m ⌝ }
     requires { ⌜ Room (now st) m (now used) (now found) n × (a ≤ n) ⌝ }
     requires { ⌜ Unused (now st) m range (now used) × Unused (now st) m subClassOf (now used) ⌝ }

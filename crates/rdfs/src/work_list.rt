@@ -19,7 +19,16 @@ fn has_subject(st: &[u32], j: usize, x: u32, k: u32) -> bool
 
 // Appends to found, from n on, the objects of the statements of the subject x and the property k, which begin at row first and have
 // no marks; each gets a mark. The new end.
-fn append_block(st: &[u32], m: usize, k: u32, x: u32, first: usize, used: &mut [u8], found: &mut [u32], n: usize) -> usize
+fn append_block(
+    st: &[u32],
+    m: usize,
+    k: u32,
+    x: u32,
+    first: usize,
+    used: &mut [u8],
+    found: &mut [u32],
+    n: usize,
+) -> usize
     requires { ⌜ Statements (now st) m ⌝ }
     requires { ⌜ Begins (now st) m x k first ⌝ }
     requires { ⌜ Room (now st) m (now used) (now found) n ⌝ }
@@ -59,7 +68,15 @@ fn first_row(st: &[u32], m: usize, x: u32, k: u32) -> usize
 
 // Appends to found, from n on, the objects of the statements of the subject x and the property k, unless they have marks: then this was
 // done before, since the statements of one subject and property get their marks together. The new end.
-fn append_objects(st: &[u32], m: usize, k: u32, x: u32, used: &mut [u8], found: &mut [u32], n: usize) -> usize
+fn append_objects(
+    st: &[u32],
+    m: usize,
+    k: u32,
+    x: u32,
+    used: &mut [u8],
+    found: &mut [u32],
+    n: usize,
+) -> usize
     requires { ⌜ Statements (now st) m ⌝ }
     requires { ⌜ Room (now st) m (now used) (now found) n ⌝ }
     ensures { λ r. ⌜ Extended (now (st .entry)) m k (λ y. y ≡ x) (now (used .entry)) (now (found .entry)) n (now (used .exit)) (now (found .exit)) r ⌝ }
@@ -75,7 +92,16 @@ fn append_objects(st: &[u32], m: usize, k: u32, x: u32, used: &mut [u8], found: 
 }
 
 // Appends to found, from n on, the objects of the statements of the property k whose subject is one of found[from..to]. The new end.
-pub fn append_all(st: &[u32], m: usize, k: u32, used: &mut [u8], found: &mut [u32], from: usize, to: usize, n: usize) -> usize
+pub fn append_all(
+    st: &[u32],
+    m: usize,
+    k: u32,
+    used: &mut [u8],
+    found: &mut [u32],
+    from: usize,
+    to: usize,
+    n: usize,
+) -> usize
     requires { ⌜ Statements (now st) m ⌝ }
     requires { ⌜ Room (now st) m (now used) (now found) n ⌝ }
     requires { ⌜ Unused (now st) m k (now used) ⌝ }
@@ -94,7 +120,15 @@ pub fn append_all(st: &[u32], m: usize, k: u32, used: &mut [u8], found: &mut [u3
 }
 
 // Closes found[from..n] under the statements of the property k: appends what is reached from there. The new end.
-pub fn close(st: &[u32], m: usize, k: u32, used: &mut [u8], found: &mut [u32], from: usize, n: usize) -> usize
+pub fn close(
+    st: &[u32],
+    m: usize,
+    k: u32,
+    used: &mut [u8],
+    found: &mut [u32],
+    from: usize,
+    n: usize,
+) -> usize
     requires { ⌜ Statements (now st) m ⌝ }
     requires { ⌜ Room (now st) m (now used) (now found) n ⌝ }
     requires { ⌜ Unused (now st) m k (now used) ⌝ }
