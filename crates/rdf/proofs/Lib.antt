@@ -1,3 +1,4 @@
 pub mod Sides
+pub mod Lists
 pub mod Order
 pub mod Ascending

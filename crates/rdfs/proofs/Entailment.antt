@@ -1,9 +1,9 @@
 -- What holds: each triple that holds is carried by one explicit fact; no derived triple is a statement; all that holds is allowed. Assumes nothing.
 use mathlib.Core.Path.{_≡_, refl, sym, _∙_}
 use mathlib.Core.Bool.{Bool, true, false, _&&_, _||_, not, cond}
-use mathlib.Core.List.{List, [], _∷_, List·Memᴰ, List·Memᴰ·head, List·Memᴰ·eq-of-singleton, Memᴰ·cast}
+use mathlib.Core.List.{List, [], List·Memᴰ, List·Memᴰ·head, List·Memᴰ·eq-of-singleton, Memᴰ·cast}
 use mathlib.Core.Logic.{_↔_}
-use Prim.Native.Nat.{ℕ, _≤_, _<_}
+use Prim.Native.Nat.{ℕ, _≤_}
 use native.Mathlib.Omega.{arith}
 use lib.Dec.{eqb, leb}
 use borrow.Author.Tests.{leb-true, le-leb, not-true}
@@ -31,6 +31,7 @@ pub record Carrier (S F : List Triple) (t : Triple) : Type 0 where
 onward : {S F : List Triple} {t u : Triple} → ((f : Triple) → Carries S f t → Carries S f u) → Carrier S F t → Carrier S F u
 onward g c = record { fact = c .fact; explicit-fact = c .explicit-fact; carries = g (c .fact) (c .carries) }
 
+-- The fact at the start of a derivation carries what is derived.
 carrier : {S F : List Triple} {t : Triple} → Holds S F t → Carrier S F t
 carrier (explicit {t = u} m) = record { fact = u; explicit-fact = m; carries = explicit (List·Memᴰ·head refl) }
 carrier (rdfs2 m d) = onward (λ f. rdfs2 m) (carrier d)
@@ -75,14 +76,17 @@ holds-is-fact w n (rdfs9 {d} {a} m h) = type-no-statement a d
 
 -- ---- what allowed statements say of their sides
 
+-- A condition that both arms ask holds.
 cond-and-right : (b x y z : Bool) → cond b (x && z) (y && z) ≡ true → z ≡ true
 cond-and-right true x y z e = and-right x z e
 cond-and-right false x y z e = and-right y z e
 
+-- An allowed statement has allowed sides.
 allowed-sides : (t : Triple) → isAllowedStatement t ≡ true → areSidesAllowed t ≡ true
 unfolding isAllowedStatement
 allowed-sides t e = and-right (isStatement t) _ (and-right (isTriple t) _ e)
 
+-- An allowed side is no vocabulary URI.
 sides-no-vocabulary : (t : Triple) → areSidesAllowed t ≡ true → (isVocabulary (t .subject) ≡ false) × (isVocabulary (t .object) ≡ false)
 unfolding areSidesAllowed
 sides-no-vocabulary t e = (
@@ -108,6 +112,7 @@ object-uri p q e = and-left _ _ (and-right (isProperty p) _ (allowed-sides (trip
 
 -- ---- all that holds is allowed
 
+-- A conjunction of two truths is true.
 both : (a b : Bool) → a ≡ true → b ≡ true → (a && b) ≡ true
 both a b p q = rw (p, q)
 
@@ -122,32 +127,36 @@ record Places (t : Triple) : Type 0 where
   uri : isUri (t .property) ≡ true
   value : (isResource (t .object) || isLiteral (t .object)) ≡ true
 
+-- A triple has such words,
 places : (t : Triple) → isTriple t ≡ true → Places t
 unfolding isTriple
 places t e =
     let h = and-left _ _ e in
     record { resource = and-left _ _ h; uri = and-right (isResource (t .subject)) _ h; value = and-right (isResource (t .subject) && isUri (t .property)) _ e }
 
+-- and such words make a triple.
 placed : (t : Triple) → Places t → isTriple t ≡ true
 unfolding isTriple
 placed t h = both _ _ (both _ _ (h .resource) (h .uri)) (h .value)
 
+-- rdf:type is a URI.
 type-uri : isUri 1 ≡ true
 unfolding isUri
 type-uri = refl
 
 -- A resource that is given a class makes a triple.
-typed : (a c : ℕ) → isResource a ≡ true → isResource c ≡ true → isTriple (triple a 1 c) ≡ true
-typed a c e g = placed (triple a 1 c) (record { resource = e; uri = type-uri; value = rw g })
+type-triple : (a c : ℕ) → isResource a ≡ true → isResource c ≡ true → isTriple (triple a 1 c) ≡ true
+type-triple a c e g = placed (triple a 1 c) (record { resource = e; uri = type-uri; value = rw g })
 
+-- All that holds is a triple.
 holds-triple : {S F : List Triple} {t : Triple} → ((u : Triple) → List·Memᴰ u S → isAllowedStatement u ≡ true) → ((u : Triple) → List·Memᴰ u F → isTriple u ≡ true) → Holds S F t → isTriple t ≡ true
 holds-triple w n (explicit m) = n _ m
-holds-triple w n (rdfs2 {p} {c} {a} {b} m d) = typed a c (places (triple a p b) (holds-triple w n d) .resource) (object-resource p 4 c refl (w _ m))
-holds-triple w n (rdfs3 {p} {c} {a} {b} m l d) = typed b c (resource-of _ _ (places (triple a p b) (holds-triple w n d) .value) l) (object-resource p 5 c refl (w _ m))
+holds-triple w n (rdfs2 {p} {c} {a} {b} m d) = type-triple a c (places (triple a p b) (holds-triple w n d) .resource) (object-resource p _ c refl (w _ m))
+holds-triple w n (rdfs3 {p} {c} {a} {b} m l d) = type-triple b c (resource-of _ _ (places (triple a p b) (holds-triple w n d) .value) l) (object-resource p _ c refl (w _ m))
 holds-triple w n (rdfs7 {p} {q} {a} {b} m d) =
     let h = places (triple a p b) (holds-triple w n d) in
     placed (triple a q b) (record { resource = h .resource; uri = object-uri p q (w _ m); value = h .value })
-holds-triple w n (rdfs9 {c} {d} {a} m h) = typed a d (places (triple a 1 c) (holds-triple w n h) .resource) (object-resource c 2 d refl (w _ m))
+holds-triple w n (rdfs9 {c} {d} {a} m h) = type-triple a d (places (triple a 1 c) (holds-triple w n h) .resource) (object-resource c 2 d refl (w _ m))
 
 -- An allowed fact is a triple and no statement.
 pub allowed-fact : (t : Triple) → isAllowedFact t ≡ true → (isTriple t ≡ true) × (isStatement t ≡ false)

@@ -8,3 +8,5 @@ pub mod WorkLaws
 pub mod ConclusionLaws
 pub mod WordRows
 pub mod WrittenLaws
+pub mod Kept
+pub mod Saturation

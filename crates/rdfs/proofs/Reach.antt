@@ -30,6 +30,7 @@ abbrev Pulled : ℕ → List ℕ → List Triple → Pull → Type 0
 Pulled k seen S none = (t : Triple) → List·Memᴰ t S → ¬ ((t .property ≡ k) × List·Memᴰ (t .subject) seen)
 Pulled k seen S (took t R) = Took k seen S t R
 
+-- Keeping a statement that does not leave what is seen.
 keep-spec : (k : ℕ) (seen : List ℕ) (t : Triple) (S : List Triple) (r : Pull) → ¬ ((t .property ≡ k) × List·Memᴰ (t .subject) seen) → Pulled k seen S r → Pulled k seen (t ∷ S) (keep t r)
 unfolding keep
 keep-spec k seen t S none n h = λ u m i. ⊎-elim (λ (q : u ≡ t). n (sym (of-property q) ∙ i .0, Memᴰ·cast (sym (of-subject q)) (i .1))) (λ m′. h u m′ i) (List·Memᴰ·cases-cons m)
@@ -42,6 +43,7 @@ keep-spec k seen t S (took v R) n h =
       shorter = ap suc (h .shorter);
     }
 
+-- `pull` takes a statement that leaves what is seen, if there is one.
 pull-spec : (k : ℕ) (seen : List ℕ) (S : List Triple) → Pulled k seen S (pull k seen S)
 unfolding pull
 pull-spec k seen [] = λ t m i. List·Memᴰ·not-nil m
@@ -50,6 +52,7 @@ pull-spec k seen (t ∷ S) =
     (λ l. record { leaving = l; there = List·Memᴰ·head refl; left = λ u j. List·Memᴰ·tail j; all = λ u j. List·Memᴰ·cases-cons j; shorter = refl })
     (λ n. keep-spec k seen t S (pull k seen S) n (pull-spec k seen S))
 
+-- What holds in both outcomes holds after the pull.
 afterPull-elim : {A : Type 0} (Q : A → Type 0) (k : ℕ) (seen : List ℕ) (S : List Triple) (x : A) (f : Triple → List Triple → A)
     → (((t : Triple) → List·Memᴰ t S → ¬ ((t .property ≡ k) × List·Memᴰ (t .subject) seen)) → Q x)
     → ((t : Triple) (R : List Triple) → Took k seen S t R → Q (f t R))
@@ -120,7 +123,7 @@ pub spread-iff : (S : List Triple) (k : ℕ) (xs : List ℕ) (b : ℕ) → List�
 unfolding spread
 spread-iff S k xs b =
     let ys = addAll ℕ-discrete xs [] in (
-      λ m. explore-sound k (ReachFrom S k xs) (length S) S ys (λ t j e f. from-step (Memᴰ·cast (triple-eq (triple (t .subject) k (t .object)) t refl (sym e) refl) j) f)
+      λ m. explore-sound k (ReachFrom S k xs) _ S ys (λ t j e f. from-step (Memᴰ·cast (triple-eq (triple (t .subject) k (t .object)) t refl (sym e) refl) j) f)
           (λ c j. record { start = c; listed = once-out ℕ-discrete xs j; path = stay }) b m,
       λ f. reach-listed (explore-closed k (length S) S ys (le-refl (length S))) (explore-kept k (f .start) (length S) S ys (once-in ℕ-discrete xs (f .listed))) (f .path),
     )
@@ -128,7 +131,7 @@ spread-iff S k xs b =
 -- each once.
 pub spread-distinct : (S : List Triple) (k : ℕ) (xs : List ℕ) → Distinct (spread S k xs)
 unfolding spread
-spread-distinct S k xs = explore-distinct k (length S) S (addAll ℕ-discrete xs []) (once-distinct ℕ-discrete xs)
+spread-distinct S k xs = explore-distinct k _ S (addAll ℕ-discrete xs []) (once-distinct ℕ-discrete xs)
 
 -- `reach` lists exactly what is reached from a, for every property k,
 pub reach-iff : (S : List Triple) (k a b : ℕ) → List·Memᴰ b (reach S k a) ↔ Reach S k a b

@@ -1,12 +1,12 @@
 -- Lists as sets: `add` and `addAll`, lists without repeats, and their lengths. Assumes nothing.
 use mathlib.Core.Path.{_≡_, refl, sym, ap, _∙_}
 use mathlib.Core.List.{List, [], _∷_, List·Memᴰ, List·Memᴰ·head, List·Memᴰ·tail, List·Memᴰ·cases-cons, List·Memᴰ·not-nil, Memᴰ·cast}
-use mathlib.Core.Logic.{_⊎_, inl, inr, ⊎-elim}
-use Prim.Native.Nat.{ℕ, suc, _≤_}
+use mathlib.Core.Logic.{_⊎_, inr, ⊎-elim}
+use Prim.Native.Nat.{suc, _≤_}
 use native.Mathlib.Omega.{arith}
 use lib.ListN.{length}
 use Rattle.rdf.specs.declared.Triple.{Triple}
-use Rattle.rdf.specs.Order.{Above, Ascending, less-irrefl}
+use Rattle.rdf.specs.Order.{Ascending, less-irrefl}
 use Rattle.rdf.proofs.Order.{choose-elim}
 use Rattle.rdf.proofs.Ascending.{above-asc, above-member}
 use Rattle.rdfs.specs.Closure.{isIn, add, addAll}
@@ -63,6 +63,7 @@ record Without {A : Type 0} (x : A) (ys : List A) : Type 0 where
   shorter : length ys ≡ suc (length left)
   others : (y : A) → List·Memᴰ y ys → ¬ (y ≡ x) → List·Memᴰ y left
 
+-- A member can be taken out.
 without : {A : Type 0} {x : A} (ys : List A) → List·Memᴰ x ys → Without x ys
 without [] m = absurd (List·Memᴰ·not-nil m)
 without {A} {x} (z ∷ ys) m =
@@ -72,6 +73,7 @@ without {A} {x} (z ∷ ys) m =
     record { left = z ∷ r .left; shorter = ap suc (r .shorter); others = λ y j n. ⊎-elim List·Memᴰ·head (λ k. List·Memᴰ·tail (r .others y k n)) (List·Memᴰ·cases-cons j) })
     (List·Memᴰ·cases-cons m)
 
+-- The members of xs, each once, lie in ys: xs is not longer.
 pub distinct-length : {A : Type 0} (xs ys : List A) → Distinct xs → ((x : A) → List·Memᴰ x xs → List·Memᴰ x ys) → length xs ≤ length ys
 distinct-length [] ys d h = omega arith
 distinct-length (x ∷ xs) ys d h =

@@ -3,3 +3,4 @@ pub mod Closure
 pub mod Saturation
 pub mod Marks
 pub mod Conclusions
+pub mod Counts

@@ -1,0 +1,18 @@
+-- Where `compute` unfolds, the definitions of the store compute on closed terms. Definitions only.
+use mathlib.Core.List.{flatMap}
+use mathlib.Core.Logic.{Dec·and}
+use native.Mathlib.Decide.{ℕ-discrete, decLt}
+use Rattle.rdf.specs.Term.{isUri, isBlank, isLiteral, isVariable, isVocabulary}
+use Rattle.rdf.specs.Triple.{isTriple, isStatement, areSidesAllowed}
+use Rattle.rdf.specs.Refusal.{firstNo}
+use Rattle.rdf.specs.Order.{compareNumbers, compareTriples, equalTriples, choose, byOrder, insert, remove, ascend}
+use Rattle.rdfs.specs.Closure.{isIn, add, addAll, keep, leaves, pull, afterPull, explore, spread, reach, objects, properties, subjectClasses, objectClasses, conclusions, carried}
+use Rattle.rdfs.specs.Saturation.{support, lookup, raise, oneLess, lower, raiseAll, lowerAll, saturation}
+use Rattle.sort.specs.Rows.{less, insertOnce, ordered}
+use Rattle.query.specs.Answer.{boundTo, isBound, bind, matchWord, matchTriple, solutions, answers}
+use Rattle.reformulation.specs.Alternative.{select, toClasses, toProperties, without, alternativesFrom, alternatives}
+
+-- The definitions that an example needs, by one name.
+unfoldable pub compute : Unit {0}
+unfolding flatMap Dec·and ℕ-discrete decLt isUri isBlank isLiteral isVariable isVocabulary isTriple isStatement areSidesAllowed firstNo compareNumbers compareTriples equalTriples choose byOrder insert remove ascend isIn add addAll keep leaves pull afterPull explore spread reach objects properties subjectClasses objectClasses conclusions carried support lookup raise oneLess lower raiseAll lowerAll saturation less insertOnce ordered boundTo isBound bind matchWord matchTriple solutions answers select toClasses toProperties without alternativesFrom alternatives
+compute = tt
