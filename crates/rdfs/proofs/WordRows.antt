@@ -1,6 +1,6 @@
 -- Triples as rows of three words: the ordered set of such rows is the ascending list of the triples. Assumes nothing.
 use mathlib.Core.Path.{_≡_, refl, sym, ap, ap₂, _∙_}
-use mathlib.Core.Bool.{true, false}
+use mathlib.Core.Bool.{true, false, cond}
 use mathlib.Core.List.{List, [], _∷_, _++_, map}
 use Prim.Native.Nat.{ℕ, zero, suc, _+_, _*_, _≤_, _<_}
 use native.Mathlib.Omega.{arith}
@@ -12,7 +12,7 @@ use Rattle.rdf.specs.Order.{Less, by-subject, by-property, by-object, compareTr
 use Rattle.rdf.proofs.Order.{byOrder-elim}
 use Rattle.table.specs.Table.{tripleFrom, firstRows, flatten}
 use Rattle.table.proofs.Rows.{tripleFrom-drop}
-use Rattle.sort.specs.Rows.{less, pick, row, rowAt, tabulate, insertOnce, ordered, flat}
+use Rattle.sort.specs.Rows.{less, row, rowAt, tabulate, insertOnce, ordered, flat}
 use Rattle.sort.specs.Effects.{HoldsRows}
 use Rattle.sort.proofs.Order.{less-irrefl, less-asym}
 use Rattle.sort.proofs.HeldWords.{flat-rows}
@@ -41,7 +41,7 @@ unfolding insertOnce insert
 insert-words t [] = refl
 insert-words t (u ∷ us) =
     byOrder-elim
-    (λ (r : List Triple). pick (less (words t) (words u)) (words t ∷ words u ∷ map words us) (pick (less (words u) (words t)) (words u ∷ insertOnce (words t) (map words us)) (words u ∷ map words us)) ≡ map words r)
+    (λ (r : List Triple). cond (less (words t) (words u)) (words t ∷ words u ∷ map words us) (cond (less (words u) (words t)) (words u ∷ insertOnce (words t) (map words us)) (words u ∷ map words us)) ≡ map words r)
     (compareTriples t u)
     (λ h. rw (words-less h))
     (λ e. let a : less (words t) (words u) ≡ false = rw e (less-irrefl (words u)) in let b : less (words u) (words t) ≡ false = rw e (less-irrefl (words u)) in rw (a, b))
