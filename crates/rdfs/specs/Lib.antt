@@ -2,5 +2,3 @@ pub mod Entailment
 pub mod Closure
 pub mod Saturation
 pub mod Counts
-pub mod Marks
-pub mod Conclusions

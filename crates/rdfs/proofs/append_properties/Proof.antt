@@ -7,27 +7,19 @@ use Rattle.rdfs.proofs.ConclusionLaws.{listed-properties}
 use borrow.Author.Needs.{needs}
 use Rattle.rdfs.proofs.append_properties.Statement.{statement}
 use Rattle.rdfs.proofs.append_properties.Tie as tie
-use Rattle.rdfs.proofs.append_properties.Reads as reads
-use Rattle.rdfs.proofs.append_properties.Lts as lts
-use Rattle.rdfs.proofs.work_list.close.Reads as close-reads
 
--- src/lib.rt:54:5
 slice-write-found : tie.Need-slice-write-found
 slice-write-found c = search needs
 
--- src/lib.rt:55:5
 close-requires : tie.Need-close-requires
 close-requires c κs = let s = c .before .before .before .before .before in (s .pre .0, (room-for (s .pre .1 .0) (omega arith) (length-set (s .args .found .now) 0 (s .args .fact .property)), (s .pre .1 .1, omega arith)))
 
--- src/lib.rt:45:1
 same-length : tie.Need-same-length
 same-length c = search needs
 
--- src/lib.rt:45:1
 same-length-2 : tie.Need-same-length-2
 same-length-2 c = let s = c .before .before .before .before .before .before .before .before .before .before in let k = c .before .before .before .before .close in k .kept .1 .1 .1 .1 .0 ∙ length-set (s .args .found .now) 0 (s .args .fact .property)
 
--- src/lib.rt:45:1
 returns : tie.Need-returns
 returns c = let s = c .before .before .before .before .before .before .before .before .before .before in let k = c .before .before .before .before .close in (listed-properties (s .args .st .now) _ (s .args .fact) (s .args .found .now) (k .last .1 .1 .1 .1 .0) _ (omega (arith, s .pre .1 .0 .places)) (k .ensures .1), (k .ensures .0 .cost, (k .ensures .0 .other, k .ensures .0 .uniform)))
 

@@ -4,30 +4,22 @@ use Rattle.rdfs.proofs.ConclusionLaws.{listed-type, listed-untyped}
 use borrow.Author.Needs.{needs}
 use Rattle.rdfs.proofs.append_type.Statement.{statement}
 use Rattle.rdfs.proofs.append_type.Tie as tie
-use Rattle.rdfs.proofs.append_type.Reads as reads
-use Rattle.rdfs.proofs.append_type.Lts as lts
 
--- src/lib.rt:65:9
 mul-found : tie.Need-mul-found
 mul-found c = search needs
 
--- src/lib.rt:65:9
 slice-write-found : tie.Need-slice-write-found
 slice-write-found c = search needs
 
--- src/lib.rt:66:16
 add-result : tie.Need-add-result
 add-result c = search needs
 
--- src/lib.rt:66:9
 same-length : tie.Need-same-length
 same-length c = search needs
 
--- src/lib.rt:66:9
 returns : tie.Need-returns
 returns c = let s = c .before .before in (listed-type (s .args .fact) (s .args .found .now) _ (s .pre) (c .if1 .taken), search needs)
 
--- src/lib.rt:59:1
 returns-2 : tie.Need-returns-2
 returns-2 c = let s = c .before .before in (listed-untyped (s .args .fact) (s .args .found .now) _ (c .if1 .left), search needs)
 

@@ -7,50 +7,34 @@ use Rattle.rdfs.proofs.WrittenLaws.{table-statements, few-rows, carried
 use borrow.Author.Needs.{needs}
 use Rattle.rdfs.proofs.carry.Statement.{statement}
 use Rattle.rdfs.proofs.carry.Tie as tie
-use Rattle.rdfs.proofs.carry.Reads as reads
-use Rattle.rdfs.proofs.carry.Lts as lts
-use Rattle.rdfs.proofs.find_terms.Reads as find-terms-reads
-use Rattle.rdfs.proofs.no_terms.Reads as no-terms-reads
-use Rattle.rdfs.proofs.write_conclusions.Reads as write-conclusions-reads
-use Rattle.sort.proofs.sort_distinct.Reads as sort-distinct-reads
 
--- src/lib.rt:172:13
 shared-slice-read-m : tie.Need-shared-slice-read-m
 shared-slice-read-m c = let s = c .before .before .before in omega (arith, table-statements (s .args .statements .now) _ (s .pre .0) refl .size)
 
--- src/lib.rt:172:13
 cast-m : tie.Need-cast-m
 cast-m c = omega (arith, c .shared-slice-known2 .given 0)
 
--- src/lib.rt:173:21
 no-terms-requires : tie.Need-no-terms-requires
 no-terms-requires c κs = search needs
 
--- src/lib.rt:174:48
 slice-aggregate-find-terms : tie.Need-slice-aggregate-find-terms
 slice-aggregate-find-terms c = search needs
 
--- src/lib.rt:174:9
 find-terms-requires : tie.Need-find-terms-requires
 find-terms-requires c κs = let s = c .before .before .before .before .before in let t = c .before .no-terms in (table-statements (s .args .statements .now) _ (s .pre .0) refl, omega (arith, ap length (t .ensures) ∙ length-replicate {A = ℕ} 1026 0))
 
--- src/lib.rt:175:35
 slice-aggregate-write-conclusions : tie.Need-slice-aggregate-write-conclusions
 slice-aggregate-write-conclusions c = search needs
 
--- src/lib.rt:175:5
 write-conclusions-requires : tie.Need-write-conclusions-requires
 write-conclusions-requires c κs = let s = c .before .before .before .before .before .before .before .before .before in let t = c .before .before .before .before .before .no-terms in let f = c .before .before .before .find-terms in let n = few-rows (s .args .statements .now) _ (s .args .fact) (f .last .1 .1 .1 .0) _ _ _ (s .pre .0) refl (f .ensures) in (omega (arith, n, f .kept .1 .1 .1 .0, ap length (t .ensures) ∙ length-replicate {A = ℕ} 1026 0), omega (arith, n, s .pre .1))
 
--- src/lib.rt:177:5
 sort-distinct-requires : tie.Need-sort-distinct-requires
 sort-distinct-requires c κs = let s = c .before .before .before .before .before .before .before .before .before .before .before .before .before in let f = c .before .before .before .before .before .before .before .find-terms in let w = c .before .before .before .write-conclusions in let n = few-rows (s .args .statements .now) _ (s .args .fact) (f .last .1 .1 .1 .0) _ _ _ (s .pre .0) refl (f .ensures) in omega (arith, n, s .pre .1, w .kept .1 .1 .1 .0)
 
--- src/lib.rt:166:1
 same-length : tie.Need-same-length
 same-length c = search needs
 
--- src/lib.rt:166:1
 returns : tie.Need-returns
 returns c = let s = c .before .before .before .before .before .before .before .before .before .before .before .before .before .before .before .before in let f = c .before .before .before .before .before .before .before .before .before .before .find-terms in let w = c .before .before .before .before .before .before .write-conclusions in let x = c .before .before .sort-distinct in carried-words (s .args .statements .now) _ (s .args .fact) (f .last .1 .1 .1 .0) _ _ _ (s .pre .0) refl (f .ensures) (w .last .1 .1 .1 .0) (x .last .0) _ (w .ensures) (omega (arith, s .pre .1, w .kept .1 .1 .1 .0)) (x .kept .0) (x .ensures)
 

@@ -4,18 +4,13 @@ use native.Mathlib.Omega.{arith}
 use Rattle.rdfs.proofs.WrittenLaws.{at-property, at-subject, at-object}
 use Rattle.rdfs.proofs.conclusion.Statement.{statement}
 use Rattle.rdfs.proofs.conclusion.Tie as tie
-use Rattle.rdfs.proofs.conclusion.Reads as reads
-use Rattle.rdfs.proofs.conclusion.Lts as lts
 
--- src/lib.rt:128:9
 returns : tie.Need-returns
 returns c = let s = c .before .before in sym (at-property (s .args .fact) _ _ _ _ (c .if1 .taken))
 
--- src/lib.rt:135:9
 returns-2 : tie.Need-returns-2
 returns-2 c = let s = c .before .before .before .before in sym (at-subject (s .args .fact) _ _ _ _ (c .before .before .if1 .left) (c .if2 .taken))
 
--- src/lib.rt:124:1
 returns-3 : tie.Need-returns-3
 returns-3 c = let s = c .before .before .before .before in sym (at-object (s .args .fact) _ _ _ _ (c .before .before .if1 .left) (c .if2 .left))
 

@@ -1,5 +1,5 @@
-use borrow.Author.Needs.{needs}
 -- The invariant: the first i conclusions are written.
+use borrow.Author.Needs.{needs}
 use mathlib.Core.Path.{_≡_, refl, _∙_}
 use Prim.Native.Nat.{_≤_, _-_}
 use native.Mathlib.Omega.{arith}
@@ -7,9 +7,6 @@ use lib.ListN.{length, length-set}
 use Rattle.rdfs.proofs.WrittenLaws.{Written, written-more, length-put}
 use Rattle.rdfs.proofs.write_conclusions.Statement.{statement}
 use Rattle.rdfs.proofs.write_conclusions.Tie as tie
-use Rattle.rdfs.proofs.write_conclusions.Reads as reads
-use Rattle.rdfs.proofs.write_conclusions.Lts as lts
-use Rattle.rdfs.proofs.conclusion.Reads as conclusion-reads
 
 abbrev Inv-loop : tie.InvT-loop
 Inv-loop fact ends found out₀ n i₀ out i = (length out ≡ length out₀) × (i ≤ n) × Written fact (ends .properties) (ends .subject) found out i
@@ -17,75 +14,57 @@ Inv-loop fact ends found out₀ n i₀ out i = (length out ≡ length out₀) ×
 abbrev μ-loop : tie.MeasureT-loop
 μ-loop fact ends found out₀ n i₀ out i = n - i
 
--- src/lib.rt:155:5
 loop-holds : tie.Need-loop-holds Inv-loop μ-loop
 loop-holds c = (refl, search needs, λ j h. absurd (omega arith))
 
--- src/lib.rt:156:40
 mul-conclusion : tie.Need-mul-conclusion Inv-loop μ-loop
 mul-conclusion c = search needs
 
--- src/lib.rt:156:40
 shared-slice-read-conclusion : tie.Need-shared-slice-read-conclusion Inv-loop μ-loop
 shared-slice-read-conclusion c = search needs
 
--- src/lib.rt:156:13
 conclusion-requires : tie.Need-conclusion-requires Inv-loop μ-loop
 conclusion-requires c κs = search needs
 
--- src/lib.rt:157:18
 mul-at : tie.Need-mul-at Inv-loop μ-loop
 mul-at c = search needs
 
--- src/lib.rt:158:9
 mul-out : tie.Need-mul-out Inv-loop μ-loop
 mul-out c = search needs
 
--- src/lib.rt:158:9
 slice-write-out : tie.Need-slice-write-out Inv-loop μ-loop
 slice-write-out c = search needs
 
--- src/lib.rt:159:13
 add-out : tie.Need-add-out Inv-loop μ-loop
 add-out c = search needs
 
--- src/lib.rt:159:9
 mul-out-2 : tie.Need-mul-out-2 Inv-loop μ-loop
 mul-out-2 c = search needs
 
--- src/lib.rt:159:9
 slice-write-out-2 : tie.Need-slice-write-out-2 Inv-loop μ-loop
 slice-write-out-2 c = let s = c .before .before .before .before .before .before in let l = c .before .before .before .loop in simp length-set (omega (arith, l .inv .0, s .pre .1, c .before .before .loop-test .taken))
 
--- src/lib.rt:160:13
 add-out-2 : tie.Need-add-out-2 Inv-loop μ-loop
 add-out-2 c = search needs
 
--- src/lib.rt:160:9
 mul-out-3 : tie.Need-mul-out-3 Inv-loop μ-loop
 mul-out-3 c = search needs
 
--- src/lib.rt:160:9
 slice-write-out-3 : tie.Need-slice-write-out-3 Inv-loop μ-loop
 slice-write-out-3 c = let s = c .before .before .before .before .before .before in let l = c .before .before .before .loop in simp length-set (omega (arith, l .inv .0, s .pre .1, c .before .before .loop-test .taken))
 
--- src/lib.rt:161:9
 add-i : tie.Need-add-i Inv-loop μ-loop
 add-i c = search needs
 
--- src/lib.rt:155:5
 loop-less : tie.Need-loop-less Inv-loop μ-loop
 loop-less c = search needs
 
--- src/lib.rt:155:5
 loop-again : tie.Need-loop-again Inv-loop μ-loop
 loop-again c = let s = c .before .before .before .before .before .before in let l = c .before .before .before .loop in let k = c .conclusion in (length-put (l .out) _ (k .result) ∙ l .inv .0, search needs, written-more (s .args .fact) _ _ (s .args .found .now) (l .out) _ (k .result) (omega (arith, l .inv .0, s .pre .1, c .before .before .loop-test .taken)) (k .ensures) (l .inv .2))
 
--- src/lib.rt:149:1
 same-length : tie.Need-same-length Inv-loop μ-loop
 same-length c = search needs
 
--- src/lib.rt:149:1
 returns : tie.Need-returns Inv-loop μ-loop
 returns c = let s = c .before .before .before .before in let l = c .before .loop in λ i h. l .inv .2 i (omega (arith, c .loop-test .left))
 

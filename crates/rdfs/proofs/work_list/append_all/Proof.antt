@@ -1,14 +1,11 @@
-use borrow.Author.Needs.{needs}
 -- The invariant `Turn`: the subjects at the places passed are done.
+use borrow.Author.Needs.{needs}
 use Prim.Native.Nat.{_≤_, _-_}
 use mathlib.Core.Path.{refl, _≡_}
 use native.Mathlib.Omega.{arith}
 use Rattle.rdfs.proofs.WorkLaws.{Turn, turn-begin, turn-room, turn-more, all-end}
 use Rattle.rdfs.proofs.work_list.append_all.Statement.{statement}
 use Rattle.rdfs.proofs.work_list.append_all.Tie as tie
-use Rattle.rdfs.proofs.work_list.append_all.Reads as reads
-use Rattle.rdfs.proofs.work_list.append_all.Lts as lts
-use Rattle.rdfs.proofs.work_list.append_objects.Reads as append-objects-reads
 
 abbrev Inv-loop : tie.InvT-loop
 Inv-loop st m k used₀ found₀ from to n e₀ i₀ used found e i = (i ≤ to) × Turn st m k from used₀ found₀ n used found e i
@@ -16,43 +13,33 @@ Inv-loop st m k used₀ found₀ from to n e₀ i₀ used found e i = (i ≤ to)
 abbrev μ-loop : tie.MeasureT-loop
 μ-loop st m k used₀ found₀ from to n e₀ i₀ used found e i = to - i
 
--- src/work_list.rt:88:5
 loop-holds : tie.Need-loop-holds Inv-loop μ-loop
 loop-holds c = let s = c .before .before .before in (search needs, turn-begin (s .args .st .now) _ _ _ (s .args .used .now) (s .args .found .now) _ (s .pre .1 .0))
 
--- src/work_list.rt:89:17
 mul-x : tie.Need-mul-x Inv-loop μ-loop
 mul-x c = search needs
 
--- src/work_list.rt:89:17
 slice-read-x : tie.Need-slice-read-x Inv-loop μ-loop
 slice-read-x c = search needs
 
--- src/work_list.rt:90:9
 append-objects-requires : tie.Need-append-objects-requires Inv-loop μ-loop
 append-objects-requires c κs = let s = c .before .before .before .before .before .before .before .before in let l = c .before .before .before .before .loop in (s .pre .0, turn-room (l .inv .1) (s .pre .1 .0))
 
--- src/work_list.rt:91:9
 add-i : tie.Need-add-i Inv-loop μ-loop
 add-i c = search needs
 
--- src/work_list.rt:88:5
 loop-less : tie.Need-loop-less Inv-loop μ-loop
 loop-less c = search needs
 
--- src/work_list.rt:88:5
 loop-again : tie.Need-loop-again Inv-loop μ-loop
 loop-again c = let s = c .before .before .before .before .before .before .before .before .before .before .before .before .before in let l = c .before .before .before .before .before .before .before .before .before .loop in let a = c .before .before .before .before .append-objects in (search needs, (turn-more (l .inv .1) _ refl (omega (arith, l .inv .0, c .before .before .before .before .before .before .before .before .loop-test .taken, l .inv .1 .done .grown .grows, s .pre .1 .1 .1)) (a .ensures) (a .kept .1 .1 .1 .1 .0) (a .kept .1 .1 .1 .1 .1 .0)))
 
--- src/work_list.rt:78:1
 same-length : tie.Need-same-length Inv-loop μ-loop
 same-length c = search needs
 
--- src/work_list.rt:78:1
 same-length-2 : tie.Need-same-length-2 Inv-loop μ-loop
 same-length-2 c = search needs
 
--- src/work_list.rt:78:1
 returns : tie.Need-returns Inv-loop μ-loop
 returns c = let s = c .before .before .before .before .before in let l = c .before .loop in let q : l .i ≡ s .args .to = omega arith in let t = rw q at (l .inv .1) in (t .done .grown, all-end (s .pre .1 .1 .1 .1) (s .pre .1 .1 .0) t)
 

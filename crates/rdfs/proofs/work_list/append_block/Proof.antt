@@ -1,5 +1,5 @@
-use borrow.Author.Needs.{needs}
 -- The invariant `Block`: the rows passed are of the subject and the property, and each has its mark and its object in place.
+use borrow.Author.Needs.{needs}
 use Prim.Native.Nat.{_-_}
 use native.Mathlib.Omega.{arith}
 use borrow.Author.Tests.{not-true, not-false}
@@ -7,9 +7,6 @@ use Rattle.table.specs.Table.{rowAt}
 use Rattle.rdfs.proofs.MarkLaws.{Block, block-begin, block-place, block-more, block-end, block-stops}
 use Rattle.rdfs.proofs.work_list.append_block.Statement.{statement}
 use Rattle.rdfs.proofs.work_list.append_block.Tie as tie
-use Rattle.rdfs.proofs.work_list.append_block.Reads as reads
-use Rattle.rdfs.proofs.work_list.append_block.Lts as lts
-use Rattle.rdfs.proofs.work_list.has_subject.Reads as has-subject-reads
 
 abbrev Inv-loop : tie.InvT-loop
 Inv-loop st m k x first used₀ found₀ n e₀ j₀ used found e j = Block st m k x first used₀ found₀ n used found e j
@@ -17,84 +14,64 @@ Inv-loop st m k x first used₀ found₀ n e₀ j₀ used found e j = Block st m
 abbrev μ-loop : tie.MeasureT-loop
 μ-loop st m k x first used₀ found₀ n e₀ j₀ used found e j = m - j
 
--- src/work_list.rt:28:5
 loop-holds : tie.Need-loop-holds Inv-loop μ-loop
 loop-holds c = search needs
 
--- src/work_list.rt:29:13
 has-subject-requires : tie.Need-has-subject-requires Inv-loop μ-loop
 has-subject-requires c κs = search needs
 
--- src/work_list.rt:30:13
 same-length : tie.Need-same-length Inv-loop μ-loop
 same-length c = search needs
 
--- src/work_list.rt:30:13
 same-length-2 : tie.Need-same-length-2 Inv-loop μ-loop
 same-length-2 c = search needs
 
--- src/work_list.rt:30:13
 returns : tie.Need-returns Inv-loop μ-loop
 returns c = block-end (c .before .before .before .before .before .before .before .args .st .now) _ _ _ _ (c .before .before .before .before .before .before .before .args .used .now) (c .before .before .before .before .before .before .before .args .found .now) _ (c .before .before .before .loop .used) (c .before .before .before .loop .found) _ _ (c .before .before .before .loop .inv) (c .before .before .before .before .before .before .before .pre .1 .1 .0) (c .before .before .before .before .before .before .before .pre .1 .0) (block-stops (c .before .before .before .before .before .before .before .args .st .now) _ _ _ _ _ (c .before .before .before .before .before .before .before .pre .0) (c .before .before .before .before .before .before .before .pre .1 .0) (c .before .before .before .loop .inv .low) (c .before .before .loop-test .taken) (c .before .has-subject .ensures .if-false (not-true _ (c .if1 .taken))))
 
--- src/work_list.rt:32:18
 mul-at : tie.Need-mul-at Inv-loop μ-loop
 mul-at c = search needs
 
--- src/work_list.rt:32:18
 add-at : tie.Need-add-at Inv-loop μ-loop
 add-at c = search needs
 
--- src/work_list.rt:33:9
 slice-write-used : tie.Need-slice-write-used Inv-loop μ-loop
 slice-write-used c = search needs
 
--- src/work_list.rt:34:23
 add-found : tie.Need-add-found Inv-loop μ-loop
 add-found c = search needs
 
--- src/work_list.rt:34:20
 mul-found : tie.Need-mul-found Inv-loop μ-loop
 mul-found c = search needs
 
--- src/work_list.rt:34:20
 shared-slice-read-found : tie.Need-shared-slice-read-found Inv-loop μ-loop
 shared-slice-read-found c = search needs
 
--- src/work_list.rt:34:9
 mul-found-2 : tie.Need-mul-found-2 Inv-loop μ-loop
 mul-found-2 c = search needs
 
--- src/work_list.rt:34:9
 slice-write-found : tie.Need-slice-write-found Inv-loop μ-loop
 slice-write-found c = block-place (c .before .before .before .before .before .before .before .before .args .st .now) _ _ _ _ (c .before .before .before .before .before .before .before .before .args .used .now) (c .before .before .before .before .before .before .before .before .args .found .now) _ (c .before .before .before .before .loop .used) (c .before .before .before .before .loop .found) _ _ (c .before .before .before .before .loop .inv) (c .before .before .before .before .before .before .before .before .pre .1 .1 .0) (c .before .before .before .loop-test .taken) (c .before .before .has-subject .ensures .if-true (not-false _ (c .before .if1 .left))) (c .before .before .before .before .before .before .before .before .pre .1 .1 .1)
 
--- src/work_list.rt:35:9
 add-e : tie.Need-add-e Inv-loop μ-loop
 add-e c = search needs
 
--- src/work_list.rt:36:9
 add-j : tie.Need-add-j Inv-loop μ-loop
 add-j c = search needs
 
--- src/work_list.rt:28:5
 loop-less : tie.Need-loop-less Inv-loop μ-loop
 loop-less c = search needs
 
--- src/work_list.rt:28:5
 loop-again : tie.Need-loop-again Inv-loop μ-loop
 unfolding rowAt
 loop-again c = block-more (c .before .before .before .before .before .before .before .before .args .st .now) _ _ _ _ (c .before .before .before .before .before .before .before .before .args .used .now) (c .before .before .before .before .before .before .before .before .args .found .now) _ (c .before .before .before .before .loop .used) (c .before .before .before .before .loop .found) _ _ (c .before .before .before .before .loop .inv) (c .before .before .before .before .before .before .before .before .pre .1 .1 .0) (c .before .before .before .loop-test .taken) (c .before .before .has-subject .ensures .if-true (not-false _ (c .before .if1 .left))) (c .before .before .before .before .before .before .before .before .pre .1 .1 .1)
 
--- src/work_list.rt:19:1
 same-length-3 : tie.Need-same-length-3 Inv-loop μ-loop
 same-length-3 c = search needs
 
--- src/work_list.rt:19:1
 same-length-4 : tie.Need-same-length-4 Inv-loop μ-loop
 same-length-4 c = search needs
 
--- src/work_list.rt:19:1
 returns-2 : tie.Need-returns-2 Inv-loop μ-loop
 returns-2 c = block-end (c .before .before .before .before .before .args .st .now) _ _ _ _ (c .before .before .before .before .before .args .used .now) (c .before .before .before .before .before .args .found .now) _ (c .before .loop .used) (c .before .loop .found) _ _ (c .before .loop .inv) (c .before .before .before .before .before .pre .1 .1 .0) (c .before .before .before .before .before .pre .1 .0) (λ i a l h. absurd (omega arith))
 

@@ -5,40 +5,28 @@ use Rattle.rdfs.proofs.MarkLaws.{same-mark, extended-none}
 use borrow.Author.Needs.{needs}
 use Rattle.rdfs.proofs.work_list.append_objects.Statement.{statement}
 use Rattle.rdfs.proofs.work_list.append_objects.Tie as tie
-use Rattle.rdfs.proofs.work_list.append_objects.Reads as reads
-use Rattle.rdfs.proofs.work_list.append_objects.Lts as lts
-use Rattle.rdfs.proofs.work_list.append_block.Reads as append-block-reads
-use Rattle.rdfs.proofs.work_list.first_row.Reads as first-row-reads
 
--- src/work_list.rt:67:9
 first-row-requires : tie.Need-first-row-requires
 first-row-requires c κs = search needs
 
--- src/work_list.rt:69:9
 returns : tie.Need-returns
 returns c = let s = c .before .before .before .before .before in let f = c .before .first-row in extended-none (s .args .st .now) _ _ _ (s .args .used .now) (s .args .found .now) _ (s .pre .1) (λ j l p q z. let w = same-mark (s .args .st .now) _ _ _ _ (s .args .used .now) (s .args .found .now) _ (s .pre .0) (f .ensures) (s .pre .1) j l (record { subject = q; property = p }) in omega (arith, w .0, c .if1 .taken))
 
--- src/work_list.rt:71:8
 slice-read-if2 : tie.Need-slice-read-if2
 slice-read-if2 c = search needs
 
--- src/work_list.rt:72:9
 returns-2 : tie.Need-returns-2
 returns-2 c = let s = c .before .before .before .before .before .before .before in let f = c .before .before .before .first-row in extended-none (s .args .st .now) _ _ _ (s .args .used .now) (s .args .found .now) _ (s .pre .1) (λ j l p q z. let w = same-mark (s .args .st .now) _ _ _ _ (s .args .used .now) (s .args .found .now) _ (s .pre .0) (f .ensures) (s .pre .1) j l (record { subject = q; property = p }) in c .if2 .taken (sym (w .1) ∙ z))
 
--- src/work_list.rt:74:5
 append-block-requires : tie.Need-append-block-requires
 append-block-requires c κs = let s = c .before .before .before .before .before .before .before .before .before in let f = c .before .before .before .before .before .first-row in (s .pre .0, (f .ensures, (s .pre .1, λ j l h. let w = same-mark (s .args .st .now) _ _ _ _ (s .args .used .now) (s .args .found .now) _ (s .pre .0) (f .ensures) (s .pre .1) j l h in w .1 ∙ c .before .before .if2 .left)))
 
--- src/work_list.rt:62:1
 same-length : tie.Need-same-length
 same-length c = search needs
 
--- src/work_list.rt:62:1
 same-length-2 : tie.Need-same-length-2
 same-length-2 c = search needs
 
--- src/work_list.rt:62:1
 returns-3 : tie.Need-returns-3
 returns-3 c = search needs
 

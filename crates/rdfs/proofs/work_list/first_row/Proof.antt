@@ -4,27 +4,19 @@ use Rattle.rdfs.proofs.Begin.{begins-at, begins-gap}
 use borrow.Author.Needs.{needs}
 use Rattle.rdfs.proofs.work_list.first_row.Statement.{statement}
 use Rattle.rdfs.proofs.work_list.first_row.Tie as tie
-use Rattle.rdfs.proofs.work_list.first_row.Reads as reads
-use Rattle.rdfs.proofs.work_list.first_row.Lts as lts
-use Rattle.table.proofs.find.Reads as find-reads
 
--- src/work_list.rt:54:11
 find-requires : tie.Need-find-requires
 find-requires c κs = search needs
 
--- src/work_list.rt:55:19
 enum-known-i : tie.Need-enum-known-i
 enum-known-i c = search needs
 
--- src/work_list.rt:56:20
 enum-known-i-2 : tie.Need-enum-known-i-2
 enum-known-i-2 c = search needs
 
--- src/work_list.rt:45:1
 returns : tie.Need-returns
 returns c = begins-at (c .before .before .before .before .before .args .st .now) _ _ _ _ (c .before .before .before .before .before .pre) (sym (c .before .before .before .find .ensures) ∙ c .before .i .given .1)
 
--- src/work_list.rt:45:1
 returns-2 : tie.Need-returns-2
 returns-2 c = begins-gap (c .before .before .before .before .before .args .st .now) _ _ _ _ (c .before .before .before .before .before .pre) (sym (c .before .before .before .find .ensures) ∙ c .before .i2 .given .1)
 

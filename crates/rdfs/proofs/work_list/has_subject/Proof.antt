@@ -3,38 +3,28 @@ use Rattle.rdfs.proofs.MarkLaws.{has-tells}
 use borrow.Author.Needs.{needs}
 use Rattle.rdfs.proofs.work_list.has_subject.Statement.{statement}
 use Rattle.rdfs.proofs.work_list.has_subject.Tie as tie
-use Rattle.rdfs.proofs.work_list.has_subject.Reads as reads
-use Rattle.rdfs.proofs.work_list.has_subject.Lts as lts
 
--- src/work_list.rt:13:14
 mul-at : tie.Need-mul-at
 mul-at c = search needs
 
--- src/work_list.rt:13:14
 add-at : tie.Need-add-at
 add-at c = search needs
 
--- src/work_list.rt:14:6
 mul-result : tie.Need-mul-result
 mul-result c = search needs
 
--- src/work_list.rt:14:6
 shared-slice-read-result : tie.Need-shared-slice-read-result
 shared-slice-read-result c = search needs
 
--- src/work_list.rt:14:25
 add-result : tie.Need-add-result
 add-result c = search needs
 
--- src/work_list.rt:14:22
 mul-result-2 : tie.Need-mul-result-2
 mul-result-2 c = search needs
 
--- src/work_list.rt:14:22
 shared-slice-read-result-2 : tie.Need-shared-slice-read-result-2
 shared-slice-read-result-2 c = search needs
 
--- src/work_list.rt:9:1
 returns : tie.Need-returns
 returns c = has-tells (c .before .before .args .st .now) _ _ _
 
