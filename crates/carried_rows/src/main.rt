@@ -40,7 +40,7 @@ fn print_carried(statements: &[u32], fact: Triple) {
         return;
     }
     let mut rows = no_rows();
-    let n = rdfs::carry(statements, fact, &mut rows);
+    let n = carry::carry(statements, fact, &mut rows);
     print_rows(&rows, n);
 }
 
