@@ -6,7 +6,7 @@ use mathlib.Core.Bool.{Bool, true, false, _&&_, _||_, not, cond}
 use mathlib.Core.List.{List, [], _∷_, _++_, map, flatMap, List·Memᴰ}
 use lib.Dec.{eqb}
 use Rattle.rdf.specs.declared.Triple.{Triple}
-use Rattle.rdf.specs.Term.{type, subClassOf, subPropertyOf, domain, range, isVariable}
+use Rattle.rdf.specs.Term.{type, subClassOf, subPropertyOf, domain, range, isLiteral, isVariable}
 use Rattle.rdf.specs.Triple.{triple}
 use Rattle.rdf.specs.Order.{ascend}
 use Rattle.rdfs.specs.Entailment.{Reach}
@@ -38,6 +38,33 @@ pub data IsAlternative (S : List Triple) (a : Triple) : ℕ → ℕ → ℕ → 
   by-range : {p q c d : ℕ} → Reach S subPropertyOf p q → List·Memᴰ (triple q range c) S → Reach S subClassOf c d → admitsClass a d ≡ true → IsAlternative S a 3 p d
   -- "Kind 4: a source b gives a target b, by one or more subproperty steps, source and target different."
   by-subproperty : {p q : ℕ} → Reach S subPropertyOf p q → ¬ (p ≡ q) → admitsProperty a q ≡ true → IsAlternative S a 4 p q
+
+-- What an alternative gives of an explicit fact.
+pub data Gives : ℕ → ℕ → ℕ → Triple → Triple → Type 0 where
+  -- "An explicit triple as it is."
+  itself : {f : Triple} → Gives 0 0 0 f f
+  -- "A 1 source gives a 1 target."
+  a-class : {x c d : ℕ} → Gives 1 c d (triple x type c) (triple x type d)
+  -- "A source b gives a 1 target."
+  of-subject : {x p y d : ℕ} → Gives 2 p d (triple x p y) (triple x type d)
+  -- "The same with range, for b not a literal."
+  of-object : {x p y d : ℕ} → isLiteral y ≡ false → Gives 3 p d (triple x p y) (triple y type d)
+  -- "A source b gives a target b."
+  a-property : {x p q y : ℕ} → Gives 4 p q (triple x p y) (triple x q y)
+
+-- A triple that some alternative of an atom gives of some explicit fact.
+pub record Reformulated (S F : List Triple) (a t : Triple) : Type 0 where
+  pub kind : ℕ
+  pub source : ℕ
+  pub target : ℕ
+  pub fact : Triple
+  pub alternative : IsAlternative S a kind source target
+  pub listed : List·Memᴰ fact F
+  pub gives : Gives kind source target fact t
+
+-- Whether an atom's property and object admit those of a triple.
+abbrev pub admitsTriple : Triple → Triple → Bool
+admitsTriple a t = admits (a .property) (t .property) && admits (a .object) (t .object)
 
 -- ---- computed
 

@@ -7,9 +7,10 @@ use native.Mathlib.Numerals.{add-one}
 use native.Mathlib.Omega.{arith}
 use lib.ListN.{length, getD, drop, take, replicate, length-drop, length-replicate, getD-replicate, take-append-drop}
 use lib.Seq.{drop-cons, drop-drop, take-add, length-take-le, getD-take, getD-drop, ext-getD}
-use Rattle.sort.specs.Rows.{row, tabulate, rows, flat}
+use Rattle.sort.specs.Rows.{row, rowAt, tabulate, rows, flat}
 use Rattle.sort.specs.Effects.{HoldsRows}
 use Rattle.sort.proofs.RowWords.{drop-ext}
+use Rattle.sort.proofs.Tables.{tabulate-length}
 
 -- A row is a part of the words.
 pub row-take : (m p : ℕ) (s : List ℕ) → p + m ≤ length s → row m p s ≡ take m (drop p s)
@@ -50,3 +51,7 @@ holds-words m n r t s R h z l =
     getD-take ((n - r) * m) (drop (r * m) s) i 0 g₂ ∙ getD-drop (r * m) s i 0 ∙ h .zeros (r * m + i) (omega arith) (omega arith) ∙ sym (getD-replicate {A = ℕ} ((n - r) * m) i 0 0 g₂)) in
     let d : drop ((n - r) * m) (drop (r * m) s) ≡ drop (n * m) t = drop-drop ((n - r) * m) (r * m) s ∙ ap (λ (x : ℕ). drop x s) k ∙ drop-ext (n * m) t s z (h .after) in
     sym (take-append-drop (r * m) s) ∙ ap₂ (λ (x y : List ℕ). x ++ y) a (sym (take-append-drop ((n - r) * m) (drop (r * m) s)) ∙ ap₂ (λ (x y : List ℕ). x ++ y) b d)
+
+-- The count that `HoldsRows` names is the number of its rows.
+pub holds-count : (m n r : ℕ) (t s : List ℕ) (R : List (List ℕ)) → HoldsRows m n t s r R → length R ≡ r
+holds-count m n r t s R h = ap length (sym (h .holds)) ∙ tabulate-length (rowAt m s) 0 r

@@ -1,0 +1,1 @@
+// Listings of a table in the six column orders.
