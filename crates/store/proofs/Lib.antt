@@ -4,3 +4,5 @@ pub mod RaisePass
 pub mod Lower
 pub mod LowerPass
 pub mod Missing
+pub mod Outcomes
+pub mod Facts
