@@ -6,3 +6,4 @@ pub mod LowerPass
 pub mod Missing
 pub mod Outcomes
 pub mod Facts
+pub mod Fitting

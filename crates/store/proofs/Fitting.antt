@@ -1,0 +1,137 @@
+-- Contents that tables can hold: what they are, put into the tables and read again. Assumes nothing.
+use Prim.Native.Nat.{ℕ, zero, suc, _+_, _-_, _*_, _≤_, _<_, min}
+use mathlib.Core.Path.{_≡_, refl, sym, ap, ap₂, _∙_, subst}
+use mathlib.Core.Bool.{Bool, true, false}
+use mathlib.Core.Logic.{_⊎_, ⊎-elim}
+use mathlib.Core.List.{List, [], _∷_, _++_, zip, zipWith, map, List·Memᴰ, List·Memᴰ·head, List·Memᴰ·tail, List·Memᴰ·cases-cons}
+use native.Mathlib.Omega.{arith}
+use lib.ListN.{length, take, replicate, length-map}
+use lib.Seq.{take-at}
+use Rattle.rdf.specs.declared.Triple.{Triple}
+use Rattle.rdf.specs.Triple.{isAllowedStatement, isAllowedFact}
+use Rattle.rdf.specs.Order.{Ascending}
+use Rattle.table.specs.Table.{capacity, mostStatements, mostFacts, mostKept, count, rows, flatten, layout, supportLayout, all, isSupport, isTable, isSupportTable, isStore, isStatementTable, isFactTable, isKeptTable}
+use Rattle.table.specs.Laid.{WellFormed, Supports, FormedStore}
+use Rattle.table.proofs.Rows.{length-rows, rows-layout, length-layout, count-layout}
+use Rattle.table.proofs.Formed.{capacity-fits, capacity-most, layout-isTable}
+use Rattle.table.proofs.Supports.{length-supportLayout, supportLayout-is, isSupport-between, between-isSupport}
+use Rattle.table.proofs.All.{all-member, member-all}
+use Rattle.table.proofs.Store.{isStore-formed}
+use Rattle.rdfs.specs.Saturation.{Kept, keptRows, keptSupports}
+use Rattle.store.specs.Store.{Tables, tables, areFormed, Contents, contents, keptOf, contentsOf, put, statementCapacity, factCapacity, keptCapacity}
+use Rattle.store.proofs.Entries.{keptSupports-entries, keptOf-entries}
+use Rattle.store.proofs.Facts.{kept-tables, keptRows-keptOf, length-keptOf}
+
+-- ---- contents read again
+
+zip-kept : (k : Kept) (z : List ℕ) → zip (keptRows k) (keptSupports k ++ z) ≡ k
+unfolding zip zipWith
+zip-kept [] z = refl
+zip-kept (e ∷ k) z = ap (λ (l : Kept). e ∷ l) (zip-kept k z)
+
+-- What is put into tables is what they hold.
+pub contentsOf-put : (c : Contents) (T : Tables) → contentsOf (put c T) ≡ c
+unfolding contentsOf put keptOf supportLayout
+contentsOf-put c T =
+    let z : List ℕ = replicate (length (T .supports) - length (keptSupports (c .kept))) 0 in
+    simp rows-layout (λ i. contents (c .statements) (c .facts) (zip-kept (c .kept) z i))
+
+-- ---- contents that fit
+
+-- Contents that tables of the lengths of T can hold, well formed.
+pub record Fitting (c : Contents) (T : Tables) : Type 0 where
+  pub statements-ascend : Ascending (c .statements)
+  pub facts-ascend : Ascending (c .facts)
+  pub kept-ascend : Ascending (keptRows (c .kept))
+  pub statements-allowed : (u : Triple) → List·Memᴰ u (c .statements) → isAllowedStatement u ≡ true
+  pub facts-allowed : (u : Triple) → List·Memᴰ u (c .facts) → isAllowedFact u ≡ true
+  pub kept-allowed : (u : Triple) → List·Memᴰ u (keptRows (c .kept)) → isAllowedFact u ≡ true
+  pub statements-fit : length (c .statements) ≤ statementCapacity T
+  pub facts-fit : length (c .facts) ≤ factCapacity T
+  pub kept-fit : length (c .kept) ≤ keptCapacity T
+  pub supports-between : (n : ℕ) → List·Memᴰ n (keptSupports (c .kept)) → (1 ≤ n) × (n ≤ length (c .facts))
+
+-- Each table of rows has a word.
+pub record Worded (T : Tables) : Type 0 where
+  pub statement-words : 0 < length (T .statements)
+  pub fact-words : 0 < length (T .facts)
+  pub kept-words : 0 < length (T .kept)
+
+-- The tables have the same lengths, and so the same capacities.
+pub record SameLengths (T T' : Tables) : Type 0 where
+  pub same-statements : length (T .statements) ≡ length (T' .statements)
+  pub same-facts : length (T .facts) ≡ length (T' .facts)
+  pub same-kept : length (T .kept) ≡ length (T' .kept)
+  pub same-supports : length (T .supports) ≡ length (T' .supports)
+
+length-rows-of : (k : Kept) → length (keptRows k) ≡ length k
+length-rows-of k = length-map k (λ (e : Triple × ℕ). e .0)
+
+length-supports-of : (k : Kept) → length (keptSupports k) ≡ length k
+length-supports-of k = length-map k (λ (e : Triple × ℕ). e .1)
+
+module _ {c : Contents} {T : Tables} (X : Fitting c T) (H : Worded T) where
+  statement-room : length (c .statements) * 3 < length (T .statements)
+  statement-room = capacity-fits mostStatements (T .statements) (length (c .statements)) (H .statement-words) (X .statements-fit)
+
+  fact-room : length (c .facts) * 3 < length (T .facts)
+  fact-room = capacity-fits mostFacts (T .facts) (length (c .facts)) (H .fact-words) (X .facts-fit)
+
+  kept-room : length (keptRows (c .kept)) * 3 < length (T .kept)
+  kept-room = capacity-fits mostKept (T .kept) (length (keptRows (c .kept))) (H .kept-words) (rw (length-rows-of (c .kept)) (let h = X .kept-fit in omega arith))
+
+  -- Put into the tables they are well formed,
+  pub put-formed : areFormed (put c T) ≡ true
+  unfolding isStore put
+  put-formed =
+      let s = layout-isTable isAllowedStatement mostStatements (length (T .statements)) (c .statements) statement-room (let h = X .statements-fit in omega (arith, capacity-most mostStatements (T .statements))) (X .statements-ascend) (member-all isAllowedStatement (c .statements) (X .statements-allowed)) in
+      let f = layout-isTable isAllowedFact mostFacts (length (T .facts)) (c .facts) fact-room (let h = X .facts-fit in omega (arith, capacity-most mostFacts (T .facts))) (X .facts-ascend) (member-all isAllowedFact (c .facts) (X .facts-allowed)) in
+      let k = layout-isTable isAllowedFact mostKept (length (T .kept)) (keptRows (c .kept)) kept-room (rw (length-rows-of (c .kept)) (let h = X .kept-fit in omega (arith, capacity-most mostKept (T .kept)))) (X .kept-ascend) (member-all isAllowedFact (keptRows (c .kept)) (X .kept-allowed)) in
+      let u = supportLayout-is (length (c .facts)) (length (T .supports)) (length (c .kept)) (keptSupports (c .kept)) (length-supports-of (c .kept)) (let h = X .kept-fit in omega arith)
+      (member-all (isSupport (length (c .facts))) (keptSupports (c .kept)) (λ n m. let b = X .supports-between n m in between-isSupport (length (c .facts)) n (b .0) (b .1))) in
+      rw (s, f, k, count-layout, count-layout, length-rows-of (c .kept)) u
+
+  -- and the tables keep their lengths.
+  pub put-lengths : SameLengths (put c T) T
+  unfolding put
+  put-lengths = record {
+    same-statements = length-layout (length (T .statements)) (c .statements) statement-room;
+    same-facts = length-layout (length (T .facts)) (c .facts) fact-room;
+    same-kept = length-layout (length (T .kept)) (keptRows (c .kept)) kept-room;
+    same-supports = length-supportLayout (length (T .supports)) (keptSupports (c .kept)) (rw (length-supports-of (c .kept)) (let h = X .kept-fit in omega arith));
+  }
+
+-- ---- what well-formed tables hold fits them
+
+module _ {S F K U : List ℕ} (W : FormedStore S F K U) where
+  supports-are : keptSupports (keptOf K U) ≡ take (count K) U
+  supports-are = rw (keptOf-entries K U (count K) (length-rows K)) (keptSupports-entries (count K) K U (W .supports .within))
+
+  formed-fits : Fitting (contentsOf (tables S F K U)) (tables S F K U)
+  unfolding contentsOf
+  formed-fits = record {
+    statements-ascend = W .statements .ascends;
+    facts-ascend = W .facts .ascends;
+    kept-ascend = rw (keptRows-keptOf W) (W .kept .ascends);
+    statements-allowed = λ u m. all-member isAllowedStatement (rows S) (W .statements .each-allowed) m;
+    facts-allowed = λ u m. all-member isAllowedFact (rows F) (W .facts .each-allowed) m;
+    kept-allowed = λ u m. all-member isAllowedFact (rows K) (W .kept .each-allowed) (subst (List·Memᴰ u) (keptRows-keptOf W) m);
+    statements-fit = W .statements .within;
+    facts-fit = W .facts .within;
+    kept-fit = let a = W .kept .within in let b = kept-tables W .places in omega (arith, length-keptOf W);
+    supports-between = λ n m. rw (length-rows F) (isSupport-between (count F) n (all-member (isSupport (count F)) (take (count K) U) (W .supports .each-support) (subst (List·Memᴰ n) supports-are m)));
+  }
+
+  formed-words : Worded (tables S F K U)
+  formed-words = record {
+    statement-words = omega (arith, W .statements .laid .fits);
+    fact-words = omega (arith, W .facts .laid .fits);
+    kept-words = omega (arith, W .kept .laid .fits);
+  }
+
+-- What well-formed tables hold fits them, and each has a word.
+pub formed-fitting : (T : Tables) → areFormed T ≡ true → Fitting (contentsOf T) T
+formed-fitting T e = formed-fits (isStore-formed (T .statements) (T .facts) (T .kept) (T .supports) e)
+
+pub formed-worded : (T : Tables) → areFormed T ≡ true → Worded T
+formed-worded T e = formed-words (isStore-formed (T .statements) (T .facts) (T .kept) (T .supports) e)
