@@ -89,7 +89,7 @@ module _ {c : Contents} {T : Tables} (X : Fitting c T) (H : Worded T) where
       let k = layout-isTable isAllowedFact mostKept (length (T .kept)) (keptRows (c .kept)) kept-room (rw (length-rows-of (c .kept)) (let h = X .kept-fit in omega (arith, capacity-most mostKept (T .kept)))) (X .kept-ascend) (member-all isAllowedFact (keptRows (c .kept)) (X .kept-allowed)) in
       let u = supportLayout-is (length (c .facts)) (length (T .supports)) (length (c .kept)) (keptSupports (c .kept)) (length-supports-of (c .kept)) (let h = X .kept-fit in omega arith)
       (member-all (isSupport (length (c .facts))) (keptSupports (c .kept)) (λ n m. let b = X .supports-between n m in between-isSupport (length (c .facts)) n (b .0) (b .1))) in
-      rw (s, f, k, count-layout, count-layout, length-rows-of (c .kept)) u
+      rw (s, f, k) (simp (count-layout, length-rows-of (c .kept)) u)
 
   -- and the tables keep their lengths.
   pub put-lengths : SameLengths (put c T) T

@@ -7,3 +7,4 @@ pub mod Missing
 pub mod Outcomes
 pub mod Facts
 pub mod Fitting
+pub mod Applied

@@ -67,15 +67,17 @@ raise-present t k a m =
     sym (length-keptRows (raise t k)) ∙ ap length (raise-rows t k ∙ insert-at t (keptRows k) (p .0) (p .1)) ∙ length-keptRows k
 
 -- and one that is missing adds one.
-raise-absent : (t : Triple) (k : Kept) → ¬ List·Memᴰ t (keptRows k) → length (raise t k) ≡ suc (length k)
+pub insert-new-length : (t : Triple) (us : List Triple) → ¬ List·Memᴰ t us → length (insert t us) ≡ suc (length us)
 unfolding insertAt
-raise-absent t k n =
-    let p = absent-gap t (keptRows k) n in
-    let us : List Triple = keptRows k in
-    sym (length-keptRows (raise t k)) ∙ ap length (raise-rows t k ∙ sym (insertAt-gap t us (p .0) (p .1)))
+insert-new-length t us n =
+    let p = absent-gap t us n in
+    ap length (sym (insertAt-gap t us (p .0) (p .1)))
     ∙ (let a = length-append (take (p .0) us) (t ∷ drop (p .0) us) in
     let b = sym (length-append (take (p .0) us) (drop (p .0) us)) ∙ ap length (take-append-drop (p .0) us) in
-    omega (arith, length-keptRows k))
+    omega arith)
+
+raise-absent : (t : Triple) (k : Kept) → ¬ List·Memᴰ t (keptRows k) → length (raise t k) ≡ suc (length k)
+raise-absent t k n = sym (length-keptRows (raise t k)) ∙ ap length (raise-rows t k) ∙ insert-new-length t (keptRows k) n ∙ ap suc (length-keptRows k)
 
 -- The rows that raising adds, one by one.
 raiseAll-more : (t : Triple) (ts : List Triple) (k : Kept) (f : Found) → Ascending (keptRows k) → Above t ts → place t (keptRows k) ≡ f → length (raiseAll (t ∷ ts) k) ≡ absence f + length (raiseAll ts k)
