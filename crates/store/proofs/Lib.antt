@@ -8,3 +8,4 @@ pub mod Outcomes
 pub mod Facts
 pub mod Fitting
 pub mod Applied
+pub mod Laws
