@@ -1,57 +1,51 @@
+-- By what the search among the facts found.
 use Rattle.store.proofs.Facts.{facts-ready, fact-there, found-place}
 use borrow.Author.Needs.{needs}
 use Rattle.store.proofs.fact_updates.add_fact.Statement.{statement}
 use Rattle.store.proofs.fact_updates.add_fact.Tie as tie
-use Rattle.store.proofs.fact_updates.add_fact.Reads as reads
-use Rattle.store.proofs.fact_updates.add_fact.Lts as lts
-use Rattle.store.proofs.fact_updates.add_new_fact.Reads as add-new-fact-reads
-use Rattle.table.proofs.find.Reads as find-reads
 
--- src/fact_updates.rt:65:13
 slice-read-n : tie.Need-slice-read-n
 slice-read-n c = search needs
 
--- src/fact_updates.rt:65:13
 cast-n : tie.Need-cast-n
 cast-n c = search needs
 
--- src/fact_updates.rt:66:11
 find-requires : tie.Need-find-requires
-find-requires c κs = (search needs, facts-ready (c .before .before .before .before .before .before .pre .0))
+find-requires c κs =
+    let start = c .before .before .before .before .before .before in
+    (search needs, facts-ready (start .pre .0))
 
--- src/fact_updates.rt:67:25
 enum-told : tie.Need-enum-told
 enum-told c = search needs
 
--- src/fact_updates.rt:68:20
 enum-known-at : tie.Need-enum-known-at
 enum-known-at c = search needs
 
--- src/fact_updates.rt:68:27
 add-new-fact-requires : tie.Need-add-new-fact-requires
-add-new-fact-requires c κs = (c .before .before .before .before .before .before .before .before .before .before .before .before .before .pre .0, (c .before .before .before .before .before .before .before .before .before .before .before .before .before .pre .1, (found-place _ _ _ _ (c .before .before .before .before .at .given .1) (c .before .before .before .before .before .before .find .ensures))))
+add-new-fact-requires c κs =
+    let after-at = c .before .before .before .before in
+    let after-find = after-at .before .before in
+    let start = after-find .before .before .before .before .before .before .before in
+    (start .pre .0, (start .pre .1, (found-place _ _ _ _ (after-at .at .given .1) (after-find .find .ensures))))
 
--- src/fact_updates.rt:60:1
 same-length : tie.Need-same-length
 same-length c = search needs
 
--- src/fact_updates.rt:60:1
 returns : tie.Need-returns
-returns c = fact-there (c .before .before .before .before .before .before .before .before .before .pre .0) _ (c .before .before .before .before .before .before .before .before .before .pre .1) (found-place _ _ _ _ (c .enum-told .given .1) (c .before .before .find .ensures))
+returns c =
+    let after-find = c .before .before in
+    let start = after-find .before .before .before .before .before .before .before in
+    fact-there (start .pre .0) _ (start .pre .1) (found-place _ _ _ _ (c .enum-told .given .1) (after-find .find .ensures))
 
--- src/fact_updates.rt:60:1
 same-length-2 : tie.Need-same-length-2
 same-length-2 c = search needs
 
--- src/fact_updates.rt:60:1
 same-length-3 : tie.Need-same-length-3
 same-length-3 c = search needs
 
--- src/fact_updates.rt:60:1
 same-length-4 : tie.Need-same-length-4
 same-length-4 c = search needs
 
--- src/fact_updates.rt:60:1
 returns-2 : tie.Need-returns-2
 returns-2 c = search needs
 

@@ -1,3 +1,4 @@
+-- By the answers to questions 4 and 5, as the code counts them.
 use mathlib.Core.Path.{refl}
 use native.Mathlib.Omega.{arith}
 use Rattle.table.proofs.Rows.{length-rows}
@@ -7,107 +8,117 @@ use Rattle.store.proofs.Facts.{facts-full, kept-unfit, carried-sought, 
 use borrow.Author.Needs.{needs}
 use Rattle.store.proofs.fact_updates.add_new_fact.Statement.{statement}
 use Rattle.store.proofs.fact_updates.add_new_fact.Tie as tie
-use Rattle.store.proofs.fact_updates.add_new_fact.Reads as reads
-use Rattle.store.proofs.fact_updates.add_new_fact.Lts as lts
-use Rattle.carry.proofs.carry.Reads as carry-reads
-use Rattle.store.proofs.fact_updates.kept_capacity.Reads as kept-capacity-reads
-use Rattle.store.proofs.fact_updates.no_rows.Reads as no-rows-reads
-use Rattle.store.proofs.kept.count_missing.Reads as count-missing-reads
-use Rattle.store.proofs.kept.raise_all.Reads as raise-all-reads
-use Rattle.table.proofs.capacity.Reads as capacity-reads
-use Rattle.table.proofs.insert_at.Reads as insert-at-reads
 
--- src/fact_updates.rt:44:13
 slice-read-n : tie.Need-slice-read-n
 slice-read-n c = search needs
 
--- src/fact_updates.rt:44:13
 cast-n : tie.Need-cast-n
 cast-n c = search needs
 
--- src/fact_updates.rt:45:8
 capacity-requires : tie.Need-capacity-requires
 capacity-requires c κs = search needs
 
--- src/fact_updates.rt:46:9
 returns : tie.Need-returns
-returns c = facts-full (c .before .before .before .before .before .before .before .pre .0) _ (c .before .before .before .before .before .before .before .pre .1 .0) (c .before .before .before .before .before .before .before .pre .1 .1) (omega (arith, c .before .capacity .ensures (c .before .before .before .before .before .before .before .args .facts .now) refl, c .if1 .taken, length-rows (c .before .before .before .before .before .before .before .args .facts .now)))
+returns c =
+    let after-capacity = c .before in
+    let start = after-capacity .before .before .before .before .before .before in
+    facts-full (start .pre .0) _ (start .pre .1 .0) (start .pre .1 .1) (omega (arith, after-capacity .capacity .ensures (start .args .facts .now) refl, c .if1 .taken, length-rows (start .args .facts .now)))
 
--- src/fact_updates.rt:48:20
 no-rows-requires : tie.Need-no-rows-requires
 no-rows-requires c κs = search needs
 
--- src/fact_updates.rt:49:44
 slice-aggregate-carry : tie.Need-slice-aggregate-carry
 slice-aggregate-carry c = search needs
 
--- src/fact_updates.rt:49:9
 carry-requires : tie.Need-carry-requires
-carry-requires c κs = (wellFormed-isTable (c .before .before .before .before .before .before .before .before .before .pre .0 .statements), search needs)
+carry-requires c κs =
+    let start = c .before .before .before .before .before .before .before .before .before in
+    (wellFormed-isTable (start .pre .0 .statements), search needs)
 
--- src/fact_updates.rt:50:39
 slice-aggregate-count-missing : tie.Need-slice-aggregate-count-missing
 slice-aggregate-count-missing c = search needs
 
--- src/fact_updates.rt:50:9
 count-missing-requires : tie.Need-count-missing-requires
-count-missing-requires c κs = carried-sought (c .before .before .before .before .before .before .before .before .before .before .before .before .before .pre .0) _ (c .before .before .before .before .before .before .before .before .before .before .before .before .before .pre .1 .0) _ _ (c .before .before .before .carry .ensures .0) (c .before .before .before .carry .ensures .1)
+count-missing-requires c κs =
+    let after-carry = c .before .before .before in
+    let start = after-carry .before .before .before .before .before .before .before .before .before .before in
+    carried-sought (start .pre .0) _ (start .pre .1 .0) _ _ (after-carry .carry .ensures .0) (after-carry .carry .ensures .1)
 
--- src/fact_updates.rt:51:8
 kept-capacity-requires : tie.Need-kept-capacity-requires
 kept-capacity-requires c κs = search needs
 
--- src/fact_updates.rt:51:40
 slice-read-if2 : tie.Need-slice-read-if2
 slice-read-if2 c = search needs
 
--- src/fact_updates.rt:51:40
 cast-if2 : tie.Need-cast-if2
 cast-if2 c = search needs
 
--- src/fact_updates.rt:51:40
 add-if2 : tie.Need-add-if2
-add-if2 c = omega (arith, few-missing (c .before .before .before .before .before .before .before .before .before .before .before .before .before .before .before .before .before .before .pre .0) _ (c .before .before .before .before .before .before .before .before .before .before .before .before .before .before .before .before .before .before .pre .1 .0) _ _ (c .before .before .before .before .before .before .before .before .carry .ensures .0) (c .before .before .before .before .before .before .before .before .carry .ensures .1) _ (c .before .before .before .before .count-missing .ensures), c .before .before .before .before .before .before .before .before .before .before .before .before .before .before .before .slice-known2 .given 0)
+add-if2 c =
+    let after-count-missing = c .before .before .before .before in
+    let after-carry = after-count-missing .before .before .before .before in
+    let after-slice-known2 = after-carry .before .before .before .before .before .before .before in
+    let start = after-slice-known2 .before .before .before in
+    omega (arith, few-missing (start .pre .0) _ (start .pre .1 .0) _ _ (after-carry .carry .ensures .0) (after-carry .carry .ensures .1) _ (after-count-missing .count-missing .ensures), after-slice-known2 .slice-known2 .given 0)
 
--- src/fact_updates.rt:52:9
 same-length : tie.Need-same-length
 same-length c = search needs
 
--- src/fact_updates.rt:52:9
 same-length-2 : tie.Need-same-length-2
 same-length-2 c = search needs
 
--- src/fact_updates.rt:52:9
 returns-2 : tie.Need-returns-2
-returns-2 c = kept-unfit (c .before .before .before .before .before .before .before .before .before .before .before .before .before .before .before .before .before .before .before .pre .0) _ (c .before .before .before .before .before .before .before .before .before .before .before .before .before .before .before .before .before .before .before .pre .1 .0) _ _ (c .before .before .before .before .before .before .before .before .before .carry .ensures .0) (c .before .before .before .before .before .before .before .before .before .carry .ensures .1) _ (c .before .before .before .before .before .count-missing .ensures) (c .before .before .before .before .before .before .before .before .before .before .before .before .before .before .before .before .before .before .before .pre .1 .1) (omega (arith, c .before .before .before .before .before .before .before .before .before .before .before .before .before .capacity .ensures (c .before .before .before .before .before .before .before .before .before .before .before .before .before .before .before .before .before .before .before .args .facts .now) refl, c .before .before .before .before .before .before .before .before .before .before .before .before .if1 .left, length-rows (c .before .before .before .before .before .before .before .before .before .before .before .before .before .before .before .before .before .before .before .args .facts .now))) (omega (arith, c .before .before .kept-capacity .ensures, c .if2 .taken, length-rows (c .before .before .before .before .before .before .before .before .before .before .before .before .before .before .before .before .before .before .before .args .kept .now)))
+returns-2 c =
+    let after-kept-capacity = c .before .before in
+    let after-count-missing = after-kept-capacity .before .before .before in
+    let after-carry = after-count-missing .before .before .before .before in
+    let else1 = after-carry .before .before .before in
+    let after-capacity = else1 .before in
+    let start = after-capacity .before .before .before .before .before .before in
+    kept-unfit (start .pre .0) _ (start .pre .1 .0) _ _ (after-carry .carry .ensures .0) (after-carry .carry .ensures .1) _ (after-count-missing .count-missing .ensures) (start .pre .1 .1) (omega (arith, after-capacity .capacity .ensures (start .args .facts .now) refl, else1 .if1 .left, length-rows (start .args .facts .now))) (omega (arith, after-kept-capacity .kept-capacity .ensures, c .if2 .taken, length-rows (start .args .kept .now)))
 
--- src/fact_updates.rt:54:5
 insert-at-requires : tie.Need-insert-at-requires
-insert-at-requires c κs = (fact-spare (c .before .before .before .before .before .before .before .before .before .before .before .before .before .before .before .before .before .before .before .before .pre .0) _ (c .before .before .before .before .before .before .before .before .before .before .before .before .before .before .before .before .before .before .before .before .pre .1 .0) (omega (arith, c .before .before .before .before .before .before .before .before .before .before .before .before .before .before .capacity .ensures (c .before .before .before .before .before .before .before .before .before .before .before .before .before .before .before .before .before .before .before .before .args .facts .now) refl, c .before .before .before .before .before .before .before .before .before .before .before .before .before .if1 .left, length-rows (c .before .before .before .before .before .before .before .before .before .before .before .before .before .before .before .before .before .before .before .before .args .facts .now))), missing-at _ _ _ (c .before .before .before .before .before .before .before .before .before .before .before .before .before .before .before .before .before .before .before .before .pre .1 .1) .within)
+insert-at-requires c κs =
+    let else1 = c .before .before .before .before .before .before .before .before .before .before .before .before .before in
+    let after-capacity = else1 .before in
+    let start = after-capacity .before .before .before .before .before .before in
+    (fact-spare (start .pre .0) _ (start .pre .1 .0) (omega (arith, after-capacity .capacity .ensures (start .args .facts .now) refl, else1 .if1 .left, length-rows (start .args .facts .now))), missing-at _ _ _ (start .pre .1 .1) .within)
 
--- src/fact_updates.rt:55:31
 slice-aggregate-raise-all : tie.Need-slice-aggregate-raise-all
 slice-aggregate-raise-all c = search needs
 
--- src/fact_updates.rt:55:5
 raise-all-requires : tie.Need-raise-all-requires
-raise-all-requires c κs = carried-raisable (c .before .before .before .before .before .before .before .before .before .before .before .before .before .before .before .before .before .before .before .before .before .before .before .before .before .before .pre .0) _ (c .before .before .before .before .before .before .before .before .before .before .before .before .before .before .before .before .before .before .before .before .before .before .before .before .before .before .pre .1 .0) _ _ (c .before .before .before .before .before .before .before .before .before .before .before .before .before .before .before .before .carry .ensures .0) (c .before .before .before .before .before .before .before .before .before .before .before .before .before .before .before .before .carry .ensures .1) _ (c .before .before .before .before .before .before .before .before .before .before .before .before .count-missing .ensures) (omega (arith, c .before .before .before .before .before .before .before .before .before .before .before .before .before .before .before .before .before .before .before .before .capacity .ensures (c .before .before .before .before .before .before .before .before .before .before .before .before .before .before .before .before .before .before .before .before .before .before .before .before .before .before .args .facts .now) refl, c .before .before .before .before .before .before .before .before .before .before .before .before .before .before .before .before .before .before .before .if1 .left, length-rows (c .before .before .before .before .before .before .before .before .before .before .before .before .before .before .before .before .before .before .before .before .before .before .before .before .before .before .args .facts .now))) (omega (arith, c .before .before .before .before .before .before .before .before .before .kept-capacity .ensures, c .before .before .before .before .before .before .before .if2 .left, length-rows (c .before .before .before .before .before .before .before .before .before .before .before .before .before .before .before .before .before .before .before .before .before .before .before .before .before .before .args .kept .now)))
+raise-all-requires c κs =
+    let else2 = c .before .before .before .before .before .before .before in
+    let after-kept-capacity = else2 .before .before in
+    let after-count-missing = after-kept-capacity .before .before .before in
+    let after-carry = after-count-missing .before .before .before .before in
+    let else1 = after-carry .before .before .before in
+    let after-capacity = else1 .before in
+    let start = after-capacity .before .before .before .before .before .before in
+    carried-raisable (start .pre .0) _ (start .pre .1 .0) _ _ (after-carry .carry .ensures .0) (after-carry .carry .ensures .1) _ (after-count-missing .count-missing .ensures) (omega (arith, after-capacity .capacity .ensures (start .args .facts .now) refl, else1 .if1 .left, length-rows (start .args .facts .now))) (omega (arith, after-kept-capacity .kept-capacity .ensures, else2 .if2 .left, length-rows (start .args .kept .now)))
 
--- src/fact_updates.rt:38:1
 same-length-3 : tie.Need-same-length-3
 same-length-3 c = search needs
 
--- src/fact_updates.rt:38:1
 same-length-4 : tie.Need-same-length-4
 same-length-4 c = search needs
 
--- src/fact_updates.rt:38:1
 same-length-5 : tie.Need-same-length-5
 same-length-5 c = search needs
 
--- src/fact_updates.rt:38:1
 returns-3 : tie.Need-returns-3
-returns-3 c = fact-added (c .before .before .before .before .before .before .before .before .before .before .before .before .before .before .before .before .before .before .before .before .before .before .before .before .before .before .before .before .before .before .before .pre .0) _ (c .before .before .before .before .before .before .before .before .before .before .before .before .before .before .before .before .before .before .before .before .before .before .before .before .before .before .before .before .before .before .before .pre .1 .0) _ _ (c .before .before .before .before .before .before .before .before .before .before .before .before .before .before .before .before .before .before .before .before .before .carry .ensures .0) (c .before .before .before .before .before .before .before .before .before .before .before .before .before .before .before .before .before .before .before .before .before .carry .ensures .1) _ (c .before .before .before .before .before .before .before .before .before .before .before .before .before .before .before .before .before .count-missing .ensures) (c .before .before .before .before .before .before .before .before .before .before .before .before .before .before .before .before .before .before .before .before .before .before .before .before .before .before .before .before .before .before .before .pre .1 .1) (omega (arith, c .before .before .before .before .before .before .before .before .before .before .before .before .before .before .before .before .before .before .before .before .before .before .before .before .before .capacity .ensures (c .before .before .before .before .before .before .before .before .before .before .before .before .before .before .before .before .before .before .before .before .before .before .before .before .before .before .before .before .before .before .before .args .facts .now) refl, c .before .before .before .before .before .before .before .before .before .before .before .before .before .before .before .before .before .before .before .before .before .before .before .before .if1 .left, length-rows (c .before .before .before .before .before .before .before .before .before .before .before .before .before .before .before .before .before .before .before .before .before .before .before .before .before .before .before .before .before .before .before .args .facts .now))) (omega (arith, c .before .before .before .before .before .before .before .before .before .before .before .before .before .before .kept-capacity .ensures, c .before .before .before .before .before .before .before .before .before .before .before .before .if2 .left, length-rows (c .before .before .before .before .before .before .before .before .before .before .before .before .before .before .before .before .before .before .before .before .before .before .before .before .before .before .before .before .before .before .before .args .kept .now))) (c .before .before .before .before .before .before .before .before .before .before .insert-at .ensures) (c .before .before .before .before .raise-all .ensures)
+returns-3 c =
+    let after-raise-all = c .before .before .before .before in
+    let after-insert-at = after-raise-all .before .before .before .before .before .before in
+    let else2 = after-insert-at .before .before in
+    let after-kept-capacity = else2 .before .before in
+    let after-count-missing = after-kept-capacity .before .before .before in
+    let after-carry = after-count-missing .before .before .before .before in
+    let else1 = after-carry .before .before .before in
+    let after-capacity = else1 .before in
+    let start = after-capacity .before .before .before .before .before .before in
+    fact-added (start .pre .0) _ (start .pre .1 .0) _ _ (after-carry .carry .ensures .0) (after-carry .carry .ensures .1) _ (after-count-missing .count-missing .ensures) (start .pre .1 .1) (omega (arith, after-capacity .capacity .ensures (start .args .facts .now) refl, else1 .if1 .left, length-rows (start .args .facts .now))) (omega (arith, after-kept-capacity .kept-capacity .ensures, else2 .if2 .left, length-rows (start .args .kept .now))) (after-insert-at .insert-at .ensures) (after-raise-all .raise-all .ensures)
 
 pub add-new-fact-spec : {M : Type 1} → statement M
 add-new-fact-spec =

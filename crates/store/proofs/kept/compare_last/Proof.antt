@@ -1,26 +1,18 @@
-use native.Mathlib.Omega.{arith}
-use Rattle.store.specs.Entries.{lastOrdering}
+-- By whether there is a row before the place.
 use Rattle.store.proofs.Raise.{last-none, last-some}
 use borrow.Author.Needs.{needs}
 use Rattle.store.proofs.kept.compare_last.Statement.{statement}
 use Rattle.store.proofs.kept.compare_last.Tie as tie
-use Rattle.store.proofs.kept.compare_last.Reads as reads
-use Rattle.store.proofs.kept.compare_last.Lts as lts
-use Rattle.table.proofs.compare_at.Reads as compare-at-reads
 
--- src/kept.rt:44:9
 returns : tie.Need-returns
 returns c = last-none _ _ _ (search needs)
 
--- src/kept.rt:46:26
 sub-compare-at : tie.Need-sub-compare-at
 sub-compare-at c = search needs
 
--- src/kept.rt:46:5
 compare-at-requires : tie.Need-compare-at-requires
 compare-at-requires c κs = search needs
 
--- src/kept.rt:39:1
 returns-2 : tie.Need-returns-2
 returns-2 c = last-some _ _ _ _ (search needs) (c .compare-at .ensures)
 

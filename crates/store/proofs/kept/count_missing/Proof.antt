@@ -1,13 +1,10 @@
+-- The invariant: so many of the rows passed are missing, whatever the supports of the kept facts.
 use borrow.Author.Needs.{needs}
-use Prim.Native.Nat.{_-_, _≤_}
+use Prim.Native.Nat.{_-_}
 use native.Mathlib.Omega.{arith}
 use Rattle.store.proofs.Missing.{Counting, counting-start, counting-step, counting-end, absence-bound, sought-ready}
 use Rattle.store.proofs.kept.count_missing.Statement.{statement}
 use Rattle.store.proofs.kept.count_missing.Tie as tie
-use Rattle.store.proofs.kept.count_missing.Reads as reads
-use Rattle.store.proofs.kept.count_missing.Lts as lts
-use Rattle.store.proofs.kept.absent.Reads as absent-reads
-use Rattle.store.proofs.kept.row_from.Reads as row-from-reads
 
 abbrev Inv-loop : tie.InvT-loop
 Inv-loop kept list c n missing₀ j₀ missing j = Counting kept list c missing j
@@ -15,45 +12,47 @@ Inv-loop kept list c n missing₀ j₀ missing j = Counting kept list c missing 
 abbrev μ-loop : tie.MeasureT-loop
 μ-loop kept list c n missing₀ j₀ missing j = c - j
 
--- src/kept.rt:65:13
 shared-slice-read-n : tie.Need-shared-slice-read-n Inv-loop μ-loop
 shared-slice-read-n c = search needs
 
--- src/kept.rt:65:13
 cast-n : tie.Need-cast-n Inv-loop μ-loop
 cast-n c = search needs
 
--- src/kept.rt:68:5
 loop-holds : tie.Need-loop-holds Inv-loop μ-loop
 loop-holds c = counting-start _ _ _
 
--- src/kept.rt:69:36
 row-from-requires : tie.Need-row-from-requires Inv-loop μ-loop
 row-from-requires c κs = search needs
 
--- src/kept.rt:69:20
 absent-requires : tie.Need-absent-requires Inv-loop μ-loop
-absent-requires c κs = (search needs, sought-ready (c .before .before .before .before .before .before .pre))
+absent-requires c κs =
+    let start = c .before .before .before .before .before .before in
+    (search needs, sought-ready (start .pre))
 
--- src/kept.rt:69:9
 add-missing : tie.Need-add-missing Inv-loop μ-loop
-add-missing c = omega (arith, absence-bound _ _ (c .absent .ensures), c .before .before .before .loop .inv .few, c .before .before .loop-test .taken)
+add-missing c =
+    let in-loop = c .before .before in
+    let at-loop = in-loop .before in
+    omega (arith, absence-bound _ _ (c .absent .ensures), at-loop .loop .inv .few, in-loop .loop-test .taken)
 
--- src/kept.rt:70:9
 add-j : tie.Need-add-j Inv-loop μ-loop
 add-j c = search needs
 
--- src/kept.rt:68:5
 loop-less : tie.Need-loop-less Inv-loop μ-loop
 loop-less c = search needs
 
--- src/kept.rt:68:5
 loop-again : tie.Need-loop-again Inv-loop μ-loop
-loop-again c = counting-step (c .before .before .before .before .before .before .before .pre) (c .before .before .before .loop .inv) _ _ (c .before .before .loop-test .taken) (c .before .row-from .ensures) (c .absent .ensures)
+loop-again c =
+    let after-row-from = c .before in
+    let in-loop = after-row-from .before in
+    let at-loop = in-loop .before in
+    let start = at-loop .before .before .before .before in
+    counting-step (start .pre) (at-loop .loop .inv) _ _ (in-loop .loop-test .taken) (after-row-from .row-from .ensures) (c .absent .ensures)
 
--- src/kept.rt:61:1
 returns : tie.Need-returns Inv-loop μ-loop
-returns c = counting-end (c .before .loop .inv) (c .loop-test .left)
+returns c =
+    let at-loop = c .before in
+    counting-end (at-loop .loop .inv) (c .loop-test .left)
 
 pub count-missing-spec : {M : Type 1} → statement M
 count-missing-spec =

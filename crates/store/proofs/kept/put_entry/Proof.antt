@@ -1,70 +1,54 @@
+-- The words and the support are written as `putRow` and `set` write them.
 use mathlib.Core.Path.{refl}
 use native.Mathlib.Omega.{arith}
 use lib.ListN.{length-set}
-use Rattle.store.specs.Entries.{putRow, Entered}
+use Rattle.store.specs.Entries.{putRow}
 use borrow.Author.Needs.{needs}
 use Rattle.store.proofs.kept.put_entry.Statement.{statement}
 use Rattle.store.proofs.kept.put_entry.Tie as tie
-use Rattle.store.proofs.kept.put_entry.Reads as reads
-use Rattle.store.proofs.kept.put_entry.Lts as lts
 
--- src/kept.rt:31:14
 mul-at : tie.Need-mul-at
 mul-at c = search needs
 
--- src/kept.rt:31:14
 add-at : tie.Need-add-at
 add-at c = search needs
 
--- src/kept.rt:32:5
 mul-kept : tie.Need-mul-kept
 mul-kept c = search needs
 
--- src/kept.rt:32:5
 slice-write-kept : tie.Need-slice-write-kept
 slice-write-kept c = search needs
 
--- src/kept.rt:33:10
 add-kept : tie.Need-add-kept
 add-kept c = search needs
 
--- src/kept.rt:33:5
 mul-kept-2 : tie.Need-mul-kept-2
 mul-kept-2 c = search needs
 
--- src/kept.rt:33:5
 slice-write-kept-2 : tie.Need-slice-write-kept-2
 slice-write-kept-2 c = simp length-set (omega arith)
 
--- src/kept.rt:34:10
 add-kept-2 : tie.Need-add-kept-2
 add-kept-2 c = search needs
 
--- src/kept.rt:34:5
 mul-kept-3 : tie.Need-mul-kept-3
 mul-kept-3 c = search needs
 
--- src/kept.rt:34:5
 slice-write-kept-3 : tie.Need-slice-write-kept-3
 slice-write-kept-3 c = simp length-set (omega arith)
 
--- src/kept.rt:35:5
 mul-supports : tie.Need-mul-supports
 mul-supports c = search needs
 
--- src/kept.rt:35:5
 slice-write-supports : tie.Need-slice-write-supports
 slice-write-supports c = search needs
 
--- src/kept.rt:27:1
 same-length : tie.Need-same-length
 same-length c = search needs
 
--- src/kept.rt:27:1
 same-length-2 : tie.Need-same-length-2
 same-length-2 c = search needs
 
--- src/kept.rt:27:1
 returns : tie.Need-returns
 unfolding putRow
 returns c = record { row = refl; support = refl }
