@@ -6,6 +6,8 @@ pub mod LowerPass
 pub mod Missing
 pub mod Outcomes
 pub mod Facts
+pub mod Statements
+pub mod Passing
 pub mod Fitting
 pub mod Applied
 pub mod Laws

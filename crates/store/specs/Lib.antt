@@ -1,3 +1,4 @@
 pub mod Store
 pub mod Update
 pub mod Entries
+pub mod Saturated

@@ -23,7 +23,7 @@ fn no_rows() -> [u32; 3078] {
 }
 
 // How many kept facts fit.
-fn kept_capacity(kept: &[u32], supports: &[u16]) -> usize
+pub fn kept_capacity(kept: &[u32], supports: &[u16]) -> usize
     ensures { λ r. ⌜ r ≡ min (capacity mostKept (now (kept .entry))) (length (now (supports .entry))) ⌝ }
 {
     let rows = table::capacity(kept.len(), table::MOST_KEPT);

@@ -1,0 +1,204 @@
+-- Updates of a statement, by the answers to questions 4 and 5 as the code finds them. Assumes nothing.
+use Prim.Native.Nat.{ℕ, _+_, _*_, _≤_, _<_, min}
+use mathlib.Core.Path.{_≡_, refl, sym, ap, _∙_}
+use mathlib.Core.Bool.{Bool, true, false, cond}
+use mathlib.Core.List.{List, _∷_, _++_}
+use native.Mathlib.Omega.{arith}
+use lib.ListN.{length, take, drop, take-append-drop}
+use lib.Seq.{length-take-le, take-at, drop-at, drop-append-add, split-at}
+use native.Mathlib.Numerals.{add-one}
+use lib.Dec.{leb}
+use borrow.Author.Tests.{lt-ltb, le-ltb}
+use Rattle.rdf.specs.declared.Triple.{Triple}
+use Rattle.rdf.specs.Triple.{isTriple, isStatement, areSidesAllowed, isAllowedStatement, isAllowedFact}
+use Rattle.rdf.specs.Order.{isAscending, insert, remove}
+use Rattle.rdf.proofs.Ascending.{and-left, and-right}
+use Rattle.rdfs.specs.Saturation.{keptRows, keptSupports, saturation}
+use Rattle.table.specs.declared.Found.the-variants.{At, Gap}
+use Rattle.table.specs.Table.{capacity, mostStatements, mostKept, count, rows, firstRows, layout, supportLayout, isStatementTable, isFactTable}
+use Rattle.table.specs.Search.{place, insertAt, removeAt}
+use Rattle.table.specs.Laid.{Laid, Spare, WellFormed, FormedStore}
+use Rattle.table.proofs.Rows.{length-rows, rows-of, length-layout, laid-of}
+use Rattle.table.proofs.Place.{at-member, gap-absent, missing-at, stands-at}
+use Rattle.table.proofs.Formed.{capacity-fits, capacity-most, ready, spare, wellFormed-isTable}
+use Rattle.table.proofs.Change.{insertAt-gap, removeAt-at, length-insertAt, length-removeAt, wellFormed-insert, wellFormed-remove}
+use Rattle.table.proofs.Store.{formed-isStore}
+use Rattle.store.specs.declared.Answer.the-variants.{Applied, Idle, Refused}
+use Rattle.store.specs.Store.{Tables, tables, contentsOf, put}
+use Rattle.store.specs.Update.{withTriple, withoutTriple, isThere, isBelowCapacity, isKeptFitting, outcome, add, withdraw}
+use Rattle.store.specs.Saturated.{Saturated}
+use Rattle.store.proofs.Outcomes.{Passes, add-idle, add-full, add-unfit, add-applied, withdraw-idle, withdraw-unfit, withdraw-applied, there-yes, there-no}
+
+-- What `saturate` asks of the room, and the capacity of the kept facts gives.
+pub kept-room : {S F K U : List ℕ} → FormedStore S F K U → (room : ℕ) → room ≡ min (capacity mostKept K) (length U) → (room * 3 < length K) × (room ≤ length U) × (room ≤ 262143)
+kept-room {S} {F} {K} {U} W room e = (
+  capacity-fits mostKept K room (omega (arith, W .kept .laid .fits)) (omega arith),
+  omega arith,
+  omega (arith, capacity-most mostKept K),
+)
+
+-- A row put in and taken out again at one place, and the other way round.
+pub inserted-removed : (i : ℕ) (t : Triple) (us : List Triple) → i ≤ length us → removeAt i (insertAt i t us) ≡ us
+unfolding insertAt removeAt
+inserted-removed i t us h =
+    let l : length (take i us) ≡ i = length-take-le i us h in
+    let e : drop (i + 1) (take i us ++ (t ∷ drop i us)) ≡ drop i us = ap (λ (k : ℕ). drop (k + 1) (take i us ++ (t ∷ drop i us))) (sym l) ∙ drop-append-add (take i us) (t ∷ drop i us) 1 in
+    rw (take-at (take i us) (t ∷ drop i us) i l, e) (take-append-drop i us)
+
+pub removed-inserted : (i : ℕ) (t : Triple) (us : List Triple) → place t us ≡ At i → insertAt i t (removeAt i us) ≡ us
+unfolding insertAt removeAt
+removed-inserted i t us h =
+    let l : length (take i us) ≡ i = length-take-le i us (omega (arith, stands-at t us i h .within)) in
+    rw (take-at (take i us) (drop (i + 1) us) i l, drop-at (take i us) (drop (i + 1) us) i l)
+    (ap (λ (x : Triple). take i us ++ (x ∷ drop (i + 1) us)) (sym (stands-at t us i h .is t)) ∙ rw (add-one i) (sym (split-at us i t (stands-at t us i h .within))))
+
+module _ {S F K U : List ℕ} (W : FormedStore S F K U) (t : Triple) (a : isAllowedStatement t ≡ true) where
+  is-statement : isStatement t ≡ true
+  unfolding isAllowedStatement
+  is-statement = and-left (isStatement t) (areSidesAllowed t) (and-right (isTriple t) _ a)
+
+  passes : Passes (tables S F K U) t
+  unfolding isAllowedStatement
+  passes = record { formed = formed-isStore W; is-triple = and-left _ _ a; sides = rw is-statement (and-right (isStatement t) (areSidesAllowed t) (and-right (isTriple t) _ a)) }
+
+  present : {i : ℕ} → place t (rows S) ≡ At i → isThere t (contentsOf (tables S F K U)) ≡ true
+  unfolding contentsOf
+  present {i} e = there-yes t (contentsOf (tables S F K U)) (rw is-statement (at-member t (rows S) i e))
+
+  missing : {i : ℕ} → place t (rows S) ≡ Gap i → isThere t (contentsOf (tables S F K U)) ≡ false
+  unfolding contentsOf
+  missing {i} e = there-no t (contentsOf (tables S F K U)) (rw is-statement (gap-absent t (rows S) i (W .statements .ascends) e))
+
+  -- What `find` asks of the statements.
+  pub statements-ready : isAscending (firstRows (count S) (drop 1 S)) ≡ true
+  statements-ready = ready (W .statements) (count S) (length-rows S)
+
+  -- A statement that is there is not added again, and one that is absent is not withdrawn.
+  pub statement-there : {i : ℕ} → place t (rows S) ≡ At i → outcome Idle (tables S F K U) ≡ add (tables S F K U) t
+  statement-there e = sym (add-idle passes (present e))
+
+  pub statement-absent : {i : ℕ} → place t (rows S) ≡ Gap i → outcome Idle (tables S F K U) ≡ withdraw (tables S F K U) t
+  statement-absent e = sym (withdraw-idle passes (missing e))
+
+  -- The statements are full.
+  pub statements-full : {i : ℕ} → place t (rows S) ≡ Gap i → capacity mostStatements S ≤ length (rows S) → outcome (Refused 4) (tables S F K U) ≡ add (tables S F K U) t
+  unfolding isBelowCapacity contentsOf
+  statements-full e h = sym (add-full passes (missing e) (rw is-statement (le-ltb (length (rows S)) (capacity mostStatements S) h)))
+
+  below : length (rows S) < capacity mostStatements S → isBelowCapacity t (tables S F K U) ≡ true
+  unfolding isBelowCapacity contentsOf
+  below h = rw is-statement (lt-ltb (length (rows S)) (capacity mostStatements S) h)
+
+  -- What `insert_at` asks of the statements.
+  pub statement-spare : length (rows S) < capacity mostStatements S → Spare S
+  statement-spare h = spare (W .statements) (omega arith) h
+
+  -- ---- a statement that enters
+
+  module _ {i : ℕ} (p : place t (rows S) ≡ Gap i) (h : length (rows S) < capacity mostStatements S) {S' : List ℕ} (e : S' ≡ layout (length S) (insertAt i t (rows S))) where
+    with-formed : WellFormed isAllowedStatement mostStatements S'
+    with-formed = wellFormed-insert S' i t (W .statements) a h p e
+
+    -- What `saturate` asks of the statements with it.
+    pub with-table : isStatementTable S' ≡ true
+    with-table = wellFormed-isTable with-formed
+
+    with-rows : rows S' ≡ insert t (rows S)
+    with-rows = rows-of S' (length S) (insertAt i t (rows S)) e ∙ insertAt-gap t (rows S) i p
+
+    inside : i ≤ length (rows S)
+    inside = missing-at t (rows S) i p .within
+
+    length-with : length S' ≡ length S
+    length-with =
+        ap length e
+        ∙ length-layout (length S) (insertAt i t (rows S)) (omega (arith, length-insertAt i t (rows S) inside, capacity-fits mostStatements S (length (rows S) + 1) (omega (arith, W .statements .laid .fits)) (omega arith)))
+
+    -- What `remove_at` asks, to take it out again.
+    pub with-laid : Laid S' × (i < length (rows S'))
+    with-laid = (with-formed .laid, omega (arith, inside, ap length (rows-of S' (length S) (insertAt i t (rows S)) e), length-insertAt i t (rows S) inside))
+
+    module _ (room : ℕ) (q : room ≡ min (capacity mostKept K) (length U)) {r : Bool} {K' U' : List ℕ} (Z : Saturated S' F room K U r K' U') where
+      -- It enters, and the kept facts are those worked out afresh.
+      pub statement-added : r ≡ true → outcome Applied (tables S' F K' U') ≡ add (tables S F K U) t
+      unfolding isKeptFitting withTriple contentsOf put
+      statement-added y =
+          sym (add-applied passes (missing p) (below h) (rw (is-statement, ← with-rows, ← q) (sym (Z .fits) ∙ y))
+          ∙ rw (is-statement, ← with-rows, ← length-with, ← (with-formed .laid .is-layout), ← (W .facts .laid .is-layout), ← kept-is y, ← supports-are y) refl)
+        where
+          kept-is : r ≡ true → K' ≡ layout (length K) (keptRows (saturation (rows S') (rows F)))
+          kept-is y = Z .kept ∙ rw y refl
+          supports-are : r ≡ true → U' ≡ supportLayout (length U) (keptSupports (saturation (rows S') (rows F)))
+          supports-are y = Z .supports ∙ rw y refl
+
+      -- The kept facts do not fit, and it was taken out again.
+      pub statement-unfit : {S″ : List ℕ} → r ≡ false → S″ ≡ layout (length S') (removeAt i (rows S')) → outcome (Refused 5) (tables S″ F K' U') ≡ add (tables S F K U) t
+      unfolding isKeptFitting withTriple contentsOf
+      statement-unfit {S″} y f =
+          rw (same-statements, same-kept, same-supports)
+          (sym (add-unfit passes (missing p) (below h) (rw (is-statement, ← with-rows, ← q) (sym (Z .fits) ∙ y))))
+        where
+          same-statements : S″ ≡ S
+          same-statements = f ∙ rw (length-with, rows-of S' (length S) (insertAt i t (rows S)) e, inserted-removed i t (rows S) inside) (sym (W .statements .laid .is-layout))
+          same-kept : K' ≡ K
+          same-kept = Z .kept ∙ rw y refl
+          same-supports : U' ≡ U
+          same-supports = Z .supports ∙ rw y refl
+
+  -- ---- a statement that goes
+
+  -- What `remove_at` asks of the statements.
+  pub statement-laid : {i : ℕ} → place t (rows S) ≡ At i → Laid S × (i < length (rows S))
+  statement-laid {i} p = (W .statements .laid, stands-at t (rows S) i p .within)
+
+  module _ {i : ℕ} (p : place t (rows S) ≡ At i) {S' : List ℕ} (e : S' ≡ layout (length S) (removeAt i (rows S))) where
+    without-formed : WellFormed isAllowedStatement mostStatements S'
+    without-formed = wellFormed-remove S' i t (W .statements) p e
+
+    -- What `saturate` asks of the statements without it.
+    pub without-table : isStatementTable S' ≡ true
+    without-table = wellFormed-isTable without-formed
+
+    without-rows : rows S' ≡ remove t (rows S)
+    without-rows = rows-of S' (length S) (removeAt i (rows S)) e ∙ removeAt-at t (rows S) i p
+
+    shorter : length (removeAt i (rows S)) + 1 ≡ length (rows S)
+    shorter = length-removeAt i (rows S) (stands-at t (rows S) i p .within)
+
+    length-without : length S' ≡ length S
+    length-without = ap length e ∙ length-layout (length S) (removeAt i (rows S)) (omega (arith, shorter, W .statements .laid .fits))
+
+    -- What `insert_at` asks, to put it in again.
+    pub without-spare : Spare S' × (i ≤ length (rows S'))
+    without-spare =
+        let l : length (rows S') + 1 ≡ length (rows S) = omega (arith, shorter, ap length (rows-of S' (length S) (removeAt i (rows S)) e)) in (
+          record { laid = without-formed .laid; room = omega (arith, length-without, W .statements .laid .fits); countable = omega (arith, W .statements .within, capacity-most mostStatements S) },
+          omega (arith, stands-at t (rows S) i p .within),
+        )
+
+    module _ (room : ℕ) (q : room ≡ min (capacity mostKept K) (length U)) {r : Bool} {K' U' : List ℕ} (Z : Saturated S' F room K U r K' U') where
+      -- It goes, and the kept facts are those worked out afresh.
+      pub statement-withdrawn : r ≡ true → outcome Applied (tables S' F K' U') ≡ withdraw (tables S F K U) t
+      unfolding isKeptFitting withoutTriple contentsOf put
+      statement-withdrawn y =
+          sym (withdraw-applied passes (present p) (rw (is-statement, ← without-rows, ← q) (sym (Z .fits) ∙ y))
+          ∙ rw (is-statement, ← without-rows, ← length-without, ← (without-formed .laid .is-layout), ← (W .facts .laid .is-layout), ← kept-is y, ← supports-are y) refl)
+        where
+          kept-is : r ≡ true → K' ≡ layout (length K) (keptRows (saturation (rows S') (rows F)))
+          kept-is y = Z .kept ∙ rw y refl
+          supports-are : r ≡ true → U' ≡ supportLayout (length U) (keptSupports (saturation (rows S') (rows F)))
+          supports-are y = Z .supports ∙ rw y refl
+
+      -- The kept facts do not fit, and it was put in again.
+      pub withdrawal-unfit : {S″ : List ℕ} → r ≡ false → S″ ≡ layout (length S') (insertAt i t (rows S')) → outcome (Refused 5) (tables S″ F K' U') ≡ withdraw (tables S F K U) t
+      unfolding isKeptFitting withoutTriple contentsOf
+      withdrawal-unfit {S″} y f =
+          rw (same-statements, same-kept, same-supports)
+          (sym (withdraw-unfit passes (present p) (rw (is-statement, ← without-rows, ← q) (sym (Z .fits) ∙ y))))
+        where
+          same-statements : S″ ≡ S
+          same-statements = f ∙ rw (length-without, rows-of S' (length S) (removeAt i (rows S)) e, removed-inserted i t (rows S) p) (sym (W .statements .laid .is-layout))
+          same-kept : K' ≡ K
+          same-kept = Z .kept ∙ rw y refl
+          same-supports : U' ≡ U
+          same-supports = Z .supports ∙ rw y refl

@@ -1,0 +1,104 @@
+// Additions and withdrawals of statements, once questions 1 to 3 are passed (document 01, "Tables").
+use crate::Answer;
+use crate::fact_updates::kept_capacity;
+use crate::saturate;
+use rdf::Triple;
+use table::Found;
+ghost use mathlib.Core.Path.{_≡_};
+ghost use mathlib.Core.Bool.{true};
+ghost use Rattle.rdf.specs.Triple.{isAllowedStatement};
+ghost use Rattle.table.specs.declared.Found.the-variants.{At, Gap};
+ghost use Rattle.table.specs.Table.{rows};
+ghost use Rattle.table.specs.Search.{place};
+ghost use Rattle.table.specs.Laid.{FormedStore};
+ghost use Rattle.store.specs.Store.{tables};
+ghost use Rattle.store.specs.Update.{outcome, add, withdraw};
+
+// Adds a statement that is not there, at the gap where it would stand. Where the kept facts worked out afresh do not fit, it is
+// taken out again.
+fn add_new_statement(
+    statements: &mut [u32],
+    facts: &[u32],
+    kept: &mut [u32],
+    supports: &mut [u16],
+    statement: Triple,
+    at: usize,
+) -> Answer
+    requires { ⌜ FormedStore (now statements) (now facts) (now kept) (now supports) ⌝ }
+    requires { ⌜ isAllowedStatement statement ≡ true ⌝ }
+    requires { ⌜ place statement (rows (now statements)) ≡ Gap at ⌝ }
+    ensures { λ r. ⌜ outcome r (tables (now (statements .exit)) (now (facts .entry)) (now (kept .exit)) (now (supports .exit))) ≡ add (tables (now (statements .entry)) (now (facts .entry)) (now (kept .entry)) (now (supports .entry))) statement ⌝ }
+{
+    let n = statements[0] as usize;
+    if table::capacity(statements.len(), table::MOST_STATEMENTS) <= n {
+        return Answer::Refused(4);
+    }
+    let room = kept_capacity(kept, supports);
+    table::insert_at(statements, at, statement);
+    if saturate(statements, facts, kept, supports, room) {
+        return Answer::Applied;
+    }
+    table::remove_at(statements, at);
+    Answer::Refused(5)
+}
+
+// Withdraws a statement that is there, at its place. Where the kept facts worked out afresh do not fit, it is put in again.
+fn withdraw_old_statement(
+    statements: &mut [u32],
+    facts: &[u32],
+    kept: &mut [u32],
+    supports: &mut [u16],
+    statement: Triple,
+    at: usize,
+) -> Answer
+    requires { ⌜ FormedStore (now statements) (now facts) (now kept) (now supports) ⌝ }
+    requires { ⌜ isAllowedStatement statement ≡ true ⌝ }
+    requires { ⌜ place statement (rows (now statements)) ≡ At at ⌝ }
+    ensures { λ r. ⌜ outcome r (tables (now (statements .exit)) (now (facts .entry)) (now (kept .exit)) (now (supports .exit))) ≡ withdraw (tables (now (statements .entry)) (now (facts .entry)) (now (kept .entry)) (now (supports .entry))) statement ⌝ }
+{
+    let room = kept_capacity(kept, supports);
+    table::remove_at(statements, at);
+    if saturate(statements, facts, kept, supports, room) {
+        return Answer::Applied;
+    }
+    table::insert_at(statements, at, statement);
+    Answer::Refused(5)
+}
+
+// Adds a statement, once questions 1 to 3 are passed. What is there already is idle, whatever the capacities.
+pub fn add_statement(
+    statements: &mut [u32],
+    facts: &[u32],
+    kept: &mut [u32],
+    supports: &mut [u16],
+    statement: Triple,
+) -> Answer
+    requires { ⌜ FormedStore (now statements) (now facts) (now kept) (now supports) ⌝ }
+    requires { ⌜ isAllowedStatement statement ≡ true ⌝ }
+    ensures { λ r. ⌜ outcome r (tables (now (statements .exit)) (now (facts .entry)) (now (kept .exit)) (now (supports .exit))) ≡ add (tables (now (statements .entry)) (now (facts .entry)) (now (kept .entry)) (now (supports .entry))) statement ⌝ }
+{
+    let n = statements[0] as usize;
+    match table::find(statements, n, statement) {
+        Found::At(_) => Answer::Idle,
+        Found::Gap(at) => add_new_statement(statements, facts, kept, supports, statement, at),
+    }
+}
+
+// Withdraws a statement, once questions 1 to 3 are passed. What is absent is idle.
+pub fn withdraw_statement(
+    statements: &mut [u32],
+    facts: &[u32],
+    kept: &mut [u32],
+    supports: &mut [u16],
+    statement: Triple,
+) -> Answer
+    requires { ⌜ FormedStore (now statements) (now facts) (now kept) (now supports) ⌝ }
+    requires { ⌜ isAllowedStatement statement ≡ true ⌝ }
+    ensures { λ r. ⌜ outcome r (tables (now (statements .exit)) (now (facts .entry)) (now (kept .exit)) (now (supports .exit))) ≡ withdraw (tables (now (statements .entry)) (now (facts .entry)) (now (kept .entry)) (now (supports .entry))) statement ⌝ }
+{
+    let n = statements[0] as usize;
+    match table::find(statements, n, statement) {
+        Found::Gap(_) => Answer::Idle,
+        Found::At(at) => withdraw_old_statement(statements, facts, kept, supports, statement, at),
+    }
+}
