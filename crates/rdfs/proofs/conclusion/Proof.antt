@@ -1,6 +1,5 @@
 -- One case for each part.
 use mathlib.Core.Path.{sym}
-use native.Mathlib.Omega.{arith}
 use Rattle.rdfs.proofs.WrittenLaws.{at-property, at-subject, at-object}
 use Rattle.rdfs.proofs.conclusion.Statement.{statement}
 use Rattle.rdfs.proofs.conclusion.Tie as tie
