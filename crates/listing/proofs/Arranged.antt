@@ -1,5 +1,5 @@
 -- Rows in a column order: no order loses a column, so distinct rows stay distinct, and sorted they are their ordered set. Assumes nothing.
-use Prim.Native.Nat.{ℕ, zero, suc, _+_, _*_, _≤_, _<_}
+use Prim.Native.Nat.{ℕ, suc, _+_, _≤_, _<_}
 use mathlib.Core.Path.{_≡_, refl, sym, ap, ap₂, _∙_}
 use mathlib.Core.Bool.{Bool, true, false, _&&_, _||_}
 use mathlib.Core.List.{List, [], _∷_, map, List·Memᴰ, List·Memᴰ·head, List·Memᴰ·tail, Memᴰ·of-map}
@@ -51,11 +51,11 @@ has-column t u c (d ∷ ds) h e =
     ⊎-elim (λ q. let p : d ≡ c = eqb-true d c q in rw (← p) a) (λ q. has-column t u c ds q b) (or-cases (eqb d c) (has c ds) h)
 
 -- A column order loses nothing.
-pub arranged-injective : (k : ℕ) (t u : Triple) → k < 6 → arranged k t ≡ arranged k u → t ≡ u
+pub arranged-injective : (k : ℕ) (t u : Triple) → k ≤ 5 → arranged k t ≡ arranged k u → t ≡ u
 unfolding arranged hasColumns
 arranged-injective k t u l e =
     let cs : List ℕ = getD columnOrders k [] in
-    let h : (has 0 cs && (has 1 cs && has 2 cs)) ≡ true = all-getD hasColumns columnOrders [] orders-complete k l in
+    let h : (has 0 cs && (has 1 cs && has 2 cs)) ≡ true = all-getD hasColumns columnOrders [] orders-complete k (omega arith) in
     let g : (has 1 cs && has 2 cs) ≡ true = and-right (has 0 cs) _ h in
     triple-eq t u (has-column t u 0 cs (and-left _ _ h) e) (has-column t u 1 cs (and-left _ _ g) e) (has-column t u 2 cs (and-right (has 1 cs) _ g) e)
 
@@ -66,6 +66,7 @@ abbrev pub Distinct : List (List ℕ) → Type 0
 Distinct [] = Unit {0}
 Distinct (r ∷ R) = (List·Memᴰ r R → ⊥) × Distinct R
 
+-- A row that is not the first one is put in alike, by the two tests against it.
 once-by : (x r : List ℕ) (R : List (List ℕ)) (a b : Bool) → less x r ≡ a → less r x ≡ b → (x ≡ r → ⊥) → insert x R ≡ insertOnce x R →
     pick a (x ∷ r ∷ R) (r ∷ insert x R) ≡ pick a (x ∷ r ∷ R) (pick b (r ∷ insertOnce x R) (r ∷ R))
 once-by x r R true b p q h i = refl
@@ -84,10 +85,12 @@ unfolding sort ordered
 sort-ordered [] d = refl
 sort-ordered (r ∷ R) d = ap (insert r) (sort-ordered R (d .1)) ∙ insert-once r (ordered R) (λ m. d .0 (ordered-iff r R .0 m))
 
+-- One row more, by the test on the first row.
 length-by : (x r : List ℕ) (R : List (List ℕ)) (a : Bool) → length (insert x R) ≡ suc (length R) → length (pick a (x ∷ r ∷ R) (r ∷ insert x R)) ≡ suc (suc (length R))
 length-by x r R true i = refl
 length-by x r R false i = ap suc i
 
+-- A row put in is one row more.
 length-insert : (x : List ℕ) (R : List (List ℕ)) → length (insert x R) ≡ suc (length R)
 unfolding insert
 length-insert x [] = refl
@@ -100,19 +103,20 @@ length-sort [] = refl
 length-sort (r ∷ R) = length-insert r (sort R) ∙ ap suc (length-sort R)
 
 -- Ascending rows stay distinct in a column order.
-pub arranged-distinct : (k : ℕ) (ts : List Triple) → k < 6 → Ascending ts → Distinct (map (arranged k) ts)
+pub arranged-distinct : (k : ℕ) (ts : List Triple) → k ≤ 5 → Ascending ts → Distinct (map (arranged k) ts)
 arranged-distinct k [] l a = tt
-arranged-distinct k (t ∷ ts) l a =
-    (λ m. let w = Memᴰ·of-map (arranged k) ts m in less-ne (above-member ts a (w .0) (w .1)) (arranged-injective k t (w .0) l (sym (w .2))),
-    arranged-distinct k ts l (above-asc t ts a))
+arranged-distinct k (t ∷ ts) l a = (
+  λ m. let w = Memᴰ·of-map (arranged k) ts m in less-ne (above-member ts a (w .0) (w .1)) (arranged-injective k t (w .0) l (sym (w .2))),
+  arranged-distinct k ts l (above-asc t ts a),
+)
 
 -- The rows of a listing are the rows in its order, sorted.
-pub listing-sorted : (k : ℕ) (ts : List Triple) → k < 6 → Ascending ts → sort (map (arranged k) ts) ≡ listingRows k ts
+pub listing-sorted : (k : ℕ) (ts : List Triple) → k ≤ 5 → Ascending ts → sort (map (arranged k) ts) ≡ listingRows k ts
 unfolding listingRows
 listing-sorted k ts l a = sort-ordered (map (arranged k) ts) (arranged-distinct k ts l a)
 
 -- A listing has as many rows as the table.
-pub listing-length : (k : ℕ) (ts : List Triple) → k < 6 → Ascending ts → length (listingRows k ts) ≡ length ts
+pub listing-length : (k : ℕ) (ts : List Triple) → k ≤ 5 → Ascending ts → length (listingRows k ts) ≡ length ts
 listing-length k ts l a = ap length (sym (listing-sorted k ts l a)) ∙ length-sort (map (arranged k) ts) ∙ length-map ts (arranged k)
 
 -- ---- rows written

@@ -1,8 +1,8 @@
 -- Columns of a triple, and rows written column by column. Assumes nothing.
-use Prim.Native.Nat.{ℕ, zero, suc, _+_, _*_, _≤_, _<_}
-use mathlib.Core.Path.{_≡_, refl, sym, ap, _∙_}
+use Prim.Native.Nat.{ℕ, zero, suc, _+_, _*_, _≤_}
+use mathlib.Core.Path.{_≡_, refl, _∙_}
 use mathlib.Core.List.{List, [], _∷_, map}
-use mathlib.Core.Logic.{_⊎_, ⊎-elim}
+use mathlib.Core.Logic.{⊎-elim}
 use native.Mathlib.Omega.{arith}
 use lib.ListN.{length, getD, set, length-set}
 use lib.Seq.{getD-set-same, getD-set-other}
@@ -32,12 +32,13 @@ three-columns t (a ∷ b ∷ c ∷ d ∷ cs) h = absurd (omega arith)
 abbrev stored : (at x y z : ℕ) → List ℕ → List ℕ
 stored at x y z t = set (set (set t at x) (at + 1) y) (at + 2) z
 
--- What is read at each of the three, and elsewhere.
 module _ (at x y z : ℕ) (t : List ℕ) where
+  -- The other words are as they were.
   stored-other : (w : ℕ) → (w ≡ at → ⊥) → (w ≡ at + 1 → ⊥) → (w ≡ at + 2 → ⊥) → getD (stored at x y z t) w 0 ≡ getD t w 0
   stored-other w f g h =
       getD-set-other (set (set t at x) (at + 1) y) (at + 2) w z 0 h ∙ getD-set-other (set t at x) (at + 1) w y 0 g ∙ getD-set-other t at w x 0 f
 
+  -- The three words are a row.
   stored-row : at + 3 ≤ length t → row 3 at (stored at x y z t) ≡ x ∷ y ∷ z ∷ []
   unfolding row
   stored-row h =
@@ -70,9 +71,9 @@ none-written cs ws t = record { each = λ j h. absurd (omega arith); after = λ 
 pub more-written : (cs : List ℕ) (i : ℕ) (r : Triple) (ws t s u : List ℕ) → RowsWritten cs i ws t s → r ≡ table.rowAt ws i → RowWritten i (map (column r) cs) s u → RowsWritten cs (i + 1) ws t u
 more-written cs i r ws t s u R q W = record {
   each = λ j h. ⊎-elim
-    (λ (e : j ≡ i). rw (e, ← q) (W .here))
-    (λ (k : j ≡ i → ⊥). row-ext 3 (j * 3) (j * 3) s u (λ w g. W .before (j * 3 + w) (omega arith)) ∙ R .each j (omega arith))
-    (eq-or j i);
+      (λ (e : j ≡ i). rw (e, ← q) (W .here))
+      (λ (k : j ≡ i → ⊥). row-ext 3 (j * 3) (j * 3) s u (λ w g. W .before (j * 3 + w) (omega arith)) ∙ R .each j (omega arith))
+      (eq-or j i);
   after = λ w h. W .after w (omega arith) ∙ R .after w (omega arith);
 }
 

@@ -12,20 +12,25 @@ ghost use mathlib.Core.Path.{_≡_};
 ghost use mathlib.Core.Bool.{true};
 ghost use mathlib.Core.List.{map, []};
 ghost use Prim.Native.Nat.{_+_, _*_, _≤_, _<_};
-ghost use lib.ListN.{length, getD};
-ghost use Rattle.rdf.specs.Order.{Ascending};
+ghost use lib.ListN.{length, getD, replicate};
 ghost use Rattle.table.specs.Table.{count, rows, isStatementTable, isFactTable, isKeptTable};
-ghost use Rattle.table.specs.Laid.{Laid};
-ghost use Rattle.output.specs.Output.{replied};
-ghost use Rattle.listing.specs.Listing.{columnOrders, column, listing};
+ghost use Rattle.output.specs.Output.{filled, replied};
+ghost use Rattle.listing.specs.Listing.{columnOrders, column, listingRows, listing};
 ghost use Rattle.listing.specs.Written.{RowWritten, RowsWritten, Listable};
 
 // The six column orders SPO, SOP, PSO, POS, OSP, OPS: columns 0 subject, 1 property, 2 object.
-const ORDERS: [[u32; 3]; 6] = [[0, 1, 2], [0, 2, 1], [1, 0, 2], [1, 2, 0], [2, 0, 1], [2, 1, 0]];
+const ORDERS: [[u32; 3]; 6] = [
+    [0, 1, 2],
+    [0, 2, 1],
+    [1, 0, 2],
+    [1, 2, 0],
+    [2, 0, 1],
+    [2, 1, 0],
+];
 
 // The columns of an order.
 fn columns(order: u32) -> [u32; 3]
-    requires { ⌜ order < 6 ⌝ }
+    requires { ⌜ order ≤ 5 ⌝ }
     ensures { λ r. ⌜ r ≡ getD columnOrders order [] ⌝ }
 {
     ORDERS[order as usize]
@@ -69,7 +74,20 @@ fn write_rows(table: &[u32], n: usize, columns: [u32; 3], out: &mut [u32])
     }
 }
 
-// Lists a table that is well formed or not: questions 1, 12 and 8, in this order, then the rows in a column order, sorted.
+// Fills a cleared output with a table's rows in a column order, sorted.
+fn fill_rows(table: &[u32], order: u32, out: &mut [u32])
+    requires { ⌜ Listable (now table) ⌝ }
+    requires { ⌜ order ≤ 5 ⌝ }
+    requires { ⌜ count (now table) * 3 ≤ length (now out) ⌝ }
+    requires { ⌜ now out ≡ replicate (length (now out)) 0 ⌝ }
+    ensures { λ _. ⌜ now (out .exit) ≡ filled (length (now (out .entry))) (listingRows order (rows (now (table .entry)))) ⌝ }
+{
+    let n = table[0] as usize;
+    write_rows(table, n, columns(order), out);
+    sort_rows(out, 3, n);
+}
+
+// Lists a table that is well formed or not: questions 1, 12 and 8, in this order, then the rows.
 fn list_rows(table: &[u32], formed: bool, order: u32, out: &mut [u32]) -> Reply
     requires { ⌜ (formed ≡ true → Listable (now table)) ⌝ }
     ensures { λ r. ⌜ replied r (now (out .exit)) ≡ listing formed order (now (table .entry)) (length (now (out .entry))) ⌝ }
@@ -85,8 +103,7 @@ fn list_rows(table: &[u32], formed: bool, order: u32, out: &mut [u32]) -> Reply
     if !are_fitting(n, 3, out.len()) {
         return Reply::Refused(8);
     }
-    write_rows(table, n, columns(order), out);
-    sort_rows(out, 3, n);
+    fill_rows(table, order, out);
     Reply::Rows(n)
 }
 

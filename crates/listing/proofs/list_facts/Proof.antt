@@ -1,28 +1,20 @@
 -- `list_facts` lists a table that `is_fact_table` judges.
 use mathlib.Core.Path.{sym, _∙_}
+use borrow.Author.Needs.{needs}
 use Rattle.table.proofs.Formed.{isTable-wellFormed}
 use Rattle.listing.proofs.Replies.{listable}
-use borrow.Author.Needs.{needs}
 use Rattle.listing.proofs.list_facts.Statement.{statement}
 use Rattle.listing.proofs.list_facts.Tie as tie
-use Rattle.listing.proofs.list_facts.Reads as reads
-use Rattle.listing.proofs.list_facts.Lts as lts
-use Rattle.listing.proofs.list_rows.Reads as list-rows-reads
-use Rattle.table.proofs.is_fact_table.Reads as is-fact-table-reads
 
--- src/lib.rt:105:22
 is-fact-table-requires : tie.Need-is-fact-table-requires
 is-fact-table-requires c κs = search needs
 
--- src/lib.rt:105:5
 list-rows-requires : tie.Need-list-rows-requires
 list-rows-requires c κs = λ e. listable (isTable-wellFormed _ _ _ (sym (c .before .is-fact-table .ensures) ∙ e))
 
--- src/lib.rt:102:1
 same-length : tie.Need-same-length
 same-length c = search needs
 
--- src/lib.rt:102:1
 returns : tie.Need-returns
 returns c = rw (c .before .before .before .before .is-fact-table .ensures) at (c .before .before .list-rows .ensures)
 

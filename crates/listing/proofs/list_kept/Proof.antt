@@ -1,28 +1,20 @@
 -- `list_kept` lists a table that `is_kept_table` judges.
 use mathlib.Core.Path.{sym, _∙_}
+use borrow.Author.Needs.{needs}
 use Rattle.table.proofs.Formed.{isTable-wellFormed}
 use Rattle.listing.proofs.Replies.{listable}
-use borrow.Author.Needs.{needs}
 use Rattle.listing.proofs.list_kept.Statement.{statement}
 use Rattle.listing.proofs.list_kept.Tie as tie
-use Rattle.listing.proofs.list_kept.Reads as reads
-use Rattle.listing.proofs.list_kept.Lts as lts
-use Rattle.listing.proofs.list_rows.Reads as list-rows-reads
-use Rattle.table.proofs.is_kept_table.Reads as is-kept-table-reads
 
--- src/lib.rt:112:22
 is-kept-table-requires : tie.Need-is-kept-table-requires
 is-kept-table-requires c κs = search needs
 
--- src/lib.rt:112:5
 list-rows-requires : tie.Need-list-rows-requires
 list-rows-requires c κs = λ e. listable (isTable-wellFormed _ _ _ (sym (c .before .is-kept-table .ensures) ∙ e))
 
--- src/lib.rt:109:1
 same-length : tie.Need-same-length
 same-length c = search needs
 
--- src/lib.rt:109:1
 returns : tie.Need-returns
 returns c = rw (c .before .before .before .before .is-kept-table .ensures) at (c .before .before .list-rows .ensures)
 

@@ -1,17 +1,13 @@
-use borrow.Author.Needs.{needs}
 -- `write_rows` writes the rows of a table: the loop has written those up to i.
-use mathlib.Core.Path.{_≡_, refl, _∙_}
 use Prim.Native.Nat.{_-_, _≤_}
+use mathlib.Core.Path.{_≡_, refl, _∙_}
 use native.Mathlib.Omega.{arith}
 use lib.ListN.{length}
+use borrow.Author.Needs.{needs}
 use Rattle.listing.specs.Written.{RowsWritten}
 use Rattle.listing.proofs.Writing.{none-written, more-written, written-whole}
 use Rattle.listing.proofs.write_rows.Statement.{statement}
 use Rattle.listing.proofs.write_rows.Tie as tie
-use Rattle.listing.proofs.write_rows.Reads as reads
-use Rattle.listing.proofs.write_rows.Lts as lts
-use Rattle.listing.proofs.write_row.Reads as write-row-reads
-use Rattle.table.proofs.row_at.Reads as row-at-reads
 
 abbrev Inv-loop : tie.InvT-loop
 Inv-loop table n columns out₀ i₀ out i = (i ≤ n) × (length out ≡ length out₀) × RowsWritten columns i table out₀ out
@@ -19,35 +15,27 @@ Inv-loop table n columns out₀ i₀ out i = (i ≤ n) × (length out ≡ length
 abbrev μ-loop : tie.MeasureT-loop
 μ-loop table n columns out₀ i₀ out i = n - i
 
--- src/lib.rt:66:5
 loop-holds : tie.Need-loop-holds Inv-loop μ-loop
 loop-holds c = (omega arith, refl, none-written _ _ _)
 
--- src/lib.rt:67:19
 row-at-requires : tie.Need-row-at-requires Inv-loop μ-loop
 row-at-requires c κs = search needs
 
--- src/lib.rt:67:9
 write-row-requires : tie.Need-write-row-requires Inv-loop μ-loop
 write-row-requires c κs = search needs
 
--- src/lib.rt:68:9
 add-i : tie.Need-add-i Inv-loop μ-loop
 add-i c = search needs
 
--- src/lib.rt:66:5
 loop-less : tie.Need-loop-less Inv-loop μ-loop
 loop-less c = search needs
 
--- src/lib.rt:66:5
 loop-again : tie.Need-loop-again Inv-loop μ-loop
 loop-again c = (omega arith, c .before .before .write-row .kept .1 .1 .1 .0 ∙ c .before .before .before .before .before .before .loop .inv .1, more-written _ _ _ _ _ _ _ (c .before .before .before .before .before .before .loop .inv .2) (c .before .before .before .before .row-at .ensures) (c .before .before .write-row .ensures))
 
--- src/lib.rt:60:1
 same-length : tie.Need-same-length Inv-loop μ-loop
 same-length c = search needs
 
--- src/lib.rt:60:1
 returns : tie.Need-returns Inv-loop μ-loop
 returns c = written-whole _ _ _ _ _ _ (c .before .loop .inv .2) (omega arith)
 

@@ -1,16 +1,12 @@
 -- `are_fitting` compares the number of rows with how many fit whole.
-use Rattle.output.proofs.Filled.{fitting-count}
 use borrow.Author.Needs.{needs}
+use Rattle.output.proofs.Filled.{fitting-count}
 use Rattle.output.proofs.are_fitting.Statement.{statement}
 use Rattle.output.proofs.are_fitting.Tie as tie
-use Rattle.output.proofs.are_fitting.Reads as reads
-use Rattle.output.proofs.are_fitting.Lts as lts
 
--- src/lib.rt:30:10
 div-result : tie.Need-div-result
 div-result c = search needs
 
--- src/lib.rt:26:1
 returns : tie.Need-returns
 returns c = λ R e. fitting-count _ _ _ R e
 
