@@ -1,7 +1,7 @@
 -- Rows in a column order: no order loses a column, so distinct rows stay distinct, and sorted they are their ordered set. Assumes nothing.
 use Prim.Native.Nat.{ℕ, suc, _+_, _≤_, _<_}
 use mathlib.Core.Path.{_≡_, refl, sym, ap, ap₂, _∙_}
-use mathlib.Core.Bool.{Bool, true, false, _&&_, _||_}
+use mathlib.Core.Bool.{Bool, true, false, _&&_, _||_, cond}
 use mathlib.Core.List.{List, [], _∷_, map, List·Memᴰ, List·Memᴰ·head, List·Memᴰ·tail, Memᴰ·of-map}
 use mathlib.Core.Logic.{⊎-elim}
 use native.Mathlib.Nat.{add-zero}
@@ -19,7 +19,7 @@ use Rattle.table.specs.Table.{all}
 use Rattle.table.specs.Table as table
 use Rattle.table.proofs.All.{all-getD}
 use Rattle.table.proofs.Rows.{getD-rows}
-use Rattle.sort.specs.Rows.{pick, less, tabulate, rows, rowAt, insert, sort, insertOnce, ordered}
+use Rattle.sort.specs.Rows.{less, tabulate, rows, rowAt, insert, sort, insertOnce, ordered}
 use Rattle.sort.proofs.Order.{less-tri}
 use Rattle.sort.proofs.Ordered.{ordered-iff}
 use Rattle.listing.specs.Listing.{columnOrders, column, arranged, listingRows}
@@ -68,7 +68,7 @@ Distinct (r ∷ R) = (List·Memᴰ r R → ⊥) × Distinct R
 
 -- A row that is not the first one is put in alike, by the two tests against it.
 once-by : (x r : List ℕ) (R : List (List ℕ)) (a b : Bool) → less x r ≡ a → less r x ≡ b → (x ≡ r → ⊥) → insert x R ≡ insertOnce x R →
-    pick a (x ∷ r ∷ R) (r ∷ insert x R) ≡ pick a (x ∷ r ∷ R) (pick b (r ∷ insertOnce x R) (r ∷ R))
+    cond a (x ∷ r ∷ R) (r ∷ insert x R) ≡ cond a (x ∷ r ∷ R) (cond b (r ∷ insertOnce x R) (r ∷ R))
 once-by x r R true b p q h i = refl
 once-by x r R false true p q h i = rw i
 once-by x r R false false p q h i = absurd (h (less-tri x r p q))
@@ -86,7 +86,7 @@ sort-ordered [] d = refl
 sort-ordered (r ∷ R) d = ap (insert r) (sort-ordered R (d .1)) ∙ insert-once r (ordered R) (λ m. d .0 (ordered-iff r R .0 m))
 
 -- One row more, by the test on the first row.
-length-by : (x r : List ℕ) (R : List (List ℕ)) (a : Bool) → length (insert x R) ≡ suc (length R) → length (pick a (x ∷ r ∷ R) (r ∷ insert x R)) ≡ suc (suc (length R))
+length-by : (x r : List ℕ) (R : List (List ℕ)) (a : Bool) → length (insert x R) ≡ suc (length R) → length (cond a (x ∷ r ∷ R) (r ∷ insert x R)) ≡ suc (suc (length R))
 length-by x r R true i = refl
 length-by x r R false i = ap suc i
 
