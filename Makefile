@@ -2,8 +2,8 @@
 .PHONY: run test toolchain
 
 run: toolchain
-	@rt check shelf >target/run.log 2>&1 || { cat target/run.log; exit 1; }
-	@target/bin/shelf
+	@rt check carried_rows >target/run.log 2>&1 || { cat target/run.log; exit 1; }
+	@target/bin/carried_rows
 
 test: toolchain
 	@rt ci

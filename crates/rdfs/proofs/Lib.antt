@@ -2,11 +2,5 @@ pub mod Sets
 pub mod Reach
 pub mod Entailment
 pub mod Carried
-pub mod MarkLaws
-pub mod Begin
-pub mod WorkLaws
-pub mod ConclusionLaws
-pub mod WordRows
-pub mod WrittenLaws
 pub mod Kept
 pub mod Saturation
