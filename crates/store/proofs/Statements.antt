@@ -26,7 +26,7 @@ use Rattle.table.proofs.Store.{formed-isStore}
 use Rattle.store.specs.declared.Answer.the-variants.{Applied, Idle, Refused}
 use Rattle.store.specs.Store.{Tables, tables, contentsOf, put}
 use Rattle.store.specs.Update.{withTriple, withoutTriple, isThere, isBelowCapacity, isKeptFitting, outcome, add, withdraw}
-use Rattle.store.specs.Saturated.{Saturated}
+use Rattle.store.specs.Saturated.{Result, result, written, saturated}
 use Rattle.store.proofs.Outcomes.{Passes, add-idle, add-full, add-unfit, add-applied, withdraw-idle, withdraw-unfit, withdraw-applied, there-yes, there-no}
 
 -- What `saturate` asks of the room, and the capacity of the kept facts gives.
@@ -36,6 +36,28 @@ kept-room {S} {F} {K} {U} W room e = (
   omega arith,
   omega (arith, capacity-most mostKept K),
 )
+
+-- What working out afresh says of the tables, by its answer.
+module _ {S F : List ℕ} {room : ℕ} {K U : List ℕ} {r : Bool} {K' U' : List ℕ} (Z : result r K' U' ≡ saturated S F room K U) where
+  afresh-fits : r ≡ leb (length (saturation (rows S) (rows F))) room
+  unfolding saturated written
+  afresh-fits = ap (λ (z : Result). z .fits) Z
+
+  afresh-kept : r ≡ true → K' ≡ layout (length K) (keptRows (saturation (rows S) (rows F)))
+  unfolding saturated written
+  afresh-kept y = ap (λ (z : Result). z .kept) Z ∙ rw (sym afresh-fits ∙ y) refl
+
+  afresh-supports : r ≡ true → U' ≡ supportLayout (length U) (keptSupports (saturation (rows S) (rows F)))
+  unfolding saturated written
+  afresh-supports y = ap (λ (z : Result). z .supports) Z ∙ rw (sym afresh-fits ∙ y) refl
+
+  afresh-same-kept : r ≡ false → K' ≡ K
+  unfolding saturated written
+  afresh-same-kept y = ap (λ (z : Result). z .kept) Z ∙ rw (sym afresh-fits ∙ y) refl
+
+  afresh-same-supports : r ≡ false → U' ≡ U
+  unfolding saturated written
+  afresh-same-supports y = ap (λ (z : Result). z .supports) Z ∙ rw (sym afresh-fits ∙ y) refl
 
 -- A row put in and taken out again at one place, and the other way round.
 pub inserted-removed : (i : ℕ) (t : Triple) (us : List Triple) → i ≤ length us → removeAt i (insertAt i t us) ≡ us
@@ -118,32 +140,23 @@ module _ {S F K U : List ℕ} (W : FormedStore S F K U) (t : Triple) (a : isAllo
     pub with-laid : Laid S' × (i < length (rows S'))
     with-laid = (with-formed .laid, omega (arith, inside, ap length (rows-of S' (length S) (insertAt i t (rows S)) e), length-insertAt i t (rows S) inside))
 
-    module _ (room : ℕ) (q : room ≡ min (capacity mostKept K) (length U)) {r : Bool} {K' U' : List ℕ} (Z : Saturated S' F room K U r K' U') where
+    module _ (room : ℕ) (q : room ≡ min (capacity mostKept K) (length U)) {r : Bool} {K' U' : List ℕ} (Z : result r K' U' ≡ saturated S' F room K U) where
       -- It enters, and the kept facts are those worked out afresh.
       pub statement-added : r ≡ true → outcome Applied (tables S' F K' U') ≡ add (tables S F K U) t
       unfolding isKeptFitting withTriple contentsOf put
       statement-added y =
-          sym (add-applied passes (missing p) (below h) (rw (is-statement, ← with-rows, ← q) (sym (Z .fits) ∙ y))
-          ∙ rw (is-statement, ← with-rows, ← length-with, ← (with-formed .laid .is-layout), ← (W .facts .laid .is-layout), ← kept-is y, ← supports-are y) refl)
-        where
-          kept-is : r ≡ true → K' ≡ layout (length K) (keptRows (saturation (rows S') (rows F)))
-          kept-is y = Z .kept ∙ rw y refl
-          supports-are : r ≡ true → U' ≡ supportLayout (length U) (keptSupports (saturation (rows S') (rows F)))
-          supports-are y = Z .supports ∙ rw y refl
+          sym (add-applied passes (missing p) (below h) (rw (is-statement, ← with-rows, ← q) (sym (afresh-fits Z) ∙ y))
+          ∙ rw (is-statement, ← with-rows, ← length-with, ← (with-formed .laid .is-layout), ← (W .facts .laid .is-layout), ← afresh-kept Z y, ← afresh-supports Z y) refl)
 
       -- The kept facts do not fit, and it was taken out again.
       pub statement-unfit : {S″ : List ℕ} → r ≡ false → S″ ≡ layout (length S') (removeAt i (rows S')) → outcome (Refused 5) (tables S″ F K' U') ≡ add (tables S F K U) t
       unfolding isKeptFitting withTriple contentsOf
       statement-unfit {S″} y f =
-          rw (same-statements, same-kept, same-supports)
-          (sym (add-unfit passes (missing p) (below h) (rw (is-statement, ← with-rows, ← q) (sym (Z .fits) ∙ y))))
+          rw (same-statements, afresh-same-kept Z y, afresh-same-supports Z y)
+          (sym (add-unfit passes (missing p) (below h) (rw (is-statement, ← with-rows, ← q) (sym (afresh-fits Z) ∙ y))))
         where
           same-statements : S″ ≡ S
           same-statements = f ∙ rw (length-with, rows-of S' (length S) (insertAt i t (rows S)) e, inserted-removed i t (rows S) inside) (sym (W .statements .laid .is-layout))
-          same-kept : K' ≡ K
-          same-kept = Z .kept ∙ rw y refl
-          same-supports : U' ≡ U
-          same-supports = Z .supports ∙ rw y refl
 
   -- ---- a statement that goes
 
@@ -176,29 +189,20 @@ module _ {S F K U : List ℕ} (W : FormedStore S F K U) (t : Triple) (a : isAllo
           omega (arith, stands-at t (rows S) i p .within),
         )
 
-    module _ (room : ℕ) (q : room ≡ min (capacity mostKept K) (length U)) {r : Bool} {K' U' : List ℕ} (Z : Saturated S' F room K U r K' U') where
+    module _ (room : ℕ) (q : room ≡ min (capacity mostKept K) (length U)) {r : Bool} {K' U' : List ℕ} (Z : result r K' U' ≡ saturated S' F room K U) where
       -- It goes, and the kept facts are those worked out afresh.
       pub statement-withdrawn : r ≡ true → outcome Applied (tables S' F K' U') ≡ withdraw (tables S F K U) t
       unfolding isKeptFitting withoutTriple contentsOf put
       statement-withdrawn y =
-          sym (withdraw-applied passes (present p) (rw (is-statement, ← without-rows, ← q) (sym (Z .fits) ∙ y))
-          ∙ rw (is-statement, ← without-rows, ← length-without, ← (without-formed .laid .is-layout), ← (W .facts .laid .is-layout), ← kept-is y, ← supports-are y) refl)
-        where
-          kept-is : r ≡ true → K' ≡ layout (length K) (keptRows (saturation (rows S') (rows F)))
-          kept-is y = Z .kept ∙ rw y refl
-          supports-are : r ≡ true → U' ≡ supportLayout (length U) (keptSupports (saturation (rows S') (rows F)))
-          supports-are y = Z .supports ∙ rw y refl
+          sym (withdraw-applied passes (present p) (rw (is-statement, ← without-rows, ← q) (sym (afresh-fits Z) ∙ y))
+          ∙ rw (is-statement, ← without-rows, ← length-without, ← (without-formed .laid .is-layout), ← (W .facts .laid .is-layout), ← afresh-kept Z y, ← afresh-supports Z y) refl)
 
       -- The kept facts do not fit, and it was put in again.
       pub withdrawal-unfit : {S″ : List ℕ} → r ≡ false → S″ ≡ layout (length S') (insertAt i t (rows S')) → outcome (Refused 5) (tables S″ F K' U') ≡ withdraw (tables S F K U) t
       unfolding isKeptFitting withoutTriple contentsOf
       withdrawal-unfit {S″} y f =
-          rw (same-statements, same-kept, same-supports)
-          (sym (withdraw-unfit passes (present p) (rw (is-statement, ← without-rows, ← q) (sym (Z .fits) ∙ y))))
+          rw (same-statements, afresh-same-kept Z y, afresh-same-supports Z y)
+          (sym (withdraw-unfit passes (present p) (rw (is-statement, ← without-rows, ← q) (sym (afresh-fits Z) ∙ y))))
         where
           same-statements : S″ ≡ S
           same-statements = f ∙ rw (length-without, rows-of S' (length S) (removeAt i (rows S)) e, removed-inserted i t (rows S) p) (sym (W .statements .laid .is-layout))
-          same-kept : K' ≡ K
-          same-kept = Z .kept ∙ rw y refl
-          same-supports : U' ≡ U
-          same-supports = Z .supports ∙ rw y refl

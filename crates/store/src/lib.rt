@@ -13,7 +13,7 @@ ghost use mathlib.Core.Bool.{true};
 ghost use Prim.Native.Nat.{_*_, _<_, _≤_};
 ghost use lib.ListN.{length};
 ghost use Rattle.table.specs.Table.{isStatementTable, isFactTable};
-ghost use Rattle.store.specs.Saturated.{Saturated};
+ghost use Rattle.store.specs.Saturated.{result, saturated};
 ghost use Rattle.store.specs.Store.{tables};
 ghost use Rattle.store.specs.Update.{outcome, add, withdraw};
 
@@ -29,7 +29,7 @@ pub fn saturate(statements: &[u32], facts: &[u32], kept: &mut [u32], supports: &
     requires { ⌜ isStatementTable (now statements) ≡ true ⌝ }
     requires { ⌜ isFactTable (now facts) ≡ true ⌝ }
     requires { ⌜ (room * 3 < length (now kept)) × (room ≤ length (now supports)) × (room ≤ 262143) ⌝ }
-    ensures { λ r. ⌜ Saturated (now (statements .entry)) (now (facts .entry)) room (now (kept .entry)) (now (supports .entry)) r (now (kept .exit)) (now (supports .exit)) ⌝ }
+    ensures { λ r. ⌜ result r (now (kept .exit)) (now (supports .exit)) ≡ saturated (now (statements .entry)) (now (facts .entry)) room (now (kept .entry)) (now (supports .entry)) ⌝ }
 {
     false
 }

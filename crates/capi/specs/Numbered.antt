@@ -1,0 +1,33 @@
+-- What the exported functions give: numbers and words (include/families.h). Definitions only.
+use Prim.Native.Nat.{ℕ}
+use mathlib.Core.List.{List}
+use Rattle.output.specs.Output.{Replied, replyNumber, replyCount}
+use Rattle.store.specs.Store.{Tables}
+use Rattle.store.specs.Update.{Outcome, answerNumber}
+
+-- The number of an update's answer, and the tables after it.
+pub record Updated : Type 0 where
+  pub number : ℕ
+  pub after : Tables
+
+-- A number and tables.
+abbrev pub updated : ℕ → Tables → Updated
+updated n T = record { number = n; after = T }
+
+-- "An update answers 0 applied, 100 idle, or the number that refused it."
+abbrev pub numberedOutcome : Outcome → Updated
+numberedOutcome o = updated (answerNumber (o .answer)) (o .after)
+
+-- The number of a reply, its row count, and the words of the output.
+pub record Listed : Type 0 where
+  pub number : ℕ
+  pub count : ℕ
+  pub words : List ℕ
+
+-- A number, a count and words.
+abbrev pub listed : ℕ → ℕ → List ℕ → Listed
+listed n c ws = record { number = n; count = c; words = ws }
+
+-- "0, or the refusing number; count: the rows written, 0 when refused."
+abbrev pub numberedReply : Replied → Listed
+numberedReply r = listed (replyNumber (r .reply)) (replyCount (r .reply)) (r .words)
