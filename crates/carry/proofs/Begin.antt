@@ -5,7 +5,7 @@ use mathlib.Core.Logic.{_⊎_, inl, inr, by-cases}
 use Prim.Native.Nat.{ℕ, _≤_, _<_}
 use native.Mathlib.Decide.{ℕ-discrete}
 use native.Mathlib.Omega.{arith}
-use lib.ListN.{length, getD, drop}
+use lib.ListN.{length, drop}
 use Rattle.rdf.specs.declared.Triple.{Triple}
 use Rattle.rdf.specs.Triple.{triple}
 use Rattle.rdf.specs.Order.{Less, by-subject, by-property, by-object}
@@ -16,7 +16,7 @@ use Rattle.table.specs.Table.{rowAt, firstRows}
 use Rattle.table.specs.Search.{place}
 use Rattle.table.proofs.Rows.{length-firstRows, getD-rowAt}
 use Rattle.table.proofs.Place.{stands-at, missing-at}
-use Rattle.carry.specs.Marks.{Statements, HasSubject, Begins}
+use Rattle.carry.specs.Marks.{Statements, Begins}
 use Rattle.carry.proofs.MarkLaws.{rows-less}
 
 -- A row that is less than x k 0 is not of the subject x and the property k.

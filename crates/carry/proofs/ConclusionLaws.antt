@@ -1,8 +1,8 @@
 -- The terms found are those that `conclusions` is made of. Assumes nothing.
 use mathlib.Core.Path.{_≡_, refl, sym, ap, _∙_}
-use mathlib.Core.Bool.{Bool, true, false}
+use mathlib.Core.Bool.{true, false}
 use mathlib.Core.List.{List, [], _∷_, _++_, List·Memᴰ, List·Memᴰ·head, List·Memᴰ·not-nil, List·Memᴰ·eq-of-singleton, Memᴰ·append-left, Memᴰ·append-right, List·Memᴰ·append-cases}
-use mathlib.Core.Logic.{_⊎_, inl, inr, ⊎-elim, by-cases, _↔_}
+use mathlib.Core.Logic.{⊎-elim, by-cases, _↔_}
 use Prim.Native.Nat.{ℕ, _+_, _≤_, _<_}
 use native.Mathlib.Decide.{ℕ-discrete, decLt}
 use native.Mathlib.Omega.{arith}
@@ -10,13 +10,12 @@ use lib.ListN.{length, getD, drop, set}
 use lib.Seq.{getD-set-same, getD-set-other}
 use Rattle.rdf.specs.declared.Triple.{Triple}
 use Rattle.rdf.specs.Term.{type, subClassOf, subPropertyOf, domain, range, isLiteral}
-use Rattle.rdf.specs.Triple.{triple}
 use Rattle.rdf.specs.Order.{choose}
 use Rattle.rdf.proofs.Order.{choose-yes, choose-no}
 use Rattle.table.specs.Table.{firstRows}
 use Rattle.rdfs.specs.Entailment.{Reach, ReachFrom}
 use Rattle.rdfs.specs.Closure.{objects, properties, subjectClasses, objectClasses}
-use Rattle.carry.specs.Marks.{Within, Unused, Room, ObjectOf, ReachedFrom, Grown}
+use Rattle.carry.specs.Marks.{Within, ObjectOf, ReachedFrom, Grown}
 use Rattle.carry.specs.Conclusions.{Listed}
 use Rattle.rdfs.proofs.Carried.{objects-iff, properties-iff, subjectStarts, subject-iff, object-iff}
 use Rattle.carry.proofs.WorkLaws.{within-kept, within-wider}

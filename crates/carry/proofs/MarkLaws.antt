@@ -1,6 +1,6 @@
 -- Laws of marks on statements, and of the rows of one subject and property. Assumes nothing.
-use mathlib.Core.Path.{_≡_, refl, sym, ap, _∙_}
-use mathlib.Core.Bool.{Bool, true, false, cond, _&&_}
+use mathlib.Core.Path.{_≡_, refl, sym, _∙_}
+use mathlib.Core.Bool.{_&&_}
 use mathlib.Core.List.{List, List·Memᴰ, Memᴰ·cast}
 use mathlib.Core.Logic.{by-cases}
 use Prim.Native.Nat.{ℕ, zero, suc, _+_, _-_, _*_, _≤_, _<_}
@@ -12,12 +12,12 @@ use lib.Dec.{eqb}
 use borrow.Author.Tests.{eq-eqb, eqb-true}
 use Rattle.rdf.specs.declared.Triple.{Triple}
 use Rattle.rdf.specs.Triple.{triple}
-use Rattle.rdf.specs.Order.{Less, by-subject, by-property, by-object, isAscending, triple-eq}
+use Rattle.rdf.specs.Order.{Less, by-subject, by-property, by-object, triple-eq}
 use Rattle.rdf.proofs.Ascending.{isAscending-iff, and-left, and-right}
 use Rattle.table.specs.Table.{rowAt, firstRows}
 use Rattle.table.proofs.Rows.{length-firstRows, getD-rowAt}
 use Rattle.table.proofs.Place.{ascending-getD, getD-member, member-getD}
-use Rattle.carry.specs.Marks.{Statements, HasSubject, Tells, Begins, Within, unused, Uniform, Unused, Room, ObjectOf, Grown, Extended}
+use Rattle.carry.specs.Marks.{Statements, HasSubject, Tells, Begins, Within, unused, Room, Grown, Extended}
 
 -- ---- how many statements have no mark
 
@@ -120,22 +120,6 @@ pub record Block (st : List ℕ) (m k x first : ℕ) (used₀ found₀ : List �
   pub after : (i : ℕ) → j ≤ i → getD used i 0 ≡ getD used₀ i 0
   pub kept : (i : ℕ) → i < n → getD found i 0 ≡ getD found₀ i 0
   pub objects : (i p : ℕ) → first ≤ i → i < j → p + first ≡ n + i → getD found p 0 ≡ rowAt st i .object
-
-pub block-begin : (st : List ℕ) (m k x first : ℕ) (used found : List ℕ) (n : ℕ) → Begins st m x k first → Block st m k x first used found n used found n first
-block-begin st m k x first used found n b = record {
-  low = omega arith;
-  high = b .high;
-  count = omega arith;
-  size-used = refl;
-  size-found = refl;
-  cost = refl;
-  rows = λ i a c. absurd (omega arith);
-  marks = λ i a c. absurd (omega arith);
-  before = λ i a. refl;
-  after = λ i a. refl;
-  kept = λ i a. refl;
-  objects = λ i p a c d. absurd (omega arith);
-}
 
 module _ (st : List ℕ) (m k x first : ℕ) (used₀ found₀ : List ℕ) (n : ℕ) (used found : List ℕ) (e j : ℕ) (b : Block st m k x first used₀ found₀ n used found e j)
     (room : Room st m used₀ found₀ n) where

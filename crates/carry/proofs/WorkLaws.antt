@@ -1,17 +1,16 @@
 -- Laws of the work list: one subject after another, and what is there in the end. Assumes nothing.
-use mathlib.Core.Path.{_≡_, refl, sym, ap, _∙_}
-use mathlib.Core.List.{List, [], _∷_, List·Memᴰ, Memᴰ·cast}
+use mathlib.Core.Path.{_≡_, refl, sym, _∙_}
+use mathlib.Core.List.{List, List·Memᴰ}
 use mathlib.Core.Logic.{_⊎_, inl, inr, ⊎-elim, by-cases, _↔_}
-use Prim.Native.Nat.{ℕ, zero, suc, _+_, _-_, _*_, _≤_, _<_}
+use Prim.Native.Nat.{ℕ, _+_, _≤_, _<_}
 use native.Mathlib.Decide.{ℕ-discrete, decLt}
 use native.Mathlib.Omega.{arith}
 use lib.ListN.{length, getD, drop}
-use Rattle.rdf.specs.declared.Triple.{Triple}
 use Rattle.rdf.specs.Triple.{triple}
 use Rattle.rdf.proofs.Order.{of-subject, of-property, of-object}
 use Rattle.table.specs.Table.{rowAt, firstRows}
 use Rattle.rdfs.specs.Entailment.{Reach, stay, step}
-use Rattle.carry.specs.Marks.{Statements, HasSubject, Within, unused, Uniform, Unused, Room, ObjectOf, ReachedFrom, Grown, Extended}
+use Rattle.carry.specs.Marks.{Within, Unused, Room, ObjectOf, ReachedFrom, Grown, Extended}
 use Rattle.carry.proofs.MarkLaws.{member-row, extended-none}
 
 -- Terms below n are as they were.

@@ -1,8 +1,8 @@
 -- The conclusions written are those of `conclusions`. Assumes nothing.
 use mathlib.Core.Path.{_≡_, refl, sym, ap, _∙_}
 use mathlib.Core.Bool.{true}
-use mathlib.Core.List.{List, [], _∷_, _++_, map, List·Memᴰ, Memᴰ·cast, Memᴰ·map, Memᴰ·of-map, Memᴰ·append-left, Memᴰ·append-right, List·Memᴰ·append-cases}
-use mathlib.Core.Logic.{_↔_, ⊎-elim, by-cases}
+use mathlib.Core.List.{List, map, List·Memᴰ, Memᴰ·cast, Memᴰ·map, Memᴰ·of-map, Memᴰ·append-left, Memᴰ·append-right, List·Memᴰ·append-cases}
+use mathlib.Core.Logic.{⊎-elim, by-cases}
 use Prim.Native.Nat.{ℕ, zero, suc, _+_, _*_, _≤_, _<_}
 use native.Mathlib.Decide.{ℕ-discrete, decLt}
 use native.Mathlib.Omega.{arith}
@@ -21,7 +21,7 @@ use Rattle.table.proofs.Formed.{isTable-wellFormed, capacity-most, ready}
 use Rattle.sort.specs.Rows.{tabulate, ordered, rowAt as wordsAt}
 use Rattle.sort.specs.Effects.{HoldsRows}
 use Rattle.rdfs.specs.Closure.{properties, subjectClasses, objectClasses, conclusions, carried}
-use Rattle.carry.specs.Marks.{Statements, Within, unused, Uniform, Unused, Room}
+use Rattle.carry.specs.Marks.{Statements, unused, Uniform, Unused, Room}
 use Rattle.carry.specs.Conclusions.{Listed, Concluded, conclusionAt}
 use Rattle.carry.proofs.ConclusionLaws.{both, kept-iff}
 use Rattle.carry.proofs.WordRows.{sorted-words}

@@ -2,8 +2,8 @@
 use rdf::Term;
 use rdf::Triple;
 ghost use mathlib.Core.Path.{_≡_};
-ghost use mathlib.Core.Bool.{Bool, true};
-ghost use mathlib.Core.List.{List, [], _∷_, List·Memᴰ};
+ghost use mathlib.Core.Bool.{true};
+ghost use mathlib.Core.List.{[], _∷_, List·Memᴰ};
 ghost use mathlib.Core.Logic.{_↔_};
 ghost use Prim.Native.Nat.{ℕ, _+_, _*_, _<_, _≤_};
 ghost use native.Mathlib.Decide.{ℕ-discrete};
@@ -183,7 +183,8 @@ fn write_conclusions(fact: Triple, ends: Ends, found: &[u32], out: &mut [u32])
     }
 }
 
-// What a fact carries, itself included: its rows, ascending, each once, three words each, into out. How many they are.
+// What a fact carries, itself included: its rows, ascending, each once, three words each, into out. How many they are. There has to be
+// room for a row for each term found, and some are found more than once.
 pub fn carry(statements: &[u32], fact: Triple, out: &mut [u32]) -> usize
     requires { ⌜ isStatementTable (now statements) ≡ true ⌝ }
     requires { ⌜ 3078 ≤ length (now out) ⌝ }

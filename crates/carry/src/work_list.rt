@@ -50,7 +50,7 @@ fn append_block(
     e
 }
 
-// The row where those of the subject x and the property k begin, or would: the search is for the object 0, which no term is below.
+// The row where those of the subject x and the property k begin, or would: the search is for the object 0, and no object is below it.
 fn first_row(st: &[u32], m: usize, x: u32, k: u32) -> usize
     requires { ⌜ Statements (now st) m ⌝ }
     ensures { λ r. ⌜ Begins (now (st .entry)) m x k r ⌝ }

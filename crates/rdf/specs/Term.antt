@@ -31,19 +31,23 @@ isVariable w = eqb (kind w) 3 && ltb (number w) 16
 unfoldable pub isVocabulary : ℕ → Bool
 isVocabulary w = leb 1 w && leb w 5
 
--- The vocabulary by name.
+-- rdf:type, by name.
 abbrev pub type : ℕ
 type = 1
 
+-- rdfs:subClassOf.
 abbrev pub subClassOf : ℕ
 subClassOf = 2
 
+-- rdfs:subPropertyOf.
 abbrev pub subPropertyOf : ℕ
 subPropertyOf = 3
 
+-- rdfs:domain.
 abbrev pub domain : ℕ
 domain = 4
 
+-- rdfs:range.
 abbrev pub range : ℕ
 range = 5
 

@@ -1,5 +1,4 @@
 -- The object is there just where the property is the type.
-use native.Mathlib.Omega.{arith}
 use Rattle.carry.proofs.ConclusionLaws.{listed-type, listed-untyped}
 use borrow.Author.Needs.{needs}
 use Rattle.carry.proofs.append_type.Statement.{statement}

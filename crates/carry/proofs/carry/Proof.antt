@@ -21,22 +21,39 @@ slice-aggregate-find-terms : tie.Need-slice-aggregate-find-terms
 slice-aggregate-find-terms c = search needs
 
 find-terms-requires : tie.Need-find-terms-requires
-find-terms-requires c κs = let s = c .before .before .before .before .before in let t = c .before .no-terms in (table-statements (s .args .statements .now) _ (s .pre .0) refl, omega (arith, ap length (t .ensures) ∙ length-replicate {A = ℕ} 1026 0))
+find-terms-requires c κs =
+    let s = c .before .before .before .before .before in
+    let t = c .before .no-terms in (table-statements (s .args .statements .now) _ (s .pre .0) refl, omega (arith, ap length (t .ensures) ∙ length-replicate {A = ℕ} 1026 0))
 
 slice-aggregate-write-conclusions : tie.Need-slice-aggregate-write-conclusions
 slice-aggregate-write-conclusions c = search needs
 
 write-conclusions-requires : tie.Need-write-conclusions-requires
-write-conclusions-requires c κs = let s = c .before .before .before .before .before .before .before .before .before in let t = c .before .before .before .before .before .no-terms in let f = c .before .before .before .find-terms in let n = few-rows (s .args .statements .now) _ (s .args .fact) (f .last .1 .1 .1 .0) _ _ _ (s .pre .0) refl (f .ensures) in (omega (arith, n, f .kept .1 .1 .1 .0, ap length (t .ensures) ∙ length-replicate {A = ℕ} 1026 0), omega (arith, n, s .pre .1))
+write-conclusions-requires c κs =
+    let s = c .before .before .before .before .before .before .before .before .before in
+    let t = c .before .before .before .before .before .no-terms in
+    let f = c .before .before .before .find-terms in
+    let n = few-rows (s .args .statements .now) _ (s .args .fact) (f .last .1 .1 .1 .0) _ _ _ (s .pre .0) refl (f .ensures) in
+    (omega (arith, n, f .kept .1 .1 .1 .0, ap length (t .ensures) ∙ length-replicate {A = ℕ} 1026 0), omega (arith, n, s .pre .1))
 
 sort-distinct-requires : tie.Need-sort-distinct-requires
-sort-distinct-requires c κs = let s = c .before .before .before .before .before .before .before .before .before .before .before .before .before in let f = c .before .before .before .before .before .before .before .find-terms in let w = c .before .before .before .write-conclusions in let n = few-rows (s .args .statements .now) _ (s .args .fact) (f .last .1 .1 .1 .0) _ _ _ (s .pre .0) refl (f .ensures) in omega (arith, n, s .pre .1, w .kept .1 .1 .1 .0)
+sort-distinct-requires c κs =
+    let s = c .before .before .before .before .before .before .before .before .before .before .before .before .before in
+    let f = c .before .before .before .before .before .before .before .find-terms in
+    let w = c .before .before .before .write-conclusions in
+    let n = few-rows (s .args .statements .now) _ (s .args .fact) (f .last .1 .1 .1 .0) _ _ _ (s .pre .0) refl (f .ensures) in omega (arith, n, s .pre .1, w .kept .1 .1 .1 .0)
 
 same-length : tie.Need-same-length
 same-length c = search needs
 
 returns : tie.Need-returns
-returns c = let s = c .before .before .before .before .before .before .before .before .before .before .before .before .before .before .before .before in let f = c .before .before .before .before .before .before .before .before .before .before .find-terms in let w = c .before .before .before .before .before .before .write-conclusions in let x = c .before .before .sort-distinct in carried-words (s .args .statements .now) _ (s .args .fact) (f .last .1 .1 .1 .0) _ _ _ (s .pre .0) refl (f .ensures) (w .last .1 .1 .1 .0) (x .last .0) _ (w .ensures) (omega (arith, s .pre .1, w .kept .1 .1 .1 .0)) (x .kept .0) (x .ensures)
+returns c =
+    let s = c .before .before .before .before .before .before .before .before .before .before .before .before .before .before .before .before in
+    let f = c .before .before .before .before .before .before .before .before .before .before .find-terms in
+    let w = c .before .before .before .before .before .before .write-conclusions in
+    let x = c .before .before .sort-distinct in
+    carried-words (s .args .statements .now) _ (s .args .fact) (f .last .1 .1 .1 .0) _ _ _ (s .pre .0) refl (f .ensures) (w .last .1 .1 .1 .0) (x .last .0) _ (w .ensures)
+    (omega (arith, s .pre .1, w .kept .1 .1 .1 .0)) (x .kept .0) (x .ensures)
 
 pub carry-spec : {M : Type 1} → statement M
 carry-spec =

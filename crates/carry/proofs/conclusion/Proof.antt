@@ -1,6 +1,5 @@
 -- One case for each part.
 use mathlib.Core.Path.{sym}
-use native.Mathlib.Omega.{arith}
 use Rattle.carry.proofs.WrittenLaws.{at-property, at-subject, at-object}
 use Rattle.carry.proofs.conclusion.Statement.{statement}
 use Rattle.carry.proofs.conclusion.Tie as tie

@@ -42,7 +42,9 @@ mul-out-2 : tie.Need-mul-out-2 Inv-loop μ-loop
 mul-out-2 c = search needs
 
 slice-write-out-2 : tie.Need-slice-write-out-2 Inv-loop μ-loop
-slice-write-out-2 c = let s = c .before .before .before .before .before .before in let l = c .before .before .before .loop in simp length-set (omega (arith, l .inv .0, s .pre .1, c .before .before .loop-test .taken))
+slice-write-out-2 c =
+    let s = c .before .before .before .before .before .before in
+    let l = c .before .before .before .loop in simp length-set (omega (arith, l .inv .0, s .pre .1, c .before .before .loop-test .taken))
 
 add-out-2 : tie.Need-add-out-2 Inv-loop μ-loop
 add-out-2 c = search needs
@@ -51,7 +53,9 @@ mul-out-3 : tie.Need-mul-out-3 Inv-loop μ-loop
 mul-out-3 c = search needs
 
 slice-write-out-3 : tie.Need-slice-write-out-3 Inv-loop μ-loop
-slice-write-out-3 c = let s = c .before .before .before .before .before .before in let l = c .before .before .before .loop in simp length-set (omega (arith, l .inv .0, s .pre .1, c .before .before .loop-test .taken))
+slice-write-out-3 c =
+    let s = c .before .before .before .before .before .before in
+    let l = c .before .before .before .loop in simp length-set (omega (arith, l .inv .0, s .pre .1, c .before .before .loop-test .taken))
 
 add-i : tie.Need-add-i Inv-loop μ-loop
 add-i c = search needs
@@ -60,13 +64,21 @@ loop-less : tie.Need-loop-less Inv-loop μ-loop
 loop-less c = search needs
 
 loop-again : tie.Need-loop-again Inv-loop μ-loop
-loop-again c = let s = c .before .before .before .before .before .before in let l = c .before .before .before .loop in let k = c .conclusion in (length-put (l .out) _ (k .result) ∙ l .inv .0, search needs, written-more (s .args .fact) _ _ (s .args .found .now) (l .out) _ (k .result) (omega (arith, l .inv .0, s .pre .1, c .before .before .loop-test .taken)) (k .ensures) (l .inv .2))
+loop-again c =
+    let s = c .before .before .before .before .before .before in
+    let l = c .before .before .before .loop in
+    let k = c .conclusion in (
+      length-put (l .out) _ (k .result) ∙ l .inv .0,
+      search needs,
+      written-more (s .args .fact) _ _ (s .args .found .now) (l .out) _ (k .result) (omega (arith, l .inv .0, s .pre .1, c .before .before .loop-test .taken)) (k .ensures)
+          (l .inv .2),
+    )
 
 same-length : tie.Need-same-length Inv-loop μ-loop
 same-length c = search needs
 
 returns : tie.Need-returns Inv-loop μ-loop
-returns c = let s = c .before .before .before .before in let l = c .before .loop in λ i h. l .inv .2 i (omega (arith, c .loop-test .left))
+returns c = let l = c .before .loop in λ i h. l .inv .2 i (omega (arith, c .loop-test .left))
 
 pub write-conclusions-spec : {M : Type 1} → statement M
 write-conclusions-spec =

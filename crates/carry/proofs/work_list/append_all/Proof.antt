@@ -23,7 +23,9 @@ slice-read-x : tie.Need-slice-read-x Inv-loop μ-loop
 slice-read-x c = search needs
 
 append-objects-requires : tie.Need-append-objects-requires Inv-loop μ-loop
-append-objects-requires c κs = let s = c .before .before .before .before .before .before .before .before in let l = c .before .before .before .before .loop in (s .pre .0, turn-room (l .inv .1) (s .pre .1 .0))
+append-objects-requires c κs =
+    let s = c .before .before .before .before .before .before .before .before in
+    let l = c .before .before .before .before .loop in (s .pre .0, turn-room (l .inv .1) (s .pre .1 .0))
 
 add-i : tie.Need-add-i Inv-loop μ-loop
 add-i c = search needs
@@ -32,7 +34,15 @@ loop-less : tie.Need-loop-less Inv-loop μ-loop
 loop-less c = search needs
 
 loop-again : tie.Need-loop-again Inv-loop μ-loop
-loop-again c = let s = c .before .before .before .before .before .before .before .before .before .before .before .before .before in let l = c .before .before .before .before .before .before .before .before .before .loop in let a = c .before .before .before .before .append-objects in (search needs, (turn-more (l .inv .1) _ refl (omega (arith, l .inv .0, c .before .before .before .before .before .before .before .before .loop-test .taken, l .inv .1 .done .grown .grows, s .pre .1 .1 .1)) (a .ensures) (a .kept .1 .1 .1 .1 .0) (a .kept .1 .1 .1 .1 .1 .0)))
+loop-again c =
+    let s = c .before .before .before .before .before .before .before .before .before .before .before .before .before in
+    let l = c .before .before .before .before .before .before .before .before .before .loop in
+    let a = c .before .before .before .before .append-objects in (
+      search needs,
+      (turn-more (l .inv .1) _ refl
+          (omega (arith, l .inv .0, c .before .before .before .before .before .before .before .before .loop-test .taken, l .inv .1 .done .grown .grows, s .pre .1 .1 .1)) (a .ensures)
+          (a .kept .1 .1 .1 .1 .0) (a .kept .1 .1 .1 .1 .1 .0)),
+    )
 
 same-length : tie.Need-same-length Inv-loop μ-loop
 same-length c = search needs
@@ -41,7 +51,9 @@ same-length-2 : tie.Need-same-length-2 Inv-loop μ-loop
 same-length-2 c = search needs
 
 returns : tie.Need-returns Inv-loop μ-loop
-returns c = let s = c .before .before .before .before .before in let l = c .before .loop in let q : l .i ≡ s .args .to = omega arith in let t = rw q at (l .inv .1) in (t .done .grown, all-end (s .pre .1 .1 .1 .1) (s .pre .1 .1 .0) t)
+returns c =
+    let s = c .before .before .before .before .before in
+    let l = c .before .loop in let q : l .i ≡ s .args .to = omega arith in let t = rw q at (l .inv .1) in (t .done .grown, all-end (s .pre .1 .1 .1 .1) (s .pre .1 .1 .0) t)
 
 pub append-all-spec : {M : Type 1} → statement M
 append-all-spec =

@@ -4,7 +4,7 @@ use Prim.Native.Nat.{_-_}
 use native.Mathlib.Omega.{arith}
 use borrow.Author.Tests.{not-true, not-false}
 use Rattle.table.specs.Table.{rowAt}
-use Rattle.carry.proofs.MarkLaws.{Block, block-begin, block-place, block-more, block-end, block-stops}
+use Rattle.carry.proofs.MarkLaws.{Block, block-place, block-more, block-end, block-stops}
 use Rattle.carry.proofs.work_list.append_block.Statement.{statement}
 use Rattle.carry.proofs.work_list.append_block.Tie as tie
 
@@ -27,7 +27,12 @@ same-length-2 : tie.Need-same-length-2 Inv-loop μ-loop
 same-length-2 c = search needs
 
 returns : tie.Need-returns Inv-loop μ-loop
-returns c = block-end (c .before .before .before .before .before .before .before .args .st .now) _ _ _ _ (c .before .before .before .before .before .before .before .args .used .now) (c .before .before .before .before .before .before .before .args .found .now) _ (c .before .before .before .loop .used) (c .before .before .before .loop .found) _ _ (c .before .before .before .loop .inv) (c .before .before .before .before .before .before .before .pre .1 .1 .0) (c .before .before .before .before .before .before .before .pre .1 .0) (block-stops (c .before .before .before .before .before .before .before .args .st .now) _ _ _ _ _ (c .before .before .before .before .before .before .before .pre .0) (c .before .before .before .before .before .before .before .pre .1 .0) (c .before .before .before .loop .inv .low) (c .before .before .loop-test .taken) (c .before .has-subject .ensures .if-false (not-true _ (c .if1 .taken))))
+returns c =
+    let s = c .before .before .before .before .before .before .before in
+    let l = c .before .before .before in
+    block-end (s .args .st .now) _ _ _ _ (s .args .used .now) (s .args .found .now) _ (l .loop .used) (l .loop .found) _ _ (l .loop .inv) (s .pre .1 .1 .0) (s .pre .1 .0)
+    (block-stops (s .args .st .now) _ _ _ _ _ (s .pre .0) (s .pre .1 .0) (l .loop .inv .low) (c .before .before .loop-test .taken)
+    (c .before .has-subject .ensures .if-false (not-true _ (c .if1 .taken))))
 
 mul-at : tie.Need-mul-at Inv-loop μ-loop
 mul-at c = search needs
@@ -51,7 +56,13 @@ mul-found-2 : tie.Need-mul-found-2 Inv-loop μ-loop
 mul-found-2 c = search needs
 
 slice-write-found : tie.Need-slice-write-found Inv-loop μ-loop
-slice-write-found c = block-place (c .before .before .before .before .before .before .before .before .args .st .now) _ _ _ _ (c .before .before .before .before .before .before .before .before .args .used .now) (c .before .before .before .before .before .before .before .before .args .found .now) _ (c .before .before .before .before .loop .used) (c .before .before .before .before .loop .found) _ _ (c .before .before .before .before .loop .inv) (c .before .before .before .before .before .before .before .before .pre .1 .1 .0) (c .before .before .before .loop-test .taken) (c .before .before .has-subject .ensures .if-true (not-false _ (c .before .if1 .left))) (c .before .before .before .before .before .before .before .before .pre .1 .1 .1)
+slice-write-found c =
+    let s = c .before .before .before .before .before .before .before .before in
+    let l = c .before .before .before .before in
+    let p =
+    block-place (s .args .st .now) _ _ _ _ (s .args .used .now) (s .args .found .now) _ (l .loop .used) (l .loop .found) _ _ (l .loop .inv) (s .pre .1 .1 .0)
+    (c .before .before .before .loop-test .taken) (c .before .before .has-subject .ensures .if-true (not-false _ (c .before .if1 .left))) (s .pre .1 .1 .1) in
+    omega (arith, p, l .loop .inv .count, l .loop .inv .low)
 
 add-e : tie.Need-add-e Inv-loop μ-loop
 add-e c = search needs
@@ -64,7 +75,11 @@ loop-less c = search needs
 
 loop-again : tie.Need-loop-again Inv-loop μ-loop
 unfolding rowAt
-loop-again c = block-more (c .before .before .before .before .before .before .before .before .args .st .now) _ _ _ _ (c .before .before .before .before .before .before .before .before .args .used .now) (c .before .before .before .before .before .before .before .before .args .found .now) _ (c .before .before .before .before .loop .used) (c .before .before .before .before .loop .found) _ _ (c .before .before .before .before .loop .inv) (c .before .before .before .before .before .before .before .before .pre .1 .1 .0) (c .before .before .before .loop-test .taken) (c .before .before .has-subject .ensures .if-true (not-false _ (c .before .if1 .left))) (c .before .before .before .before .before .before .before .before .pre .1 .1 .1)
+loop-again c =
+    let s = c .before .before .before .before .before .before .before .before in
+    let l = c .before .before .before .before in
+    block-more (s .args .st .now) _ _ _ _ (s .args .used .now) (s .args .found .now) _ (l .loop .used) (l .loop .found) _ _ (l .loop .inv) (s .pre .1 .1 .0)
+    (c .before .before .before .loop-test .taken) (c .before .before .has-subject .ensures .if-true (not-false _ (c .before .if1 .left))) (s .pre .1 .1 .1)
 
 same-length-3 : tie.Need-same-length-3 Inv-loop μ-loop
 same-length-3 c = search needs
@@ -73,7 +88,11 @@ same-length-4 : tie.Need-same-length-4 Inv-loop μ-loop
 same-length-4 c = search needs
 
 returns-2 : tie.Need-returns-2 Inv-loop μ-loop
-returns-2 c = block-end (c .before .before .before .before .before .args .st .now) _ _ _ _ (c .before .before .before .before .before .args .used .now) (c .before .before .before .before .before .args .found .now) _ (c .before .loop .used) (c .before .loop .found) _ _ (c .before .loop .inv) (c .before .before .before .before .before .pre .1 .1 .0) (c .before .before .before .before .before .pre .1 .0) (λ i a l h. absurd (omega arith))
+returns-2 c =
+    let s = c .before .before .before .before .before in
+    let l = c .before in
+    block-end (s .args .st .now) _ _ _ _ (s .args .used .now) (s .args .found .now) _ (l .loop .used) (l .loop .found) _ _ (l .loop .inv) (s .pre .1 .1 .0) (s .pre .1 .0)
+    (λ i a l h. absurd (omega arith))
 
 pub append-block-spec : {M : Type 1} → statement M
 append-block-spec =
