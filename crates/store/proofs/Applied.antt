@@ -1,24 +1,23 @@
 -- What an applied update makes of contents that fit: contents that fit again. Assumes nothing.
-use Prim.Native.Nat.{ℕ, zero, suc, _+_, _≤_, _<_, min}
-use mathlib.Core.Path.{_≡_, refl, sym, ap, _∙_, subst}
-use mathlib.Core.Bool.{Bool, true, false, _&&_, _||_, not, cond}
-use mathlib.Core.Logic.{_⊎_, inl, inr, ⊎-elim}
+use Prim.Native.Nat.{ℕ, suc, _≤_, _<_}
+use mathlib.Core.Path.{_≡_, refl}
+use mathlib.Core.Bool.{Bool, true, false}
+use mathlib.Core.Logic.{_⊎_, ⊎-elim}
 use mathlib.Core.List.{List, [], _∷_, List·Memᴰ, List·Memᴰ·head, List·Memᴰ·tail, List·Memᴰ·eq-of-singleton}
 use native.Mathlib.Omega.{arith}
 use lib.ListN.{length}
 use Rattle.rdf.specs.declared.Triple.{Triple}
-use Rattle.rdf.specs.Triple.{isTriple, isStatement, areSidesAllowed, isAllowedStatement, isAllowedFact}
-use Rattle.rdf.specs.Order.{equalTriples, choose, Ascending, insert, remove}
+use Rattle.rdf.specs.Triple.{isStatement, isAllowedStatement, isAllowedFact}
+use Rattle.rdf.specs.Order.{equalTriples, Ascending, insert, remove}
 use Rattle.rdf.proofs.Order.{choose-elim}
 use Rattle.rdf.proofs.Ascending.{insert-asc, insert-cases, insert-length, remove-asc, remove-sub, remove-length}
-use Rattle.rdfs.specs.Entailment.{NoVocabulary}
 use Rattle.rdfs.specs.Closure.{isIn, carried}
-use Rattle.rdfs.specs.Saturation.{Kept, lookup, raiseAll, lowerAll, saturation, keptRows, keptSupports}
+use Rattle.rdfs.specs.Saturation.{Kept, lookup, raiseAll, lowerAll, saturation, keptSupports}
 use Rattle.rdfs.specs.Counts.{Counts}
 use Rattle.rdfs.proofs.Entailment.{allowed-no-vocabulary, holds-allowed}
 use Rattle.rdfs.proofs.Carried.{carried-ascends, carried-iff}
 use Rattle.rdfs.proofs.Kept.{counts-of, support-of, kept-positive}
-use Rattle.rdfs.proofs.Saturation.{among, raiseAll-counts, lookup-raiseAll, lowerAll-length, saturation-ascends, saturation-allowed, saturation-supports, raise-saturation, lower-saturation}
+use Rattle.rdfs.proofs.Saturation.{among, raiseAll-counts, lookup-raiseAll, lowerAll-length, saturation-ascends, saturation-allowed, saturation-supports, lower-saturation}
 use Rattle.store.specs.Store.{Tables, Contents, contents, statementCapacity, factCapacity, keptCapacity}
 use Rattle.store.specs.Update.{withTriple, withoutTriple}
 use Rattle.store.proofs.Missing.{raiseAll-asc, raiseAll-cases, insert-new-length}

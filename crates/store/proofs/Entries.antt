@@ -1,30 +1,32 @@
 -- Laws of kept facts in the words of their tables, place by place. Assumes nothing.
-use Prim.Native.Nat.{ℕ, zero, suc, _+_, _-_, _*_, _≤_, _<_, min}
-use mathlib.Core.Path.{_≡_, refl, sym, ap, ap₂, _∙_, subst}
+use Prim.Native.Nat.{ℕ, zero, suc, _+_, _*_, _≤_, _<_}
+use mathlib.Core.Path.{_≡_, refl, sym, ap, _∙_}
 use mathlib.Core.Logic.{_≢_, by-cases}
 use mathlib.Core.List.{List, [], _∷_, _++_, zip, zipWith, map}
 use native.Mathlib.Decide.{ℕ-discrete}
 use native.Mathlib.Numerals.{add-one}
 use native.Mathlib.Omega.{arith}
-use lib.ListN.{length, getD, take, drop, set, replicate, length-set, length-drop, length-append, length-map, take-append-drop}
-use lib.Seq.{drop-cons, getD-set-same, getD-set-other, getD-drop, getD-take, ext-getD, drop-set-lt, length-take-le}
+use lib.ListN.{length, getD, take, drop, set, length-set, length-map, take-append-drop}
+use lib.Seq.{drop-cons, getD-set-same, getD-set-other, getD-take, ext-getD, drop-set-lt, length-take-le}
 use Rattle.rdf.specs.declared.Triple.{Triple}
 use Rattle.rdf.specs.Triple.{triple}
-use Rattle.table.specs.Table.{count, tripleFrom, rowAt, firstRows, rows, flatten, layout, supportLayout}
-use Rattle.table.proofs.Rows.{length-firstRows, firstRows-rows, getD-rowAt, flatten-firstRows, length-flatten}
-use Rattle.rdfs.specs.Saturation.{Kept, keptRows, keptSupports}
+use Rattle.table.specs.Table.{count, rowAt, firstRows, rows, flatten, layout, supportLayout}
+use Rattle.table.proofs.Rows.{length-firstRows, firstRows-rows, getD-rowAt, flatten-firstRows}
+use Rattle.rdfs.specs.Saturation.{keptRows, keptSupports}
 use Rattle.store.specs.Store.{keptOf}
-use Rattle.store.specs.Entries.{entries, putRow, Room, Entered}
+use Rattle.store.specs.Entries.{entries, putRow, Room}
 
 -- ---- zip
 
 module _ {A B : Type 0} where
+  -- Two lists side by side: how many pairs,
   length-zip : (xs : List A) (ys : List B) → length xs ≤ length ys → length (zip xs ys) ≡ length xs
   unfolding zip zipWith
   length-zip [] ys h = refl
   length-zip (x ∷ xs) [] h = absurd (omega arith)
   length-zip (x ∷ xs) (y ∷ ys) h = ap suc (length-zip xs ys (omega arith))
 
+  -- each pair,
   getD-zip : (xs : List A) (ys : List B) (i : ℕ) (a : A) (b : B) → i < length xs → length xs ≤ length ys → getD (zip xs ys) i (a, b) ≡ (getD xs i a, getD ys i b)
   unfolding zip zipWith
   getD-zip [] ys i a b h k = absurd (omega arith)
@@ -32,12 +34,14 @@ module _ {A B : Type 0} where
   getD-zip (x ∷ xs) (y ∷ ys) zero a b h k = refl
   getD-zip (x ∷ xs) (y ∷ ys) (suc i) a b h k = getD-zip xs ys i a b (omega arith) (omega arith)
 
+  -- the first list,
   firsts-zip : (xs : List A) (ys : List B) → length xs ≤ length ys → map (λ (e : A × B). e .0) (zip xs ys) ≡ xs
   unfolding zip zipWith
   firsts-zip [] ys h = refl
   firsts-zip (x ∷ xs) [] h = absurd (omega arith)
   firsts-zip (x ∷ xs) (y ∷ ys) h = ap (λ (l : List A). x ∷ l) (firsts-zip xs ys (omega arith))
 
+  -- and as much of the second.
   seconds-zip : (xs : List A) (ys : List B) → length xs ≤ length ys → map (λ (e : A × B). e .1) (zip xs ys) ≡ take (length xs) ys
   unfolding zip zipWith
   seconds-zip [] ys h = refl
@@ -51,6 +55,7 @@ abbrev pub noEntry : Triple × ℕ
 noEntry = (triple 0 0 0, 0)
 
 module _ (n : ℕ) (ws us : List ℕ) (h : n ≤ length us) where
+  -- There are n entries.
   few : length (firstRows n (drop 1 ws)) ≤ length us
   few = rw length-firstRows h
 
@@ -63,6 +68,7 @@ module _ (n : ℕ) (ws us : List ℕ) (h : n ≤ length us) where
   unfolding entries
   getD-entries i k = rw (← getD-rowAt ws n i (triple 0 0 0) k) (getD-zip (firstRows n (drop 1 ws)) us i (triple 0 0 0) 0 (rw length-firstRows k) few)
 
+  -- Their rows and their supports.
   pub keptRows-entries : keptRows (entries n ws us) ≡ firstRows n (drop 1 ws)
   unfolding entries
   keptRows-entries = firsts-zip (firstRows n (drop 1 ws)) us few
@@ -88,6 +94,7 @@ take-entries i n ws us h k =
 
 -- ---- a row written
 
+-- The length stays.
 pub length-putRow : (i : ℕ) (x : Triple) (ws : List ℕ) → length (putRow i x ws) ≡ length ws
 unfolding putRow
 length-putRow i x ws = simp length-set
@@ -97,6 +104,7 @@ put-other : (ws : List ℕ) (a p q r b : ℕ) → b ≢ a → b ≢ a + 1 → b 
 put-other ws a p q r b h k l =
     getD-set-other (set (set ws a p) (a + 1) q) (a + 2) b r 0 l ∙ getD-set-other (set ws a p) (a + 1) b q 0 k ∙ getD-set-other ws a b p 0 h
 
+-- So does any other row.
 pub rowAt-other : (i j : ℕ) (x : Triple) (ws : List ℕ) → j ≢ i → rowAt (putRow i x ws) j ≡ rowAt ws j
 unfolding rowAt putRow
 rowAt-other i j x ws n =
@@ -105,6 +113,7 @@ rowAt-other i j x ws n =
     let e₂ = put-other ws (i * 3 + 1) (x .subject) (x .property) (x .object) (j * 3 + 1 + 2) (λ q. omega arith) (λ q. omega arith) (λ q. n (omega arith)) in
     λ z. triple (e₀ z) (e₁ z) (e₂ z)
 
+-- The row is the one written.
 pub rowAt-same : (i : ℕ) (x : Triple) (ws : List ℕ) → i * 3 + 3 < length ws → rowAt (putRow i x ws) i ≡ x
 unfolding rowAt putRow
 rowAt-same i x ws h =

@@ -1,34 +1,33 @@
 -- What an addition or a withdrawal of a fact comes to, as the code decides it. Assumes nothing.
-use Prim.Native.Nat.{ℕ, zero, suc, _+_, _-_, _*_, _^_, _≤_, _<_, min}
-use mathlib.Core.Path.{_≡_, refl, sym, ap, _∙_, subst}
-use mathlib.Core.Bool.{Bool, true, false, _&&_, not, cond}
-use mathlib.Core.List.{List, [], _∷_, _++_, List·Memᴰ}
+use Prim.Native.Nat.{ℕ, _+_, _-_, _*_, _≤_, _<_, min}
+use mathlib.Core.Path.{_≡_, refl, sym, ap, _∙_}
+use mathlib.Core.Bool.{true, false}
+use mathlib.Core.List.{List, _++_}
 use native.Mathlib.Omega.{arith}
-use lib.ListN.{length, getD, take, drop, replicate, length-map, length-take, take-append-drop}
+use lib.ListN.{length, getD, take, drop, replicate, length-take, take-append-drop}
 use lib.Seq.{drop-at, length-take-le}
-use lib.Dec.{leb, ltb}
 use borrow.Author.Tests.{not-true, lt-ltb, le-ltb, le-leb, lt-leb}
 use Rattle.rdf.specs.declared.Triple.{Triple}
-use Rattle.rdf.specs.Triple.{isTriple, isStatement, areSidesAllowed, isAllowedFact}
-use Rattle.rdf.specs.Order.{Ascending, isAscending, insert, remove}
+use Rattle.rdf.specs.Triple.{isTriple, isStatement, isAllowedFact}
+use Rattle.rdf.specs.Order.{Ascending, isAscending}
 use Rattle.rdf.proofs.Ascending.{and-left, and-right}
 use Rattle.table.specs.declared.Found.{Found}
 use Rattle.table.specs.declared.Found.the-variants.{At, Gap}
 use Rattle.table.specs.Table.{capacity, mostStatements, mostFacts, mostKept, count, firstRows, rows, flatten, layout, supportLayout}
 use Rattle.table.specs.Search.{place, insertAt, removeAt}
-use Rattle.table.specs.Laid.{Laid, Spare, FormedStore}
+use Rattle.table.specs.Laid.{Spare, FormedStore}
 use Rattle.table.proofs.Rows.{length-rows, length-firstRows, firstRows-rows, firstRows-flatten, length-flatten}
-use Rattle.table.proofs.Formed.{capacity-fits, capacity-most, ready, spare, wellFormed-isTable}
+use Rattle.table.proofs.Formed.{capacity-fits, capacity-most, ready, spare}
 use Rattle.table.proofs.Supports.{support-between}
-use Rattle.table.proofs.Place.{stands-at, missing-at, at-member, gap-absent}
+use Rattle.table.proofs.Place.{at-member, gap-absent}
 use Rattle.table.proofs.Change.{insertAt-gap, removeAt-at}
 use Rattle.table.proofs.Store.{formed-isStore}
 use Rattle.rdfs.specs.Closure.{carried}
-use Rattle.rdfs.specs.Saturation.{Kept, raiseAll, lowerAll, keptRows, keptSupports}
+use Rattle.rdfs.specs.Saturation.{Kept, raiseAll, lowerAll, keptRows}
 use Rattle.rdfs.proofs.Carried.{carried-ascends, carried-bound}
 use Rattle.rdfs.proofs.Saturation.{raiseAll-length, lowerAll-length}
 use Rattle.store.specs.declared.Answer.the-variants.{Applied, Idle, Refused}
-use Rattle.store.specs.Store.{Tables, tables, areFormed, contentsOf, keptOf, put, keptCapacity}
+use Rattle.store.specs.Store.{tables, contentsOf, keptOf, put, keptCapacity}
 use Rattle.store.specs.Update.{withTriple, withoutTriple, isThere, isBelowCapacity, isKeptFitting, outcome, add, withdraw}
 use Rattle.store.specs.Entries.{KeptTables, Sought, Raisable, Lowerable, Holding}
 use Rattle.store.proofs.Entries.{length-entries, keptRows-entries, keptOf-entries}
@@ -41,12 +40,14 @@ pub rows-listed : (rs : List ℕ) (c : ℕ) (ts : List Triple) → c ≡ length 
 rows-listed rs c ts e q =
     ap (firstRows c) (sym (take-append-drop (c * 3) rs) ∙ ap (λ (l : List ℕ). l ++ drop (c * 3) rs) q) ∙ rw e (firstRows-flatten ts (drop (length ts * 3) rs))
 
+-- They have the words for them.
 pub rows-within : (rs : List ℕ) (c : ℕ) (ts : List Triple) → c ≡ length ts → take (c * 3) rs ≡ flatten ts → c * 3 ≤ length rs
 rows-within rs c ts e q = omega (arith, ap length q, length-take (c * 3) rs, length-flatten ts)
 
 -- ---- kept facts of a well-formed store
 
 module _ {S F K U : List ℕ} (W : FormedStore S F K U) where
+  -- What the functions on kept facts ask.
   pub kept-tables : KeptTables K U
   unfolding supportLayout
   kept-tables =
@@ -62,17 +63,20 @@ module _ {S F K U : List ℕ} (W : FormedStore S F K U) where
         zero-places = ap (drop n) is ∙ drop-at (take n U) (replicate (length U - length (take n U)) 0) n l ∙ rw l refl;
       }
 
+  -- The rows of the kept facts are the rows of the table.
   pub keptRows-keptOf : keptRows (keptOf K U) ≡ rows K
   unfolding rows
   keptRows-keptOf = rw (keptOf-entries K U (count K) (length-rows K)) (keptRows-entries (count K) K U (W .supports .within))
 
+  -- So are they in number,
   pub length-keptOf : length (keptOf K U) ≡ length (rows K)
   length-keptOf = rw (keptOf-entries K U (length (rows K)) refl) (length-entries (length (rows K)) K U (kept-tables .places))
 
+  -- and they fit.
   kept-within : length (keptOf K U) ≤ keptCapacity (tables S F K U)
   kept-within = let a = W .kept .within in let b = kept-tables .places in omega (arith, length-keptOf)
 
-  -- What `find` asks of the facts, and `carry` of the statements.
+  -- What `find` asks of the facts.
   pub facts-ready : isAscending (firstRows (count F) (drop 1 F)) ≡ true
   facts-ready = ready (W .facts) (count F) (length-rows F)
 
@@ -83,9 +87,7 @@ module _ {S F K U : List ℕ} (W : FormedStore S F K U) where
 -- ---- a fact
 
 module _ {S F K U : List ℕ} (W : FormedStore S F K U) (t : Triple) (a : isAllowedFact t ≡ true) where
-  T : Tables
-  T = tables S F K U
-
+  -- It is no statement, and passes questions 1 to 3.
   no-statement : isStatement t ≡ false
   unfolding isAllowedFact
   no-statement = not-true (isStatement t) (and-right (isTriple t) _ a)
@@ -94,6 +96,7 @@ module _ {S F K U : List ℕ} (W : FormedStore S F K U) (t : Triple) (a : isAllo
   unfolding isAllowedFact
   passes = record { formed = formed-isStore W; is-triple = and-left _ _ a; sides = rw no-statement refl }
 
+  -- Whether it is there, by what a search found.
   present : {i : ℕ} → place t (rows F) ≡ At i → isThere t (contentsOf (tables S F K U)) ≡ true
   unfolding contentsOf
   present {i} e = there-yes t (contentsOf (tables S F K U)) (rw no-statement (at-member t (rows F) i e))
@@ -114,6 +117,7 @@ module _ {S F K U : List ℕ} (W : FormedStore S F K U) (t : Triple) (a : isAllo
   unfolding isBelowCapacity contentsOf
   facts-full e h = sym (add-full passes (missing e) (rw no-statement (le-ltb (length (rows F)) (capacity mostFacts F) h)))
 
+  -- They are not full.
   below : length (rows F) < capacity mostFacts F → isBelowCapacity t (tables S F K U) ≡ true
   unfolding isBelowCapacity contentsOf
   below h = rw no-statement (lt-ltb (length (rows F)) (capacity mostFacts F) h)
@@ -121,12 +125,14 @@ module _ {S F K U : List ℕ} (W : FormedStore S F K U) (t : Triple) (a : isAllo
   -- ---- what it carries, in words
 
   module _ (rs : List ℕ) (c : ℕ) (e : c ≡ length (carried (rows S) t)) (q : take (c * 3) rs ≡ flatten (carried (rows S) t)) where
+    -- The words list what it carries, which ascends.
     listed : firstRows c rs ≡ carried (rows S) t
     listed = rows-listed rs c (carried (rows S) t) e q
 
     list-ascends : Ascending (firstRows c rs)
     list-ascends = rw listed (carried-ascends (rows S) t)
 
+    -- What `count_missing` asks, and `lower_all`.
     pub carried-sought : Sought K rs c
     carried-sought = record { laid = W .kept .laid; ascends = W .kept .ascends; listed = rows-within rs c (carried (rows S) t) e q; sought-ascend = list-ascends }
 
@@ -134,6 +140,7 @@ module _ {S F K U : List ℕ} (W : FormedStore S F K U) (t : Triple) (a : isAllo
     carried-lowerable = record { tables = kept-tables W; listed = rows-within rs c (carried (rows S) t) e q; lowered-ascend = list-ascends }
 
     module _ (m : ℕ) (counted : (k : Kept) → keptRows k ≡ rows K → m + length k ≡ length (raiseAll (firstRows c rs) k)) where
+      -- So many rows are kept once they are raised.
       raised-length : m + length (rows K) ≡ length (raiseAll (firstRows c rs) (keptOf K U))
       raised-length = let g = counted (keptOf K U) (keptRows-keptOf W) in omega (arith, length-keptOf W)
 
@@ -150,6 +157,7 @@ module _ {S F K U : List ℕ} (W : FormedStore S F K U) (t : Triple) (a : isAllo
           sym (add-unfit passes (missing p) (below h)
           (rw (no-statement, ← listed) (lt-leb (length (raiseAll (firstRows c rs) (keptOf K U))) (min (capacity mostKept K) (length U)) (omega (arith, raised-length)))))
 
+      -- What `raise_all` asks.
       pub carried-raisable : length (rows F) < capacity mostFacts F → length (rows K) + m ≤ min (capacity mostKept K) (length U) → Raisable K U rs c m
       carried-raisable h l = record {
         tables = kept-tables W;
@@ -182,7 +190,7 @@ module _ {S F K U : List ℕ} (W : FormedStore S F K U) (t : Triple) (a : isAllo
         (rw (no-statement, ← listed) (le-leb (length (lowerAll (firstRows c rs) (keptOf K U))) (min (capacity mostKept K) (length U)) (omega (arith, lowerAll-length (firstRows c rs) (keptOf K U), kept-within W))))
         ∙ rw (no-statement, ← listed, ← removeAt-at t (rows F) i p, ← f, ← (H .row-words), ← (H .support-places), ← (W .statements .laid .is-layout)) refl)
 
-  -- What `insert_at` and `remove_at` ask.
+  -- What `insert_at` asks.
   pub fact-spare : length (rows F) < capacity mostFacts F → Spare F
   fact-spare h = spare (W .facts) (omega arith) h
 

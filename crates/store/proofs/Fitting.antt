@@ -1,17 +1,15 @@
 -- Contents that tables can hold: what they are, put into the tables and read again. Assumes nothing.
-use Prim.Native.Nat.{ℕ, zero, suc, _+_, _-_, _*_, _≤_, _<_, min}
-use mathlib.Core.Path.{_≡_, refl, sym, ap, ap₂, _∙_, subst}
-use mathlib.Core.Bool.{Bool, true, false}
-use mathlib.Core.Logic.{_⊎_, ⊎-elim}
-use mathlib.Core.List.{List, [], _∷_, _++_, zip, zipWith, map, List·Memᴰ, List·Memᴰ·head, List·Memᴰ·tail, List·Memᴰ·cases-cons}
+use Prim.Native.Nat.{ℕ, _+_, _-_, _*_, _≤_, _<_}
+use mathlib.Core.Path.{_≡_, refl, ap, subst}
+use mathlib.Core.Bool.{true}
+use mathlib.Core.List.{List, [], _∷_, _++_, zip, zipWith, List·Memᴰ}
 use native.Mathlib.Omega.{arith}
 use lib.ListN.{length, take, replicate, length-map}
-use lib.Seq.{take-at}
 use Rattle.rdf.specs.declared.Triple.{Triple}
 use Rattle.rdf.specs.Triple.{isAllowedStatement, isAllowedFact}
 use Rattle.rdf.specs.Order.{Ascending}
-use Rattle.table.specs.Table.{capacity, mostStatements, mostFacts, mostKept, count, rows, flatten, layout, supportLayout, all, isSupport, isTable, isSupportTable, isStore, isStatementTable, isFactTable, isKeptTable}
-use Rattle.table.specs.Laid.{WellFormed, Supports, FormedStore}
+use Rattle.table.specs.Table.{mostStatements, mostFacts, mostKept, count, rows, supportLayout, isSupport, isStore}
+use Rattle.table.specs.Laid.{FormedStore}
 use Rattle.table.proofs.Rows.{length-rows, rows-layout, length-layout, count-layout}
 use Rattle.table.proofs.Formed.{capacity-fits, capacity-most, layout-isTable}
 use Rattle.table.proofs.Supports.{length-supportLayout, supportLayout-is, isSupport-between, between-isSupport}

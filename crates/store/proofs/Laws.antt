@@ -1,7 +1,7 @@
 -- Laws of updates: what each answer says, and what an update keeps true of a store. Assumes nothing.
-use Prim.Native.Nat.{ℕ, zero, suc, _+_, _≤_, _<_, min}
-use mathlib.Core.Path.{_≡_, refl, sym, ap, _∙_, subst}
-use mathlib.Core.Bool.{Bool, true, false, _&&_, _||_, not, cond}
+use Prim.Native.Nat.{ℕ, zero, suc, _+_, _≤_, _<_}
+use mathlib.Core.Path.{_≡_, refl, sym, ap, _∙_}
+use mathlib.Core.Bool.{Bool, true, false, _||_, not, cond}
 use mathlib.Core.Logic.{⊎-elim}
 use mathlib.Core.List.{List, [], _∷_, _++_, zip, zipWith, List·Memᴰ}
 use native.Mathlib.Omega.{arith}
@@ -9,22 +9,21 @@ use lib.ListN.{length, replicate}
 use borrow.Author.Tests.{not-true, ltb-true, leb-true}
 use Rattle.rdf.specs.declared.Triple.{Triple}
 use Rattle.rdf.specs.Triple.{isTriple, isStatement, areSidesAllowed, isAllowedStatement, isAllowedFact}
-use Rattle.rdf.specs.Order.{equalTriples, choose, insert, remove}
+use Rattle.rdf.specs.Order.{equalTriples}
 use Rattle.rdf.specs.Refusal.{firstNo, tripleQuestions}
 use Rattle.rdf.proofs.Order.{choose-elim}
 use Rattle.rdf.proofs.Lists.{true-not-false, by-test, or-cases}
-use Rattle.table.specs.Table.{rows, layout, supportLayout, isStore}
+use Rattle.table.specs.Table.{rows}
 use Rattle.table.proofs.Rows.{rows-layout}
 use Rattle.table.proofs.Store.{layout-empty, empty-isStore}
-use Rattle.rdfs.specs.Closure.{isIn, carried}
-use Rattle.rdfs.specs.Saturation.{saturation, raiseAll, lowerAll}
+use Rattle.rdfs.specs.Closure.{isIn}
+use Rattle.rdfs.specs.Saturation.{saturation}
 use Rattle.rdfs.proofs.Saturation.{raise-saturation, lower-saturation}
-use Rattle.store.specs.declared.Answer.{Answer}
 use Rattle.store.specs.declared.Answer.the-variants.{Applied, Idle, Refused}
 use Rattle.store.specs.Store.{Tables, tables, areFormed, Contents, contents, contentsOf, keptOf, put, statementCapacity, factCapacity, keptCapacity}
 use Rattle.store.specs.Update.{withTriple, withoutTriple, isThere, isBelowCapacity, isKeptFitting, additionQuestions, withdrawalQuestions, Outcome, outcome, decide, add, withdraw}
-use Rattle.store.proofs.Outcomes.{there-yes, there-no}
-use Rattle.store.proofs.Fitting.{contentsOf-put, Fitting, Worded, SameLengths, put-formed, put-lengths, formed-fitting, formed-worded}
+use Rattle.store.proofs.Outcomes.{there-yes}
+use Rattle.store.proofs.Fitting.{contentsOf-put, Fitting, SameLengths, put-formed, put-lengths, formed-fitting, formed-worded}
 use Rattle.store.proofs.Applied.{fact-enters, statement-enters, statement-goes, fact-goes}
 
 -- ---- the three answers
@@ -41,9 +40,11 @@ decide-elim Q zero false c T r a i = i refl refl
 abbrev Says : ℕ → Bool → Contents → Tables → Outcome → Type 0
 Says q b c T o = ((n : ℕ) → o .answer ≡ Refused n → (q ≡ n) × (0 < n) × (o .after ≡ T)) × (o .answer ≡ Idle → (q ≡ 0) × (b ≡ false) × (o .after ≡ T)) × (o .answer ≡ Applied → (q ≡ 0) × (b ≡ true) × (o .after ≡ put c T))
 
+-- Two constructors are never equal.
 no-path : {A : Type 0} → _≡_ {A = ℕ} 0 1 → A
 no-path z = absurd (omega arith)
 
+-- Each decision is so.
 says : (q : ℕ) (b : Bool) (c : Contents) (T : Tables) → Says q b c T (decide q b c T)
 says q b c T =
     decide-elim (Says q b c T) q b c T
@@ -93,9 +94,11 @@ unfolding firstNo
 yes-first n true qs e = (refl, e)
 yes-first n false qs e = absurd (omega arith)
 
+-- What is not there is not in its table,
 there-false : (t : Triple) (c : Contents) → isThere t c ≡ false → ¬ List·Memᴰ t (cond (isStatement t) (c .statements) (c .facts))
 there-false t c e m = true-not-false (sym (there-yes t c m) ∙ e)
 
+-- and what is there is.
 there-true : (t : Triple) (c : Contents) → isThere t c ≡ true → List·Memᴰ t (cond (isStatement t) (c .statements) (c .facts))
 unfolding isThere
 there-true t c =
@@ -108,6 +111,7 @@ record Asked (t : Triple) (T : Tables) : Type 0 where
   is-triple : isTriple t ≡ true
   sides : cond (isStatement t) (areSidesAllowed t) true ≡ true
 
+-- They are yes where every answer is.
 asked : (t : Triple) (T : Tables) (qs : List (ℕ × Bool)) → firstNo ((1, areFormed T) ∷ (tripleQuestions t ++ qs)) ≡ 0 → Asked t T × (firstNo qs ≡ 0)
 asked t T qs e =
     let a = yes-first 0 (areFormed T) (tripleQuestions t ++ qs) e in
@@ -115,6 +119,7 @@ asked t T qs e =
     let c = yes-first 2 (cond (isStatement t) (areSidesAllowed t) true) qs (b .1) in
     (record { formed = a .0; is-triple = b .0; sides = c .0 }, c .1)
 
+-- A triple that passes them is allowed in its table.
 allowed-fact-of : {t : Triple} {T : Tables} → Asked t T → isStatement t ≡ false → isAllowedFact t ≡ true
 unfolding isAllowedFact
 allowed-fact-of A s = rw (A .is-triple, s) refl
@@ -123,15 +128,18 @@ allowed-statement-of : {t : Triple} {T : Tables} → Asked t T → isStatement t
 unfolding isAllowedStatement
 allowed-statement-of A s = rw (A .is-triple, s) (rw s at (A .sides))
 
+-- Where the left is false the right is true.
 or-right : (a b : Bool) → (a || b) ≡ true → a ≡ false → b ≡ true
 or-right a b e f = ⊎-elim (λ h. absurd (true-not-false (sym h ∙ f))) (λ h. h) (or-cases a b e)
 
+-- What question 5 says.
 fitting-le : (c : Contents) (T : Tables) → isKeptFitting c T ≡ true → length (c .kept) ≤ keptCapacity T
 unfolding isKeptFitting
 fitting-le c T e = leb-true (length (c .kept)) (keptCapacity T) e
 
 -- ---- the contents after an applied update fit
 
+-- An addition,
 add-fitting : (T : Tables) (t : Triple) → firstNo (additionQuestions t T) ≡ 0 → not (isThere t (contentsOf T)) ≡ true → Fitting (withTriple t (contentsOf T)) T
 unfolding isBelowCapacity
 add-fitting T t e b =
@@ -147,6 +155,7 @@ add-fitting T t e b =
     (λ s. statement-enters X t s (allowed-statement-of (q .0) s) (ltb-true (length (c .statements)) (statementCapacity T) (rw s at below)) few)
     (λ s. fact-enters X t s (allowed-fact-of (q .0) s) (rw s at (there-false t c n)) (ltb-true (length (c .facts)) (factCapacity T) (rw s at below)) few)
 
+-- and what the questions of a withdrawal say.
 withdraw-fit : (T : Tables) (t : Triple) → firstNo (withdrawalQuestions t T) ≡ 0 → isThere t (contentsOf T) ≡ true → Asked t T × (length (withoutTriple t (contentsOf T) .kept) ≤ keptCapacity T)
 withdraw-fit T t e b =
     let c : Contents = contentsOf T in
@@ -160,6 +169,7 @@ withdraw-fit T t e b =
 abbrev pub Saturated : Contents → Type 0
 Saturated c = c .kept ≡ saturation (c .statements) (c .facts)
 
+-- Contents with a triple that was not there, and without one that was, are saturated again.
 with-saturated : (t : Triple) (c : Contents) → ¬ List·Memᴰ t (cond (isStatement t) (c .statements) (c .facts)) → Saturated c → Saturated (withTriple t c)
 unfolding withTriple
 with-saturated t c n e =
@@ -200,20 +210,21 @@ add-formed T t e =
     decide-elim (λ (o : Outcome). areFormed (o .after) ≡ true) (firstNo (additionQuestions t T)) (not (isThere t (contentsOf T))) (withTriple t (contentsOf T)) T
     (λ _ _. e) (λ q b. put-formed (add-fitting T t q b) (formed-worded T e)) (λ _ _. e)
 
--- and so does the withdrawal of a statement,
+-- and so does the withdrawal of a statement.
 pub withdraw-statement-formed : (T : Tables) (t : Triple) → isStatement t ≡ true → areFormed T ≡ true → areFormed (withdraw T t .after) ≡ true
 unfolding withdraw
 withdraw-statement-formed T t s e =
     decide-elim (λ (o : Outcome). areFormed (o .after) ≡ true) (firstNo (withdrawalQuestions t T)) (isThere t (contentsOf T)) (withoutTriple t (contentsOf T)) T
     (λ _ _. e) (λ q b. put-formed (statement-goes (formed-fitting T e) t s (withdraw-fit T t q b .1)) (formed-worded T e)) (λ _ _. e)
 
+-- The contents after a withdrawal from a saturated store fit,
 withdraw-fitting : (T : Tables) (t : Triple) → areFormed T ≡ true → Saturated (contentsOf T) → firstNo (withdrawalQuestions t T) ≡ 0 → isThere t (contentsOf T) ≡ true → Fitting (withoutTriple t (contentsOf T)) T
 withdraw-fitting T t e k q b =
     by-test (isStatement t)
     (λ s. statement-goes (formed-fitting T e) t s (withdraw-fit T t q b .1))
     (λ s. fact-goes (formed-fitting T e) t s k (rw s at (there-true t (contentsOf T) b)))
 
--- and any withdrawal where the kept facts are the saturation. (A fact withdrawn from a store that was lent, and not grown, can leave a
+-- so that any withdrawal does where the kept facts are the saturation. (A fact withdrawn from a store that was lent, and not grown, can leave a
 -- support above the number of facts.)
 pub withdraw-formed : (T : Tables) (t : Triple) → areFormed T ≡ true → Saturated (contentsOf T) → areFormed (withdraw T t .after) ≡ true
 unfolding withdraw
@@ -223,6 +234,7 @@ withdraw-formed T t e k =
 
 -- ---- lengths
 
+-- What is not changed has its lengths.
 same-lengths : (T : Tables) → SameLengths T T
 same-lengths T = record { same-statements = refl; same-facts = refl; same-kept = refl; same-supports = refl }
 
@@ -257,10 +269,12 @@ withdraw-sound T t G = record { formed = withdraw-formed T t (G .formed) (G .sat
 empty-rows : (n : ℕ) → 0 < n → rows (replicate n 0) ≡ []
 empty-rows n h = rw (← layout-empty n h) (rows-layout n [])
 
+-- It holds nothing,
 pub empty-contents : (s f k u : ℕ) → 0 < s → 0 < f → 0 < k → contentsOf (tables (replicate s 0) (replicate f 0) (replicate k 0) (replicate u 0)) ≡ contents [] [] []
 unfolding contentsOf keptOf zip zipWith
 empty-contents s f k u h i j = rw (empty-rows s h, empty-rows f i, empty-rows k j) refl
 
+-- and is sound.
 pub empty-sound : (s f k u : ℕ) → 0 < s → 0 < f → 0 < k → Sound (tables (replicate s 0) (replicate f 0) (replicate k 0) (replicate u 0))
 unfolding saturation
 empty-sound s f k u h i j = record { formed = empty-isStore s f k u h i j; saturated = rw (empty-contents s f k u h i j) refl }

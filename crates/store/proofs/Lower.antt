@@ -1,13 +1,12 @@
 -- Rows lowered from the first to the last, in a list of kept facts. Assumes nothing.
 use Prim.Native.Nat.{ℕ, zero, suc, _+_, _-_, _≤_, _<_}
-use mathlib.Core.Path.{_≡_, refl, sym, ap, _∙_}
+use mathlib.Core.Path.{_≡_, refl, ap, _∙_}
 use mathlib.Core.List.{List, [], _∷_, _++_}
 use native.Mathlib.Omega.{arith}
-use lib.ListN.{length}
 use Rattle.rdf.specs.declared.Triple.{Triple}
-use Rattle.rdf.specs.Order.{Less, compareTriples, Above, Ascending}
+use Rattle.rdf.specs.Order.{Less, compareTriples, Above}
 use Rattle.rdf.proofs.Order.{byOrder-elim, byOrder-less, byOrder-same, byOrder-more}
-use Rattle.rdf.proofs.Ascending.{above-asc, above-weaken}
+use Rattle.rdf.proofs.Ascending.{above-weaken}
 use Rattle.rdfs.specs.Saturation.{Kept, oneLess, lower, lowerAll, keptRows}
 use Rattle.store.proofs.Raise.{AllLess}
 

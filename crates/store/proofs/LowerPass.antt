@@ -5,8 +5,8 @@ use mathlib.Core.Path.{_≡_, refl, sym, ap, _∙_, subst}
 use mathlib.Core.List.{List, [], _∷_, _++_, append-assoc, append-nil}
 use native.Mathlib.Numerals.{add-one}
 use native.Mathlib.Omega.{arith}
-use lib.ListN.{length, getD, take, drop, set, replicate, length-set, length-drop, take-append-drop, drop-of-length-le}
-use lib.Seq.{drop-cons, drop-drop, getD-set-same, take-all, getD-take, length-take-le, take-set-le, take-suc-set, drop-set-lt, set-getD}
+use lib.ListN.{length, getD, take, drop, set, replicate, length-set, take-append-drop, drop-of-length-le}
+use lib.Seq.{drop-cons, drop-drop, getD-set-same, take-set-le, take-suc-set, drop-set-lt, set-getD}
 use Rattle.rdf.specs.declared.Triple.{Triple}
 use Rattle.rdf.specs.Triple.{triple}
 use Rattle.rdf.specs.Order.{Less, Above, Ascending}
@@ -15,7 +15,7 @@ use Rattle.table.specs.Table.{count, tripleFrom, rowAt, firstRows, rows}
 use Rattle.table.proofs.Rows.{length-firstRows, getD-firstRows, length-rows}
 use Rattle.rdfs.specs.Saturation.{Kept, lowerAll, keptRows}
 use Rattle.store.specs.Store.{keptOf}
-use Rattle.store.specs.Entries.{entries, putRow, Room, Entered, KeptTables, Lowerable, Passed, Gapped, Cleared, Holding}
+use Rattle.store.specs.Entries.{entries, Room, Entered, Lowerable, Passed, Gapped, Cleared, Holding}
 use Rattle.store.proofs.Entries.{noEntry, length-entries, getD-entries, keptRows-entries, keptOf-entries, take-entries, length-putRow, count-putRow, drop-putRow-here, entries-put, room-put, room-rows, room-supports}
 use Rattle.store.proofs.Raise.{AllLess}
 use Rattle.store.proofs.RaisePass.{kept-room}
@@ -24,6 +24,7 @@ use Rattle.store.proofs.Lower.{lowerAll-past, lowerAll-before, lowerAll
 -- ---- an entry written before a place
 
 module _ {n : ℕ} {ws us : List ℕ} (R : Room n ws us) where
+  -- There are n entries.
   size : length (entries n ws us) ≡ n
   size = length-entries n ws us (R .places)
 
@@ -33,15 +34,19 @@ module _ {n : ℕ} {ws us : List ℕ} (R : Room n ws us) where
       rw (add-one i) (drop-cons (entries n ws us) i noEntry (rw size h) ∙ ap (λ (e : Triple × ℕ). e ∷ drop (suc i) (entries n ws us)) (getD-entries n ws us (R .places) i h))
 
   module _ {ws' us' : List ℕ} {k : ℕ} {x : Triple} {s : ℕ} (N : Entered k x s ws us ws' us') (h : k < n) where
+    -- The entries after the write,
     pub put-entries : entries n ws' us' ≡ set (entries n ws us) k (x, s)
     put-entries = rw (N .row, N .support) (entries-put n k x s ws us h (R .places) (R .words))
 
+    -- up to the place,
     pub put-front : take (k + 1) (entries n ws' us') ≡ take k (entries n ws us) ++ ((x, s) ∷ [])
     put-front = rw (put-entries, add-one k) (take-suc-set (entries n ws us) k (x, s) (rw size h))
 
+    -- and behind it.
     pub put-back : (i : ℕ) → k ≤ i → drop (i + 1) (entries n ws' us') ≡ drop (i + 1) (entries n ws us)
     put-back i l = rw put-entries (drop-set-lt (i + 1) (entries n ws us) k (x, s) (omega arith))
 
+    -- The room, the lengths and the count stay.
     pub put-room : Room n ws' us'
     put-room = rw (N .row, N .support) (room-put k x s R h)
 
@@ -56,9 +61,11 @@ module _ {n : ℕ} {ws us : List ℕ} (R : Room n ws us) where
 
 -- ---- the rest is moved
 
+-- Nothing is moved yet.
 pub gap-start : (n i k : ℕ) (ws us : List ℕ) → Room n ws us → k ≤ i → i ≤ n → Gapped (take k (entries n ws us) ++ drop i (entries n ws us)) n i k ws us ws us
 gap-start n i k ws us R h l = record { room = R; same-words = refl; same-places = refl; same-count = refl; write-le = h; read-le = l; is = refl }
 
+-- One row is moved.
 pub gap-move : {m : Kept} {n i k : ℕ} {ws₀ us₀ ws us ws' us' : List ℕ} {row : Triple} → Gapped m n i k ws₀ us₀ ws us → i < n → row ≡ rowAt ws i → Entered k row (getD us i 0) ws us ws' us'
     → Gapped m n (i + 1) (k + 1) ws₀ us₀ ws' us'
 gap-move {m} {n} {i} {k} {ws₀} {us₀} {ws} {us} {ws'} {us'} G h e N =
@@ -78,9 +85,6 @@ gap-move {m} {n} {i} {k} {ws₀} {us₀} {ws} {us} {ws'} {us'} G h e N =
 
 -- ---- the places behind are cleared
 
-pub clear-start : (n k : ℕ) (ws us : List ℕ) → Room n ws us → Cleared n ws us ws us
-clear-start n k ws us R = record { room = R; same-words = refl; same-places = refl; same-entries = refl }
-
 -- At each turn the places from z on are zero.
 pub record Clearing (k z : ℕ) (ws₀ us₀ ws us : List ℕ) : Type 0 where
   pub room : Room z ws us
@@ -89,6 +93,7 @@ pub record Clearing (k z : ℕ) (ws₀ us₀ ws us : List ℕ) : Type 0 where
   pub k-le : k ≤ z
   pub same-entries : entries k ws us ≡ entries k ws₀ us₀
 
+-- One place is cleared.
 pub clear-step : (k z : ℕ) {ws₀ us₀ ws us ws' us' : List ℕ} → Clearing k z ws₀ us₀ ws us → k < z → Entered (z - 1) (triple 0 0 0) 0 ws us ws' us' → Clearing k (z - 1) ws₀ us₀ ws' us'
 clear-step k zero C h N = absurd (omega arith)
 clear-step k (suc z) {ws₀} {us₀} {ws} {us} {ws'} {us'} C h N =
@@ -118,16 +123,19 @@ clear-step k (suc z) {ws₀} {us₀} {ws} {us} {ws'} {us'} C h N =
 
 -- ---- parts of ascending rows
 
+-- A part of ascending rows ascends.
 pub ascending-drop : (i : ℕ) (us : List Triple) → Ascending us → Ascending (drop i us)
 ascending-drop zero us a = a
 ascending-drop (suc i) [] a = tt
 ascending-drop (suc i) (u ∷ us) a = ascending-drop i us (above-asc u us a)
 
+-- The rows of the kept facts from place i on.
 keptRows-drop : (i : ℕ) (k : Kept) → keptRows (drop i k) ≡ drop i (keptRows k)
 keptRows-drop zero k = refl
 keptRows-drop (suc i) [] = refl
 keptRows-drop (suc i) (e ∷ k) = keptRows-drop i k
 
+-- Each row before place i is less.
 all-less-of : (k : Kept) (i : ℕ) (t : Triple) → ((p : ℕ) → p < i → Less (getD k p noEntry .0) t) → i ≤ length k → AllLess (keptRows (take i k)) t
 all-less-of k zero t h l = tt
 all-less-of [] (suc i) t h l = absurd (omega arith)
@@ -136,13 +144,15 @@ all-less-of (e ∷ k) (suc i) t h l = (h 0 (omega arith), all-less-of k i t (λ 
 -- ---- the pass
 
 module _ (ws₀ us₀ rs : List ℕ) (c : ℕ) where
-  -- The kept facts at entry, how many there are, and the kept facts at exit.
+  -- The kept facts at entry,
   abbrev K : Kept
   K = keptOf ws₀ us₀
 
+  -- how many there are,
   abbrev n : ℕ
   n = length (rows ws₀)
 
+  -- and the kept facts at exit.
   abbrev M : Kept
   M = lowerAll (firstRows c rs) (keptOf ws₀ us₀)
 
@@ -160,6 +170,7 @@ module _ (ws₀ us₀ rs : List ℕ) (c : ℕ) where
     pub whole : take k (entries n ws us) ++ lowerAll (drop j (firstRows c rs)) (drop i (entries n ws us)) ≡ M
 
   module _ (A : Lowerable ws₀ us₀ rs c) where
+    -- The entries at entry, with their room and order.
     is-K : keptOf ws₀ us₀ ≡ entries n ws₀ us₀
     is-K = keptOf-entries ws₀ us₀ n refl
 
@@ -174,9 +185,11 @@ module _ (ws₀ us₀ rs : List ℕ) (c : ℕ) where
     rows-from : (j : ℕ) → j < c → drop j (firstRows c rs) ≡ tripleFrom rs (j * 3) ∷ drop (j + 1) (firstRows c rs)
     rows-from j h = rw (add-one j) (drop-cons (firstRows c rs) j (triple 0 0 0) (rw length-firstRows h) ∙ ap (λ (t : Triple). t ∷ drop (suc j) (firstRows c rs)) (getD-firstRows c rs j (triple 0 0 0) h))
 
+    -- They ascend.
     rows-above : (j : ℕ) → j < c → Above (tripleFrom rs (j * 3)) (drop (j + 1) (firstRows c rs))
     rows-above j h = subst Ascending (rows-from j h) (ascending-drop j (firstRows c rs) (A .lowered-ascend))
 
+    -- Kept facts before the place of the first row stay as they are.
     pub lowering-start : (i : ℕ) → Passed i ws₀ rs → Lowering ws₀ us₀ i 0 i
     unfolding lowerAll
     lowering-start i P = record {
@@ -210,6 +223,7 @@ module _ (ws₀ us₀ rs : List ℕ) (c : ℕ) where
       rest-above : i < n → Above (rowAt ws i) (keptRows (drop (i + 1) (entries n ws us)))
       rest-above h = subst Ascending (ap keptRows (next-entry (L .room) i h)) (rw (L .high, keptRows-drop) (ascending-drop i (keptRows K) asc))
 
+      -- What stands behind place i stands as it did.
       next-high : (ws' us' : List ℕ) → drop (i + 1) (entries n ws' us') ≡ drop (i + 1) (entries n ws us) → drop (i + 1) (entries n ws' us') ≡ drop (i + 1) K
       next-high ws' us' e = e ∙ sym (drop-drop 1 i (entries n ws us)) ∙ ap (drop 1) (L .high) ∙ drop-drop 1 i K
 
@@ -357,11 +371,13 @@ gap-closed {m} {n} {k} {ws₀} {us₀} {ws} {us} {ws'} {us'} G C =
       support-places = rw (← (G .same-places), ← (C .same-places), ← is) (room-supports (C .room));
     }
 
+-- Every place is cleared.
 pub clear-end : {k z : ℕ} {ws₀ us₀ ws us : List ℕ} → Clearing k z ws₀ us₀ ws us → z ≤ k → Cleared k ws₀ us₀ ws us
 clear-end {k} {z} {ws₀} {us₀} {ws} {us} C h =
     let e : z ≡ k = let l = C .k-le in omega arith in
     record { room = subst (λ (n : ℕ). Room n ws us) e (C .room); same-words = C .same-words; same-places = C .same-places; same-entries = C .same-entries }
 
+-- Every row is moved.
 pub gap-end : {m : Kept} {n i k : ℕ} {ws₀ us₀ ws us : List ℕ} → Gapped m n i k ws₀ us₀ ws us → n ≤ i → Gapped m n n k ws₀ us₀ ws us
 gap-end {m} {n} {i} {k} {ws₀} {us₀} {ws} {us} G h = let e : i ≡ n = let l = G .read-le in omega arith in subst (λ (p : ℕ). Gapped m n p k ws₀ us₀ ws us) e G
 

@@ -1,22 +1,21 @@
 -- How many of some rows are missing among kept facts, and where the first of them stands. Assumes nothing.
-use Prim.Native.Nat.{ℕ, zero, suc, _+_, _*_, _≤_, _<_}
+use Prim.Native.Nat.{ℕ, suc, _+_, _*_, _≤_, _<_}
 use mathlib.Core.Path.{_≡_, refl, sym, ap, _∙_, subst}
 use mathlib.Core.Bool.{true}
 use mathlib.Core.Logic.{_⊎_, inl, inr, ⊎-elim}
-use mathlib.Core.List.{List, [], _∷_, _++_, List·Memᴰ, List·Memᴰ·head, List·Memᴰ·tail, Memᴰ·cast}
+use mathlib.Core.List.{List, [], _∷_, List·Memᴰ, List·Memᴰ·head, List·Memᴰ·tail}
 use native.Mathlib.Numerals.{add-one}
 use native.Mathlib.Omega.{arith}
-use lib.ListN.{length, getD, take, drop, length-map, length-append, take-append-drop, drop-of-length-le}
+use lib.ListN.{length, take, drop, length-map, length-append, take-append-drop, drop-of-length-le}
 use lib.Seq.{drop-cons}
 use Rattle.rdf.specs.declared.Triple.{Triple}
 use Rattle.rdf.specs.Triple.{triple}
-use Rattle.rdf.specs.Order.{Less, less-irrefl, Trichotomy, less, same, more, compareTriples, byOrder, isAscending, Above, Ascending, insert}
+use Rattle.rdf.specs.Order.{less-irrefl, Trichotomy, less, same, more, compareTriples, byOrder, isAscending, Above, Ascending, insert}
 use Rattle.rdf.proofs.Ascending.{above-member, insert-asc, insert-old, insert-cases, isAscending-iff}
 use Rattle.table.specs.declared.Found.{Found}
 use Rattle.table.specs.declared.Found.the-variants.{At, Gap}
-use Rattle.table.specs.Table.{count, tripleFrom, rowAt, firstRows, rows}
+use Rattle.table.specs.Table.{count, tripleFrom, firstRows, rows}
 use Rattle.table.specs.Search.{place, insertAt}
-use Rattle.table.specs.Laid.{Laid}
 use Rattle.table.proofs.Rows.{length-firstRows, length-rows, getD-firstRows, getD-rowAt, firstRows-rows}
 use Rattle.table.proofs.Place.{stands-at, missing-at, at-member, gap-absent, member-at, absent-gap}
 use Rattle.table.proofs.Change.{insertAt-gap, insert-at}

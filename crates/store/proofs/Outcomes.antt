@@ -1,19 +1,17 @@
 -- What an addition and a withdrawal come to, by the answers to their questions. Assumes nothing.
-use Prim.Native.Nat.{ℕ, zero, suc, _+_, _≤_, _<_}
-use mathlib.Core.Path.{_≡_, refl, sym, ap, _∙_}
-use mathlib.Core.Bool.{Bool, true, false, _||_, not, cond}
-use mathlib.Core.List.{List, [], _∷_, _++_, List·Memᴰ}
-use native.Mathlib.Omega.{arith}
-use lib.ListN.{length}
+use Prim.Native.Nat.{ℕ, _+_}
+use mathlib.Core.Path.{_≡_, refl, _∙_}
+use mathlib.Core.Bool.{Bool, true, false, cond}
+use mathlib.Core.List.{List, _∷_, _++_, List·Memᴰ}
 use Rattle.rdf.specs.declared.Triple.{Triple}
 use Rattle.rdf.specs.Triple.{isTriple, isStatement, areSidesAllowed}
-use Rattle.rdf.specs.Order.{equalTriples, choose}
+use Rattle.rdf.specs.Order.{equalTriples}
 use Rattle.rdf.specs.Refusal.{firstNo, tripleQuestions}
 use Rattle.rdf.proofs.Order.{choose-yes, choose-no}
 use Rattle.rdfs.specs.Closure.{isIn}
 use Rattle.store.specs.declared.Answer.the-variants.{Applied, Idle, Refused}
 use Rattle.store.specs.Store.{Tables, areFormed, Contents, contentsOf, put}
-use Rattle.store.specs.Update.{withTriple, withoutTriple, isThere, isBelowCapacity, isKeptFitting, additionQuestions, withdrawalQuestions, outcome, decide, add, withdraw}
+use Rattle.store.specs.Update.{withTriple, withoutTriple, isThere, isBelowCapacity, isKeptFitting, outcome, decide, add, withdraw}
 
 -- ---- the first "no" of numbered questions
 

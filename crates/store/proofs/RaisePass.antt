@@ -1,28 +1,26 @@
 -- The pass that raises rows, over the words of both tables: what holds at each turn, and a turn of each kind. Assumes nothing.
 use Prim.Native.Nat.{ℕ, zero, suc, _+_, _-_, _*_, _≤_, _<_}
 use mathlib.Core.Path.{_≡_, refl, sym, ap, _∙_, subst}
-use mathlib.Core.Logic.{by-cases}
-use mathlib.Core.List.{List, [], _∷_, _++_, map}
-use native.Mathlib.Decide.{decLt}
+use mathlib.Core.List.{List, [], _∷_, _++_}
 use native.Mathlib.Numerals.{add-one}
 use native.Mathlib.Omega.{arith}
-use lib.ListN.{length, getD, take, drop, set, replicate, length-set, length-drop, length-append, length-replicate, take-append-drop, drop-of-length-le}
-use lib.Seq.{take-suc, drop-cons, split-at, take-all, take-take, getD-take, drop-at, drop-drop, length-take-le, take-set-le, set-split, drop-append-le}
+use lib.ListN.{length, getD, take, drop, set, replicate, length-set, length-drop, length-append, take-append-drop, drop-of-length-le}
+use lib.Seq.{take-suc, split-at, take-all, take-take, getD-take, drop-at, drop-drop, length-take-le, take-set-le, set-split}
 use Rattle.rdf.specs.declared.Triple.{Triple}
 use Rattle.rdf.specs.Triple.{triple}
 use Rattle.rdf.specs.Order.{Less, Ascending}
 use Rattle.table.specs.declared.Ordering.the-variants.{Lower, Equal, Higher}
 use Rattle.table.specs.Table.{count, tripleFrom, rowAt, firstRows, rows, flatten, layout}
 use Rattle.table.proofs.Rows.{length-firstRows, getD-firstRows, length-flatten, length-rows}
-use Rattle.rdfs.specs.Saturation.{Kept, raiseAll, keptRows, keptSupports}
-use Rattle.rdfs.proofs.Saturation.{raiseAll-length}
+use Rattle.rdfs.specs.Saturation.{Kept, raiseAll, keptRows}
 use Rattle.store.specs.Store.{keptOf}
-use Rattle.store.specs.Entries.{entries, putRow, Room, Entered, KeptTables, Raisable, Holding}
+use Rattle.store.specs.Entries.{entries, Room, Entered, KeptTables, Raisable, Holding}
 use Rattle.store.proofs.Entries.{noEntry, length-entries, getD-entries, keptRows-entries, keptOf-entries, take-entries, length-putRow, entries-put, room-put, room-rows, room-supports}
 use Rattle.store.proofs.Raise.{AllLess, all-less-weaken, all-less-snoc, before-less, Rising, rising-start, rising-higher, rising-equal, rising-lower, rising-room, rising-end, LastSays}
 
 -- ---- the first rows of a list of rows
 
+-- Fewer rows are the first of more.
 take-firstRows : (j c : ℕ) (rs : List ℕ) → j ≤ c → take j (firstRows c rs) ≡ firstRows j rs
 unfolding firstRows
 take-firstRows zero c rs h = refl
@@ -46,10 +44,12 @@ firstRows-less j c rs h a =
 
 -- ---- kept facts before one
 
+-- The rows of two parts.
 keptRows-append : (k d : Kept) → keptRows (k ++ d) ≡ keptRows k ++ keptRows d
 keptRows-append [] d = refl
 keptRows-append (e ∷ k) d = ap (λ (l : List Triple). e .0 ∷ l) (keptRows-append k d)
 
+-- In kept facts whose rows ascend, those before a place are less.
 pub kept-less : (k : Kept) (i : ℕ) → i < length k → Ascending (keptRows k) → AllLess (keptRows (take i k)) (getD k i noEntry .0)
 kept-less k i h a =
     let e = ap keptRows (split-at k i noEntry h) ∙ keptRows-append (take i k) (getD k i noEntry ∷ drop (suc i) k) in
@@ -57,6 +57,7 @@ kept-less k i h a =
 
 -- ---- room in tables of kept facts
 
+-- Zeros from a place on are zeros from any later place on.
 replicate-drop : (m n : ℕ) → drop m (replicate {A = ℕ} n 0) ≡ replicate (n - m) 0
 replicate-drop zero n = let e : n - 0 ≡ n = omega arith in rw e refl
 replicate-drop (suc m) zero = let e : 0 - suc m ≡ 0 = omega arith in rw e refl
@@ -68,12 +69,14 @@ zeros-behind l n m h e =
     let r : length l - n - (m - n) ≡ length l - m = omega arith in
     subst (λ (p : ℕ). drop p l ≡ replicate (length l - m) 0) q (sym (drop-drop (m - n) n l) ∙ ap (drop (m - n)) e ∙ replicate-drop (m - n) (length l - n) ∙ rw r refl)
 
+-- Behind the rows of a table stand zeros,
 laid-zeros : (ws : List ℕ) → ws ≡ layout (length ws) (rows ws) → drop (length (rows ws) * 3 + 1) ws ≡ replicate (length ws - (length (rows ws) * 3 + 1)) 0
 unfolding layout
 laid-zeros ws e =
     ap (drop (length (rows ws) * 3 + 1)) e
     ∙ drop-at (length (rows ws) ∷ flatten (rows ws)) (replicate (length ws - (length (rows ws) * 3 + 1)) 0) (length (rows ws) * 3 + 1) (omega (arith, length-flatten (rows ws)))
 
+-- so that there is room for more.
 pub kept-room : {ws us : List ℕ} → KeptTables ws us → (m : ℕ) → length (rows ws) ≤ m → m * 3 < length ws → m ≤ length us → Room m ws us
 kept-room {ws} {us} T m h k l = record {
   words = k;
@@ -111,6 +114,7 @@ module _ (ws₀ us₀ rs : List ℕ) (c missing : ℕ) where
     pub rising : Rising M (firstRows j rs) (take i K) (drop k (entries m ws us))
 
   module _ (A : Raisable ws₀ us₀ rs c missing) where
+    -- The kept facts at entry are as many as the rows, and ascend.
     long : length K ≡ length (rows ws₀)
     long = rw (keptOf-entries ws₀ us₀ (length (rows ws₀)) refl) (length-entries (length (rows ws₀)) ws₀ us₀ (A .tables .places))
 
@@ -121,6 +125,7 @@ module _ (ws₀ us₀ rs : List ℕ) (c missing : ℕ) where
     asc : Ascending (keptRows K)
     asc = rw rows-of-K (A .tables .ascends)
 
+    -- At the start no row is raised.
     pub pass-start : Pass ws₀ us₀ (length (rows ws₀)) c m
     pass-start = record {
       room = kept-room (A .tables) m (omega arith) (A .words) (A .places);
@@ -135,6 +140,7 @@ module _ (ws₀ us₀ rs : List ℕ) (c missing : ℕ) where
     }
 
     module _ {ws us : List ℕ} {i j k : ℕ} (P : Pass ws us i j k) where
+      -- There are m entries, and so many are done.
       size : length (entries m ws us) ≡ m
       size = length-entries m ws us (P .room .places)
 
@@ -147,6 +153,7 @@ module _ (ws₀ us₀ rs : List ℕ) (c missing : ℕ) where
           sym (getD-take i K p noEntry h) ∙ ap (λ (l : Kept). getD l p noEntry) (sym (P .low)) ∙ getD-take i (entries m ws us) p noEntry h
           ∙ getD-entries m ws us (P .room .places) p (let a = P .i-le-k in let b = P .k-le in omega arith)
 
+      -- Each row before it is less.
       before-less-kept : (p : ℕ) → p < i → AllLess (keptRows (take p K)) (rowAt ws p)
       before-less-kept p h = rw (entry-is p h) at (kept-less K p (let a = P .i-le in omega (arith, long)) asc)
 
@@ -217,6 +224,7 @@ module _ (ws₀ us₀ rs : List ℕ) (c missing : ℕ) where
         (turn P i j x (suc n) (omega arith) (omega arith)
         (rising-equal (firstRows j rs) x (take i K) n (rw (t, firstRows-snoc j c rs jc) at (P .rising)) below (firstRows-less j c rs jc (A .raised-ascend))) (rw (q, r, one) at N))
 
+    -- The last row enters before what is done,
     rising-enters : {ws us : List ℕ} (i j k : ℕ) (P : Pass ws us i (suc j) k) → LastSays Lower i ws (tripleFrom rs (j * 3)) → Rising M (firstRows j rs) (take i K) ((tripleFrom rs (j * 3), 1) ∷ drop k (entries m ws us))
     rising-enters {ws} i j k P l =
         let x : Triple = tripleFrom rs (j * 3) in
@@ -231,7 +239,7 @@ module _ (ws₀ us₀ rs : List ℕ) (c missing : ℕ) where
             let t : take (suc i) K ≡ take i K ++ ((rowAt ws i, getD us i 0) ∷ []) = take-suc K i noEntry (let a = P .i-le in omega (arith, long)) ∙ ap (λ (d : Triple × ℕ). take i K ++ (d ∷ [])) (entry-is P i (omega arith)) in
             rw (t, keptRows-append) (all-less-snoc (keptRows (take i K)) (rowAt ws i) (all-less-weaken (keptRows (take i K)) lt (before-less-kept P i (omega arith))) lt)
 
-    -- Every kept fact left is lower than the last row.
+    -- for which there is room, where every kept fact left is lower.
     pub pass-lower-room : {ws us : List ℕ} (i j k : ℕ) (P : Pass ws us i j k) → 0 < j → LastSays Lower i ws (tripleFrom rs ((j - 1) * 3)) → i < k
     pass-lower-room i zero k P h l = absurd (omega arith)
     pass-lower-room i (suc j) k P h l =
