@@ -1,0 +1,4 @@
+pub mod Walks
+pub mod Squares
+pub mod Closing
+pub mod Groups

@@ -1,0 +1,5 @@
+pub mod Walks
+pub mod Nodes
+pub mod Squares
+pub mod Groups
+pub mod Sums
