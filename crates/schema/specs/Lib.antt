@@ -3,3 +3,4 @@ pub mod Nodes
 pub mod Squares
 pub mod Groups
 pub mod Sums
+pub mod Compiled
