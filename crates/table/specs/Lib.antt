@@ -1,2 +1,4 @@
 pub mod Table
 pub mod Search
+pub mod Words
+pub mod Laid

@@ -1,0 +1,94 @@
+-- Well-formed supports are the layout of the supports of the rows, each between 1 and the number of facts, and back. Assumes nothing.
+use Prim.Native.Nat.{ℕ, _+_, _-_, _≤_, _<_}
+use mathlib.Core.Path.{_≡_}
+use mathlib.Core.Bool.{Bool, true, false, _&&_}
+use mathlib.Core.List.{List, _++_}
+use native.Mathlib.Omega.{arith}
+use lib.ListN.{length, getD, take, drop, replicate, length-append, length-replicate, length-drop, take-append-drop}
+use lib.Seq.{take-at, drop-at, getD-take, length-take-le}
+use lib.Dec.{leb}
+use borrow.Author.Tests.{leb-true, le-leb, lt-leb}
+use Rattle.rdf.proofs.Ascending.{and-left, and-right}
+use Rattle.table.specs.Table.{areZero, all, isSupport, isSupportTable, supportLayout}
+use Rattle.table.specs.Laid.{Supports}
+use Rattle.table.proofs.All.{and-false, all-getD, all-more, all-stop, all-end, replicate-of, areZero-replicate}
+
+-- ---- one support
+
+pub isSupport-between : (facts u : ℕ) → isSupport facts u ≡ true → (1 ≤ u) × (u ≤ facts)
+isSupport-between facts u e = (leb-true 1 u (and-left _ _ e), leb-true u facts (and-right (leb 1 u) _ e))
+
+pub between-isSupport : (facts u : ℕ) → 1 ≤ u → u ≤ facts → isSupport facts u ≡ true
+between-isSupport facts u h k = rw (le-leb 1 u h, le-leb u facts k)
+
+pub too-low : (facts u : ℕ) → u < 1 → isSupport facts u ≡ false
+too-low facts u h = rw (lt-leb 1 u h)
+
+pub too-high : (facts u : ℕ) → facts < u → isSupport facts u ≡ false
+too-high facts u h = rw (lt-leb u facts h) (and-false (leb 1 u))
+
+-- ---- the table
+
+pub length-supportLayout : (len : ℕ) (us : List ℕ) → length us ≤ len → length (supportLayout len us) ≡ len
+unfolding supportLayout
+length-supportLayout len us h = simp (length-append, length-replicate) (omega arith)
+
+-- The supports of a layout.
+pub take-supportLayout : (len n : ℕ) (us : List ℕ) → length us ≡ n → take n (supportLayout len us) ≡ us
+unfolding supportLayout
+take-supportLayout len n us e = take-at us _ n e
+
+pub supports-of : (facts n : ℕ) (us : List ℕ) → isSupportTable facts n us ≡ true → Supports facts n us
+unfolding isSupportTable supportLayout
+supports-of facts n us e =
+    let few : n ≤ length us = leb-true n (length us) (and-left _ _ e) in
+    let q = and-right (leb n (length us)) _ e in
+    let rest : areZero (drop n us) ≡ true = and-right (all (isSupport facts) (take n us)) _ q in
+    let long : length (take n us) ≡ n = length-take-le n us few in
+    record {
+      within = few;
+      each-support = and-left _ _ q;
+      is-layout = simp (long, ← replicate-of (drop n us) _ rest (length-drop n us), take-append-drop);
+    }
+
+pub supportLayout-is : (facts len n : ℕ) (us : List ℕ) → length us ≡ n → n ≤ len → all (isSupport facts) us ≡ true → isSupportTable facts n (supportLayout len us) ≡ true
+unfolding isSupportTable supportLayout
+supportLayout-is facts len n us e h q =
+    let z : List ℕ = replicate (len - length us) 0 in
+    let room : n ≤ length (us ++ z) = simp (length-append, length-replicate) (omega arith) in
+    simp (le-leb n (length (us ++ z)) room, take-at us z n e, q, drop-at us z n e, areZero-replicate)
+
+pub supports-is : {facts n : ℕ} {us : List ℕ} → Supports facts n us → isSupportTable facts n us ≡ true
+supports-is {facts} {n} {us} S = rw (S .is-layout) (supportLayout-is facts (length us) n (take n us) (length-take-le n us (S .within)) (S .within) (S .each-support))
+
+-- Each of the n supports lies between 1 and the number of facts.
+pub support-between : {facts n : ℕ} {us : List ℕ} → Supports facts n us → (i : ℕ) → i < n → (1 ≤ getD us i 0) × (getD us i 0 ≤ facts)
+support-between {facts} {n} {us} S i h =
+    isSupport-between facts (getD us i 0) (rw (getD-take n us i 0 h) at (all-getD (isSupport facts) (take n us) 0 (S .each-support) i (rw (length-take-le n us (S .within)) h)))
+
+-- ---- the test
+
+pub too-few : (facts n : ℕ) (us : List ℕ) → length us < n → isSupportTable facts n us ≡ false
+unfolding isSupportTable
+too-few facts n us h = rw (lt-leb n (length us) h)
+
+pub enough-places : (facts n : ℕ) (us : List ℕ) → n ≤ length us → isSupportTable facts n us ≡ (all (isSupport facts) (take n us) && areZero (drop n us))
+unfolding isSupportTable
+enough-places facts n us h = rw (le-leb n (length us) h)
+
+-- The scan of the supports goes by what is left.
+module _ (facts n : ℕ) (us : List ℕ) (fits : n ≤ length us) (i : ℕ) where
+  at-support : (b : Bool) → i < n → isSupport facts (getD us i 0) ≡ b → isSupport facts (getD (take n us) i 0) ≡ b
+  at-support b h e = rw (getD-take n us i 0 h) e
+
+  inside : i < n → i < length (take n us)
+  inside h = rw (length-take-le n us fits) h
+
+  pub support-more : i < n → 1 ≤ getD us i 0 → getD us i 0 ≤ facts → all (isSupport facts) (drop i (take n us)) ≡ all (isSupport facts) (drop (i + 1) (take n us))
+  support-more h a b = all-more (isSupport facts) (take n us) i 0 (inside h) (at-support true h (between-isSupport facts (getD us i 0) a b))
+
+  pub support-stop : i < n → isSupport facts (getD us i 0) ≡ false → all (isSupport facts) (drop i (take n us)) ≡ false
+  support-stop h e = all-stop (isSupport facts) (take n us) i 0 (inside h) (at-support false h e)
+
+  pub support-end : n ≤ i → all (isSupport facts) (drop i (take n us)) ≡ true
+  support-end h = all-end (isSupport facts) (take n us) i (rw (length-take-le n us fits) h)

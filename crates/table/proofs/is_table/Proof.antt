@@ -1,0 +1,58 @@
+-- By the tests of `isTable`, one by one.
+use mathlib.Core.Path.{refl, sym}
+use native.Mathlib.Omega.{arith}
+use Rattle.table.specs.Table.{count}
+use Rattle.table.specs.Laid.{allowedIn}
+use Rattle.table.proofs.Formed.{capacity-fits, no-word, too-many, enough}
+use borrow.Author.Needs.{needs}
+use Rattle.table.proofs.is_table.Statement.{statement}
+use Rattle.table.proofs.is_table.Tie as tie
+
+returns : tie.Need-returns
+returns c = let s = c .before .before in sym (no-word (allowedIn (s .args .statements)) (s .args .most) (s .args .t .now) (c .if1 .taken))
+
+shared-slice-read-n : tie.Need-shared-slice-read-n
+shared-slice-read-n c = search needs
+
+cast-n : tie.Need-cast-n
+cast-n c = omega (arith, c .shared-slice-known2 .given 0)
+
+capacity-requires : tie.Need-capacity-requires
+capacity-requires c κs = search needs
+
+returns-2 : tie.Need-returns-2
+returns-2 c = let s = c .before .before .before .before .before in sym (too-many (allowedIn (s .args .statements)) (s .args .most) (s .args .t .now) (omega (arith, c .before .before .before .if1 .left)) (rw (← (c .before .capacity .ensures (s .args .t .now) refl)) (c .if2 .taken)))
+
+are-rows-requires : tie.Need-are-rows-requires
+are-rows-requires c κs = let s = c .before .before .before .before .before in capacity-fits (s .args .most) (s .args .t .now) (count (s .args .t .now)) (omega (arith, c .before .before .before .if1 .left)) (rw (← (c .before .capacity .ensures (s .args .t .now) refl)) (c .if2 .left))
+
+mul-are-words-zero : tie.Need-mul-are-words-zero
+mul-are-words-zero c = let s = c .before .before .before .before .before .before .before in omega (arith, capacity-fits (s .args .most) (s .args .t .now) (count (s .args .t .now)) (omega (arith, c .before .before .before .before .before .if1 .left)) (rw (← (c .before .before .before .capacity .ensures (s .args .t .now) refl)) (c .before .before .if2 .left)))
+
+add-are-words-zero : tie.Need-add-are-words-zero
+add-are-words-zero c = let s = c .before .before .before .before .before .before .before in omega (arith, capacity-fits (s .args .most) (s .args .t .now) (count (s .args .t .now)) (omega (arith, c .before .before .before .before .before .if1 .left)) (rw (← (c .before .before .before .capacity .ensures (s .args .t .now) refl)) (c .before .before .if2 .left)))
+
+are-words-zero-requires : tie.Need-are-words-zero-requires
+are-words-zero-requires c κs = search needs
+
+returns-3 : tie.Need-returns-3
+returns-3 c = let s = c .before .before .before .before .before .before .before .before in rw (enough (allowedIn (s .args .statements)) (s .args .most) (s .args .t .now) (omega (arith, c .before .before .before .before .before .before .if1 .left)) (rw (← (c .before .before .before .before .capacity .ensures (s .args .t .now) refl)) (c .before .before .before .if2 .left)), ← c .before .before .are-rows .ensures, c .before .if3 .taken) (c .are-words-zero .ensures)
+
+returns-4 : tie.Need-returns-4
+returns-4 c = let s = c .before .before .before .before .before .before .before in rw (enough (allowedIn (s .args .statements)) (s .args .most) (s .args .t .now) (omega (arith, c .before .before .before .before .before .if1 .left)) (rw (← (c .before .before .before .capacity .ensures (s .args .t .now) refl)) (c .before .before .if2 .left)), ← c .before .are-rows .ensures, c .if3 .left)
+
+pub is-table-spec : {M : Type 1} → statement M
+is-table-spec =
+    tie.close
+    (tie.spec
+    returns
+    shared-slice-read-n
+    cast-n
+    capacity-requires
+    returns-2
+    are-rows-requires
+    mul-are-words-zero
+    add-are-words-zero
+    are-words-zero-requires
+    returns-3
+    returns-4)
