@@ -1,16 +1,25 @@
 -- Rows with one more or one less at the place that a search found are the set with the row or without it. Assumes nothing.
-use Prim.Native.Nat.{ℕ, zero, suc, _+_}
-use mathlib.Core.Path.{_≡_, refl, sym, ap}
-use mathlib.Core.List.{List, [], _∷_, _++_, List·Memᴰ, List·Memᴰ·head, List·Memᴰ·tail}
+use Prim.Native.Nat.{ℕ, _+_, _*_, _≤_, _<_}
+use mathlib.Core.Path.{_≡_, refl, sym, ap, _∙_}
+use mathlib.Core.Bool.{Bool, true}
+use mathlib.Core.Logic.{⊎-elim}
+use mathlib.Core.List.{List, [], _∷_, List·Memᴰ, List·Memᴰ·head, List·Memᴰ·tail}
 use native.Mathlib.Nat.{suc-add}
-use lib.ListN.{length, take, drop}
+use native.Mathlib.Omega.{arith}
+use lib.ListN.{length, length-append, length-drop}
+use lib.Seq.{length-take-le}
 use Rattle.rdf.specs.declared.Triple.{Triple}
-use Rattle.rdf.specs.Order.{Less, compareTriples, equalTriples, byOrder, choose, Ascending, insert, remove}
+use Rattle.rdf.specs.Order.{Less, compareTriples, equalTriples, Ascending, insert, remove}
 use Rattle.rdf.proofs.Order.{less-ne, byOrder-elim, byOrder-less, byOrder-same, byOrder-more, choose-yes, choose-no}
+use Rattle.rdf.proofs.Ascending.{insert-asc, insert-cases, remove-asc, remove-sub, remove-length}
 use Rattle.table.specs.declared.Found.{Found}
 use Rattle.table.specs.declared.Found.the-variants.{At, Gap}
+use Rattle.table.specs.Table.{capacity, rows, layout, all}
 use Rattle.table.specs.Search.{next, place, insertAt, removeAt}
-use Rattle.table.proofs.Place.{gap-absent}
+use Rattle.table.specs.Laid.{WellFormed}
+use Rattle.table.proofs.All.{all-member, member-all}
+use Rattle.table.proofs.Formed.{capacity-fits, capacity-most, wellFormed-of}
+use Rattle.table.proofs.Place.{missing-at, gap-absent}
 
 -- What insertion does at a place.
 abbrev Inserted : Triple → List Triple → Found → Type 0
@@ -67,3 +76,41 @@ remove-absent x (u ∷ us) n =
 
 pub remove-gap : (x : Triple) (us : List Triple) (i : ℕ) → Ascending us → place x us ≡ Gap i → remove x us ≡ us
 remove-gap x us i a e = remove-absent x us (gap-absent x us i a e)
+
+-- ---- lengths and tests
+
+pub length-insertAt : (i : ℕ) (x : Triple) (us : List Triple) → i ≤ length us → length (insertAt i x us) ≡ length us + 1
+unfolding insertAt
+length-insertAt i x us h = simp (length-append, length-take-le i us h, length-drop) (omega arith)
+
+pub length-removeAt : (i : ℕ) (us : List Triple) → i < length us → length (removeAt i us) + 1 ≡ length us
+unfolding removeAt
+length-removeAt i us h = simp (length-append, length-take-le i us (omega arith), length-drop) (omega arith)
+
+pub all-insert : (test : Triple → Bool) (x : Triple) (us : List Triple) → test x ≡ true → all test us ≡ true → all test (insert x us) ≡ true
+all-insert test x us e a = member-all test (insert x us) (λ u m. ⊎-elim (λ (q : u ≡ x). rw q e) (λ j. all-member test us a j) (insert-cases x us m))
+
+pub all-remove : (test : Triple → Bool) (x : Triple) (us : List Triple) → all test us ≡ true → all test (remove x us) ≡ true
+all-remove test x us a = member-all test (remove x us) (λ u m. all-member test us a (remove-sub x us m))
+
+-- ---- tables
+
+-- A well-formed table below capacity stays well formed with one allowed row more.
+pub wellFormed-insert : {allowed : Triple → Bool} {most : ℕ} {ws : List ℕ} (vs : List ℕ) (i : ℕ) (x : Triple) → WellFormed allowed most ws → allowed x ≡ true → length (rows ws) < capacity most ws
+    → place x (rows ws) ≡ Gap i → vs ≡ layout (length ws) (insertAt i x (rows ws)) → WellFormed allowed most vs
+wellFormed-insert {allowed} {most} {ws} vs i x W a h p e =
+    let q : insertAt i x (rows ws) ≡ insert x (rows ws) = insertAt-gap x (rows ws) i p in
+    let n : length (insertAt i x (rows ws)) ≡ length (rows ws) + 1 = length-insertAt i x (rows ws) (missing-at x (rows ws) i p .within) in
+    let m : length (insert x (rows ws)) ≡ length (rows ws) + 1 = sym (ap length q) ∙ n in
+    let f : (length (rows ws) + 1) * 3 < length ws = capacity-fits most ws (length (rows ws) + 1) (omega (arith, W .laid .fits)) (omega arith) in
+    wellFormed-of allowed most vs (length ws) (insert x (rows ws)) (rw q at e) (rw m f) (rw m (omega (arith, capacity-most most ws))) (insert-asc x (rows ws) (W .ascends))
+    (all-insert allowed x (rows ws) a (W .each-allowed))
+
+-- And with one row less.
+pub wellFormed-remove : {allowed : Triple → Bool} {most : ℕ} {ws : List ℕ} (vs : List ℕ) (i : ℕ) (x : Triple) → WellFormed allowed most ws → place x (rows ws) ≡ At i
+    → vs ≡ layout (length ws) (removeAt i (rows ws)) → WellFormed allowed most vs
+wellFormed-remove {allowed} {most} {ws} vs i x W p e =
+    let q : removeAt i (rows ws) ≡ remove x (rows ws) = removeAt-at x (rows ws) i p in
+    let m : length (remove x (rows ws)) ≤ length (rows ws) = remove-length x (rows ws) in
+    wellFormed-of allowed most vs (length ws) (remove x (rows ws)) (rw q at e) (omega (arith, W .laid .fits)) (omega (arith, W .within, capacity-most most ws)) (remove-asc x (rows ws) (W .ascends))
+    (all-remove allowed x (rows ws) (W .each-allowed))

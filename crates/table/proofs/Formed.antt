@@ -1,11 +1,11 @@
 -- A well-formed table is the layout of its rows, which ascend, are allowed and are within the capacity, and back. Assumes nothing.
-use Prim.Native.Nat.{ℕ, zero, suc, _+_, _-_, _*_, _/_, _^_, _≤_, _<_, min}
-use mathlib.Core.Path.{_≡_, refl, sym, ap, _∙_}
+use Prim.Native.Nat.{ℕ, suc, _+_, _-_, _*_, _/_, _^_, _≤_, _<_}
+use mathlib.Core.Path.{_≡_, refl}
 use mathlib.Core.Bool.{Bool, true, false, _&&_}
 use mathlib.Core.List.{List, [], _∷_, _++_}
 use native.Mathlib.Numerals.{add-one}
 use native.Mathlib.Omega.{arith}
-use lib.ListN.{length, getD, drop, replicate, length-append, length-replicate, length-drop, take-append-drop}
+use lib.ListN.{length, drop, replicate, length-append, length-replicate, length-drop, take-append-drop}
 use lib.Seq.{drop-at}
 use lib.Dec.{leb}
 use borrow.Author.Tests.{leb-true, le-leb, lt-leb}
@@ -13,8 +13,8 @@ use Rattle.rdf.specs.declared.Triple.{Triple}
 use Rattle.rdf.specs.Order.{isAscending, Ascending}
 use Rattle.rdf.proofs.Ascending.{and-left, and-right, isAscending-iff}
 use Rattle.table.specs.Table.{capacity, count, firstRows, rows, flatten, layout, areZero, all, isTable}
-use Rattle.table.specs.Laid.{Laid, Spare, WellFormed}
-use Rattle.table.proofs.Rows.{length-firstRows, length-rows, flatten-firstRows, firstRows-flatten, firstRows-rows, rows-of, length-flatten, length-layout, laid, laid-of}
+use Rattle.table.specs.Laid.{Spare, WellFormed}
+use Rattle.table.proofs.Rows.{length-firstRows, flatten-firstRows, firstRows-flatten, firstRows-rows, length-flatten, laid}
 use Rattle.table.proofs.All.{and-assoc, replicate-of, areZero-replicate}
 
 -- ---- capacity

@@ -5,7 +5,7 @@ use mathlib.Core.List.{List, [], _∷_, _++_, append-assoc}
 use native.Mathlib.Nat.{zero-add, suc-add}
 use native.Mathlib.Omega.{arith}
 use lib.ListN.{length, take, drop, set, replicate, length-append, take-append-drop}
-use lib.Seq.{slice, take-at, drop-at, take-append-add, length-take-le, set-at}
+use lib.Seq.{take-at, drop-at, take-append-add, length-take-le, set-at}
 use Rattle.rdf.specs.declared.Triple.{Triple}
 use Rattle.table.specs.Table.{count, rows, flatten, layout}
 use Rattle.table.specs.Search.{insertAt}

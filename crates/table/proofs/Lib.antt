@@ -9,3 +9,4 @@ pub mod Scan
 pub mod Formed
 pub mod Supports
 pub mod Change
+pub mod Store

@@ -1,13 +1,13 @@
 -- Where a row stands in ascending rows. Assumes nothing.
-use Prim.Native.Nat.{ℕ, zero, suc, _+_, _≤_, _<_}
-use mathlib.Core.Path.{_≡_, refl, sym, _∙_}
+use Prim.Native.Nat.{ℕ, zero, suc, _≤_, _<_}
+use mathlib.Core.Path.{_≡_, refl, sym}
 use mathlib.Core.Logic.{⊎-elim}
 use mathlib.Core.List.{List, [], _∷_, List·Memᴰ, List·Memᴰ·head, List·Memᴰ·tail, List·Memᴰ·cases-cons, List·Memᴰ·not-nil, Memᴰ·cast}
 use native.Mathlib.Decide.{decLt}
 use native.Mathlib.Omega.{arith}
 use lib.ListN.{length, getD}
 use Rattle.rdf.specs.declared.Triple.{Triple}
-use Rattle.rdf.specs.Order.{Less, by-object, triple-eq, compareTriples, byOrder, Above, Ascending}
+use Rattle.rdf.specs.Order.{Less, by-object, triple-eq, compareTriples, Above, Ascending}
 use Rattle.rdf.proofs.Order.{less-trans, less-ne, byOrder-elim, byOrder-less, byOrder-same, byOrder-more}
 use Rattle.rdf.proofs.Ascending.{above-asc}
 use Rattle.table.specs.declared.Ordering.{Ordering}

@@ -5,7 +5,7 @@ use mathlib.Core.List.{List, [], _∷_, _++_, append-assoc}
 use native.Mathlib.Numerals.{add-one}
 use native.Mathlib.Omega.{arith}
 use lib.ListN.{length, getD, take, drop, set, replicate, length-append, length-drop}
-use lib.Seq.{slice, take-at, drop-append-le, drop-append-add, length-take-le, set-at, split-at}
+use lib.Seq.{take-at, drop-append-le, drop-append-add, length-take-le, set-at, split-at}
 use Rattle.rdf.specs.declared.Triple.{Triple}
 use Rattle.rdf.specs.Triple.{triple}
 use Rattle.table.specs.Table.{count, rows, flatten, layout}

@@ -8,7 +8,6 @@ use native.Mathlib.Omega.{arith}
 use lib.ListN.{length, getD, take, drop, length-append, length-replicate}
 use lib.Seq.{getD-drop}
 use Rattle.rdf.specs.declared.Triple.{Triple}
-use Rattle.rdf.specs.Triple.{triple}
 use Rattle.table.specs.Table.{count, tripleFrom, rowAt, firstRows, rows, flatten, layout}
 use Rattle.table.specs.Laid.{Laid}
 

@@ -7,7 +7,7 @@ use lib.ListN.{length, take}
 use Rattle.rdf.specs.declared.Triple.{Triple}
 use Rattle.rdf.specs.Triple.{isAllowedStatement, isAllowedFact}
 use Rattle.rdf.specs.Order.{Ascending}
-use Rattle.table.specs.Table.{capacity, count, rows, layout, all, isSupport, supportLayout}
+use Rattle.table.specs.Table.{mostStatements, mostFacts, mostKept, capacity, count, rows, layout, all, isSupport, supportLayout}
 
 -- Which rows may stand in a table: statements, or facts.
 abbrev pub allowedIn : Bool → Triple → Bool
@@ -38,3 +38,10 @@ pub record Supports (facts n : ℕ) (us : List ℕ) : Type 0 where
   pub within : n ≤ length us
   pub each-support : all (isSupport facts) (take n us) ≡ true
   pub is-layout : us ≡ supportLayout (length us) (take n us)
+
+-- What the four tables of a well-formed store are.
+pub record FormedStore (S F K U : List ℕ) : Type 0 where
+  pub statements : WellFormed isAllowedStatement mostStatements S
+  pub facts : WellFormed isAllowedFact mostFacts F
+  pub kept : WellFormed isAllowedFact mostKept K
+  pub supports : Supports (count F) (count K) U

@@ -1,24 +1,19 @@
+-- By the three cases of the definition.
 use Rattle.table.proofs.Formed.{capacity-none, capacity-room, capacity-limit}
 use native.Mathlib.Omega.{arith}
 use borrow.Author.Needs.{needs}
 use Rattle.table.proofs.capacity.Statement.{statement}
 use Rattle.table.proofs.capacity.Tie as tie
-use Rattle.table.proofs.capacity.Reads as reads
-use Rattle.table.proofs.capacity.Lts as lts
 
--- src/lib.rt:156:9
 returns : tie.Need-returns
 returns c = λ ws e. capacity-none (c .before .args .most) ws (omega arith)
 
--- src/lib.rt:158:17
 sub-room : tie.Need-sub-room
 sub-room c = search needs
 
--- src/lib.rt:152:1
 returns-2 : tie.Need-returns-2
 returns-2 c = λ ws e. rw (← e) (capacity-room (c .before .before .args .most) ws (rw e (c .if2 .taken)))
 
--- src/lib.rt:152:1
 returns-3 : tie.Need-returns-3
 returns-3 c = λ ws e. capacity-limit (c .before .before .args .most) ws (rw e (c .if2 .left))
 

@@ -1,3 +1,4 @@
+-- By the tests of `isStore`, one by one; a well-formed table has a word for its count.
 use mathlib.Core.Path.{sym, _∙_}
 use native.Mathlib.Omega.{arith}
 use borrow.Author.Tests.{not-true, not-false}
@@ -7,61 +8,43 @@ use Rattle.table.proofs.Formed.{some-word}
 use borrow.Author.Needs.{needs}
 use Rattle.table.proofs.is_store.Statement.{statement}
 use Rattle.table.proofs.is_store.Tie as tie
-use Rattle.table.proofs.is_store.Reads as reads
-use Rattle.table.proofs.is_store.Lts as lts
-use Rattle.table.proofs.is_fact_table.Reads as is-fact-table-reads
-use Rattle.table.proofs.is_kept_table.Reads as is-kept-table-reads
-use Rattle.table.proofs.is_statement_table.Reads as is-statement-table-reads
-use Rattle.table.proofs.is_support_table.Reads as is-support-table-reads
 
--- src/lib.rt:311:9
 is-statement-table-requires : tie.Need-is-statement-table-requires
 is-statement-table-requires c κs = search needs
 
--- src/lib.rt:312:9
 returns : tie.Need-returns
 unfolding isStore
 returns c = rw (sym (c .before .is-statement-table .ensures) ∙ not-true _ (c .if1 .taken))
 
--- src/lib.rt:314:9
 is-fact-table-requires : tie.Need-is-fact-table-requires
 is-fact-table-requires c κs = search needs
 
--- src/lib.rt:315:9
 returns-2 : tie.Need-returns-2
 unfolding isStore
 returns-2 c = rw (sym (c .before .before .before .is-statement-table .ensures) ∙ not-false _ (c .before .before .if1 .left), sym (c .before .is-fact-table .ensures) ∙ not-true _ (c .if2 .taken))
 
--- src/lib.rt:317:9
 is-kept-table-requires : tie.Need-is-kept-table-requires
 is-kept-table-requires c κs = search needs
 
--- src/lib.rt:318:9
 returns-3 : tie.Need-returns-3
 unfolding isStore
 returns-3 c = rw (sym (c .before .before .before .before .before .is-statement-table .ensures) ∙ not-false _ (c .before .before .before .before .if1 .left), sym (c .before .before .before .is-fact-table .ensures) ∙ not-false _ (c .before .before .if2 .left), sym (c .before .is-kept-table .ensures) ∙ not-true _ (c .if3 .taken))
 
--- src/lib.rt:320:32
 shared-slice-read-is-support-table : tie.Need-shared-slice-read-is-support-table
 shared-slice-read-is-support-table c = some-word isAllowedFact mostFacts (c .before .before .before .before .before .before .before .before .before .before .before .args .facts .now) (sym (c .before .before .before .before .is-fact-table .ensures) ∙ not-false _ (c .before .before .before .if2 .left))
 
--- src/lib.rt:320:32
 cast-is-support-table : tie.Need-cast-is-support-table
 cast-is-support-table c = omega (arith, c .shared-slice-known5 .given 0)
 
--- src/lib.rt:320:51
 shared-slice-read-is-support-table-2 : tie.Need-shared-slice-read-is-support-table-2
 shared-slice-read-is-support-table-2 c = some-word isAllowedFact mostKept (c .before .before .before .before .before .before .before .before .before .before .before .before .args .kept .now) (sym (c .before .before .before .is-kept-table .ensures) ∙ not-false _ (c .before .before .if3 .left))
 
--- src/lib.rt:320:51
 cast-is-support-table-2 : tie.Need-cast-is-support-table-2
 cast-is-support-table-2 c = omega (arith, c .shared-slice-known6 .given 0)
 
--- src/lib.rt:320:5
 is-support-table-requires : tie.Need-is-support-table-requires
 is-support-table-requires c κs = search needs
 
--- src/lib.rt:308:1
 returns-4 : tie.Need-returns-4
 unfolding isStore
 returns-4 c = rw (sym (c .before .before .before .before .before .before .before .before .is-statement-table .ensures) ∙ not-false _ (c .before .before .before .before .before .before .before .if1 .left), sym (c .before .before .before .before .before .before .is-fact-table .ensures) ∙ not-false _ (c .before .before .before .before .before .if2 .left), sym (c .before .before .before .before .is-kept-table .ensures) ∙ not-false _ (c .before .before .before .if3 .left)) (c .is-support-table .ensures)

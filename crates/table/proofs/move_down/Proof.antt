@@ -1,3 +1,4 @@
+-- The invariant: the words from a + 3 to i + 3 are moved already.
 use borrow.Author.Needs.{needs}
 use Prim.Native.Nat.{_≤_, _-_}
 use mathlib.Core.Path.{_≡_, refl}
@@ -7,8 +8,6 @@ use Rattle.table.specs.Words.{movedDown}
 use Rattle.table.proofs.Shift.{down-none, down-step}
 use Rattle.table.proofs.move_down.Statement.{statement}
 use Rattle.table.proofs.move_down.Tie as tie
-use Rattle.table.proofs.move_down.Reads as reads
-use Rattle.table.proofs.move_down.Lts as lts
 
 abbrev Inv-loop : tie.InvT-loop
 Inv-loop t₀ a e i₀ t i = (a ≤ i) × (i ≤ e) × (length t ≡ length t₀) × (t ≡ movedDown a i t₀)
@@ -16,47 +15,36 @@ Inv-loop t₀ a e i₀ t i = (a ≤ i) × (i ≤ e) × (length t ≡ length t₀
 abbrev μ-loop : tie.MeasureT-loop
 μ-loop t₀ a e i₀ t i = e - i
 
--- src/lib.rt:114:5
 loop-holds : tie.Need-loop-holds Inv-loop μ-loop
 loop-holds c = (search needs, search needs, refl, down-none _ _)
 
--- src/lib.rt:115:18
 add-t : tie.Need-add-t Inv-loop μ-loop
 add-t c = search needs
 
--- src/lib.rt:115:16
 mul-t : tie.Need-mul-t Inv-loop μ-loop
 mul-t c = search needs
 
--- src/lib.rt:115:16
 slice-read-t : tie.Need-slice-read-t Inv-loop μ-loop
 slice-read-t c = search needs
 
--- src/lib.rt:115:9
 mul-t-2 : tie.Need-mul-t-2 Inv-loop μ-loop
 mul-t-2 c = search needs
 
--- src/lib.rt:115:9
 slice-write-t : tie.Need-slice-write-t Inv-loop μ-loop
 slice-write-t c = search needs
 
--- src/lib.rt:116:9
 add-i : tie.Need-add-i Inv-loop μ-loop
 add-i c = search needs
 
--- src/lib.rt:114:5
 loop-less : tie.Need-loop-less Inv-loop μ-loop
 loop-less c = search needs
 
--- src/lib.rt:114:5
 loop-again : tie.Need-loop-again Inv-loop μ-loop
 loop-again c = (search needs, search needs, simp length-set (search needs), rw (c .before .before .loop .inv .3) (down-step _ _ _ (search needs) (search needs)))
 
--- src/lib.rt:109:1
 same-length : tie.Need-same-length Inv-loop μ-loop
 same-length c = search needs
 
--- src/lib.rt:109:1
 returns : tie.Need-returns Inv-loop μ-loop
 returns c = let q : c .before .loop .i ≡ c .before .before .args .e = omega arith in rw q at (c .before .loop .inv .3)
 

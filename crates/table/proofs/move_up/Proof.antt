@@ -1,3 +1,4 @@
+-- The invariant: the words from i to e are moved already.
 use borrow.Author.Needs.{needs}
 use Prim.Native.Nat.{_≤_}
 use mathlib.Core.Path.{_≡_, refl}
@@ -7,8 +8,6 @@ use Rattle.table.specs.Words.{movedUp}
 use Rattle.table.proofs.Shift.{up-none, up-step}
 use Rattle.table.proofs.move_up.Statement.{statement}
 use Rattle.table.proofs.move_up.Tie as tie
-use Rattle.table.proofs.move_up.Reads as reads
-use Rattle.table.proofs.move_up.Lts as lts
 
 abbrev Inv-loop : tie.InvT-loop
 Inv-loop t₀ a e i₀ t i = (a ≤ i) × (i ≤ e) × (length t ≡ length t₀) × (t ≡ movedUp i e t₀)
@@ -16,47 +15,36 @@ Inv-loop t₀ a e i₀ t i = (a ≤ i) × (i ≤ e) × (length t ≡ length t₀
 abbrev μ-loop : tie.MeasureT-loop
 μ-loop t₀ a e i₀ t i = i
 
--- src/lib.rt:102:5
 loop-holds : tie.Need-loop-holds Inv-loop μ-loop
 loop-holds c = (search needs, search needs, refl, up-none _ _ (search needs))
 
--- src/lib.rt:103:9
 sub-i : tie.Need-sub-i Inv-loop μ-loop
 sub-i c = search needs
 
--- src/lib.rt:104:20
 mul-t : tie.Need-mul-t Inv-loop μ-loop
 mul-t c = search needs
 
--- src/lib.rt:104:20
 slice-read-t : tie.Need-slice-read-t Inv-loop μ-loop
 slice-read-t c = search needs
 
--- src/lib.rt:104:11
 add-t : tie.Need-add-t Inv-loop μ-loop
 add-t c = search needs
 
--- src/lib.rt:104:9
 mul-t-2 : tie.Need-mul-t-2 Inv-loop μ-loop
 mul-t-2 c = search needs
 
--- src/lib.rt:104:9
 slice-write-t : tie.Need-slice-write-t Inv-loop μ-loop
 slice-write-t c = search needs
 
--- src/lib.rt:102:5
 loop-less : tie.Need-loop-less Inv-loop μ-loop
 loop-less c = search needs
 
--- src/lib.rt:102:5
 loop-again : tie.Need-loop-again Inv-loop μ-loop
 loop-again c = (search needs, search needs, simp length-set (search needs), rw (c .before .before .loop .inv .3) (up-step _ _ _ (search needs) (search needs) (search needs)))
 
--- src/lib.rt:97:1
 same-length : tie.Need-same-length Inv-loop μ-loop
 same-length c = search needs
 
--- src/lib.rt:97:1
 returns : tie.Need-returns Inv-loop μ-loop
 returns c = let q : c .before .loop .i ≡ c .before .before .args .a = omega arith in rw q at (c .before .loop .inv .3)
 

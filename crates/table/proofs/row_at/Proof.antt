@@ -1,52 +1,40 @@
+-- By computation.
 use mathlib.Core.Path.{refl}
 use Rattle.table.specs.Table.{rowAt}
 use borrow.Author.Needs.{needs}
 use Rattle.table.proofs.row_at.Statement.{statement}
 use Rattle.table.proofs.row_at.Tie as tie
-use Rattle.table.proofs.row_at.Reads as reads
-use Rattle.table.proofs.row_at.Lts as lts
 
--- src/lib.rt:88:14
 mul-at : tie.Need-mul-at
 mul-at c = search needs
 
--- src/lib.rt:88:14
 add-at : tie.Need-add-at
 add-at c = search needs
 
--- src/lib.rt:90:18
 mul-t4 : tie.Need-mul-t4
 mul-t4 c = search needs
 
--- src/lib.rt:90:18
 shared-slice-read-t6 : tie.Need-shared-slice-read-t6
 shared-slice-read-t6 c = search needs
 
--- src/lib.rt:91:21
 add-t7 : tie.Need-add-t7
 add-t7 c = search needs
 
--- src/lib.rt:91:19
 mul-t8 : tie.Need-mul-t8
 mul-t8 c = search needs
 
--- src/lib.rt:91:19
 shared-slice-read-t10 : tie.Need-shared-slice-read-t10
 shared-slice-read-t10 c = search needs
 
--- src/lib.rt:92:19
 add-t11 : tie.Need-add-t11
 add-t11 c = search needs
 
--- src/lib.rt:92:17
 mul-t12 : tie.Need-mul-t12
 mul-t12 c = search needs
 
--- src/lib.rt:92:17
 shared-slice-read-t14 : tie.Need-shared-slice-read-t14
 shared-slice-read-t14 c = search needs
 
--- src/lib.rt:84:1
 returns : tie.Need-returns
 unfolding rowAt
 returns c = refl

@@ -1,0 +1,6 @@
+pub mod Walks
+pub mod Nodes
+pub mod Squares
+pub mod Groups
+pub mod Sums
+pub mod Compiled
