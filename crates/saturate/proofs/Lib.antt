@@ -1,0 +1,5 @@
+pub mod Sorting
+pub mod Ranges
+pub mod NodeBits
+pub mod Adding
+pub mod Gathering

@@ -1,0 +1,5 @@
+pub mod Sums
+pub mod Index
+pub mod Prepared
+pub mod Counting
+pub mod Blocks
