@@ -11,6 +11,7 @@ use lib.ListN.{length, getD, set, length-set}
 use lib.Seq.{getD-set-same, getD-set-other}
 use lib.Dec.{ltb, eqb}
 use borrow.Author.Tests.{lt-ltb, le-ltb, eq-eqb, ne-eqb}
+use Rattle.rdf.proofs.Lists.{true-not-false}
 use Rattle.merge.specs.Streams.{objects, streams, often, tally, Rising, Over, AllRising}
 use Rattle.merge.proofs.Streams.{streams-set}
 use Rattle.schema.specs.Nodes.{propertyNode, subjectNode}
@@ -165,3 +166,13 @@ block-here f a z e g s lt n =
 
 pub block-last : (f : List ℕ) (a z e : ℕ) → SameProperty f a z → z ≡ e → Block f a z e (propertyAt f a)
 block-last f a z e s q = record { grows = s .grows; ends = omega arith; all = s .all; next = λ h. absurd (omega arith) }
+
+-- ---- the test of a bit
+
+-- It is true of 1,
+pub leads-yes : (b : ℕ) → eqb b 1 ≡ true → b ≡ 1
+leads-yes b e = by-cases (ℕ-discrete b 1) (λ q. q) (λ n. absurd (true-not-false (sym e ∙ ne-eqb b 1 n)))
+
+-- and false of 0 alone.
+pub leads-no : (b : ℕ) → b ≤ 1 → eqb b 1 ≡ false → b ≡ 0
+leads-no b l e = by-cases (ℕ-discrete b 1) (λ q. absurd (true-not-false (sym (eq-eqb b 1 q) ∙ e))) (λ n. omega arith)
