@@ -4,3 +4,5 @@ pub mod Closing
 pub mod Groups
 pub mod Meaning
 pub mod Bits
+pub mod Sums
+pub mod Tables
