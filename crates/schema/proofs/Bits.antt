@@ -27,7 +27,7 @@ pub support-cons : (S : List Triple) (f : Triple) (F : List Triple) (t : Triple)
 unfolding support
 support-cons S f F t = refl
 
-bit-is : (S : List Triple) (f t : Triple) (b : ℕ) → NoVocabulary S → b ≤ 1 → ((b ≡ 1) ↔ Carries S f t) → among t (carried S f) ≡ b
+pub bit-is : (S : List Triple) (f t : Triple) (b : ℕ) → NoVocabulary S → b ≤ 1 → ((b ≡ 1) ↔ Carries S f t) → among t (carried S f) ≡ b
 bit-is S f t b w le h =
     choose-elim (λ (n : ℕ). n ≡ b) (isIn equalTriples t (carried S f))
     (λ m. sym (h .1 (carried-iff S f t w .0 m)))

@@ -6,3 +6,4 @@ pub mod Meaning
 pub mod Bits
 pub mod Sums
 pub mod Tables
+pub mod Counted
