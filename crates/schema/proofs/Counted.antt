@@ -12,14 +12,14 @@ use borrow.Author.Tests.{eqb-true, eqb-false, eq-eqb, ne-eqb, lt-ltb, le-ltb}
 use Rattle.rdf.specs.declared.Triple.{Triple}
 use Rattle.rdf.specs.Term.{isLiteral}
 use Rattle.rdf.specs.Triple.{triple, isAllowedStatement, isAllowedFact}
-use Rattle.rdf.specs.Order.{triple-eq}
-use Rattle.rdf.proofs.Order.{of-subject, of-property, of-object}
+use Rattle.rdf.specs.Order.{triple-eq, equalTriples}
+use Rattle.rdf.proofs.Order.{of-subject, of-property, of-object, choose-no}
 use Rattle.rdf.proofs.Lists.{cond-elim}
 use Rattle.table.specs.Table.{count, tripleFrom, rowAt, firstRows, rows, mostStatements, mostFacts}
 use Rattle.table.specs.Laid.{WellFormed}
 use Rattle.table.proofs.Rows.{tripleFrom-drop}
 use Rattle.rdfs.specs.Entailment.{Carries, NoVocabulary}
-use Rattle.rdfs.specs.Closure.{carried}
+use Rattle.rdfs.specs.Closure.{isIn, carried}
 use Rattle.rdfs.specs.Saturation.{support}
 use Rattle.rdfs.proofs.Entailment.{not-vocabulary, allowed-fact}
 use Rattle.rdfs.proofs.Carried.{carried-part, Part, as-property, as-subject, as-object}
@@ -32,9 +32,9 @@ use Rattle.schema.specs.Sums.{sumTo}
 use Rattle.schema.specs.Compiled.{Compiled, subjectAt, propertyAt, objectAt, nodeBit, startNode, either, explicitAt, ownBit, subjectAdds, objectAdds, propertyAdds}
 use Rattle.schema.proofs.Walks.{Ends, plus-ends, Starts, plus-starts}
 use Rattle.schema.proofs.Closing.{Of, edges-of, subject-class-node, subject-property-node}
-use Rattle.schema.proofs.Meaning.{Edges, Small, key, key-type, key-other, not-type, no-one, Carry, by-class, by-property, by-object}
+use Rattle.schema.proofs.Meaning.{Edges, Small, key, key-type, key-other, not-type, Carry, carry, by-class, by-property, by-object}
 use Rattle.schema.proofs.Bits.{support-cons, bit-is, Own, bit-own, bit-other, Led, bit-property}
-use Rattle.schema.proofs.Sums.{sum-ext, sum-add, sum-zero, sum-first}
+use Rattle.schema.proofs.Sums.{sum-ext, sum-add, sum-zero, sum-le, sum-first}
 use Rattle.schema.proofs.Tables.{Words, triple-words, row-subject, row-property, row-object, row-member, row-allowed, statements-small, statements-plain, edges-are}
 
 -- ---- the bit of a node
@@ -102,6 +102,33 @@ module _ (st col sq : List ℕ) (ns c : ℕ) (P : ℕ → ℕ → Type 0) (lc : 
       (λ q. absurd (n (w g c l lc .1 (subst (λ (z : ℕ). P z (getD col c 0)) (sym e) (node-bit-says m x w q)))))
       (λ z. omega (arith, b g l, node-bit-le m x b)))
 
+-- A row of the node x that has column c.
+pub record Marked (st : List ℕ) (m : ℕ) (sq : List ℕ) (x c : ℕ) : Type 0 where
+  pub number : ℕ
+  pub below : number < m
+  pub node : subjectNode st number ≡ x
+  pub has : at sq number c ≡ 1
+
+-- It is 1 exactly if some row of the node has the column.
+node-bit-row : (st sq : List ℕ) (c m x : ℕ) → nodeBit st m sq x c ≡ 1 → Marked st m sq x c
+unfolding nodeBit
+node-bit-row st sq c zero x h = absurd (omega arith)
+node-bit-row st sq c (suc m) x h =
+    cond-elim (λ (n : ℕ). n ≡ 1 → Marked st (suc m) sq x c) (eqb (subjectNode st m) x)
+    (λ e b. record { number = m; below = omega arith; node = eqb-true _ _ e; has = b })
+    (λ _ b. let g = node-bit-row st sq c m x b in record { number = g .number; below = omega (arith, g .below); node = g .node; has = g .has })
+    h
+
+pub node-bit-marked : (st col sq : List ℕ) (ns c : ℕ) (P : ℕ → ℕ → Type 0) → c < ns → (m x : ℕ) → Marks st m col ns sq P → (nodeBit st m sq x c ≡ 1) ↔ Marked st m sq x c
+node-bit-marked st col sq ns c P lc m x w = (
+  node-bit-row st sq c m x,
+  λ g. node-bit-has st col sq ns c P lc m x (g .number) (g .below) (g .node) w (subst (λ (z : ℕ). P z (getD col c 0)) (g .node) (w (g .number) c (g .below) lc .0 (g .has))),
+)
+
+-- Rows of one node have the same columns.
+pub marks-even : (st col sq : List ℕ) (ns c m : ℕ) (P : ℕ → ℕ → Type 0) → c < ns → Marks st m col ns sq P → (i j : ℕ) → i < m → j < m → subjectNode st i ≡ subjectNode st j → at sq i c ≡ 1 → at sq j c ≡ 1
+marks-even st col sq ns c m P lc w i j li lj e h = w j c lj lc .1 (subst (λ (z : ℕ). P z (getD col c 0)) e (w i c li lc .0 h))
+
 -- It is 0 where no statement starts at the node.
 absent-node : (st sq : List ℕ) (c m x : ℕ) → ((i : ℕ) → i < m → ¬ (subjectNode st i ≡ x)) → nodeBit st m sq x c ≡ 0
 unfolding nodeBit
@@ -136,13 +163,24 @@ unfolding explicitAt
 explicit-one f x p o y =
     cond-elim (λ (n : ℕ). one (triple x p o) (rowAt f y) ≡ n) (eqb (subjectAt f y) x)
     (λ a. cond-elim (λ (n : ℕ). one (triple x p o) (rowAt f y) ≡ n) (eqb (propertyAt f y) p)
-      (λ b. cond-elim (λ (n : ℕ). one (triple x p o) (rowAt f y) ≡ n) (eqb (objectAt f y) o)
-        (λ c. one-yes (triple x p o) (rowAt f y) (triple-eq (triple x p o) (rowAt f y) (sym (row-subject f y ∙ eqb-true _ _ a)) (sym (row-property f y ∙ eqb-true _ _ b)) (sym (row-object f y ∙ eqb-true _ _ c))))
-        (λ c. one-no (triple x p o) (rowAt f y) (λ e. eqb-false _ _ c (sym (row-object f y) ∙ sym (of-object e)))))
-      (λ b. one-no (triple x p o) (rowAt f y) (λ e. eqb-false _ _ b (sym (row-property f y) ∙ sym (of-property e)))))
+    (λ b. cond-elim (λ (n : ℕ). one (triple x p o) (rowAt f y) ≡ n) (eqb (objectAt f y) o)
+    (λ c. one-yes (triple x p o) (rowAt f y) (triple-eq (triple x p o) (rowAt f y) (sym (row-subject f y ∙ eqb-true _ _ a)) (sym (row-property f y ∙ eqb-true _ _ b)) (sym (row-object f y ∙ eqb-true _ _ c))))
+    (λ c. one-no (triple x p o) (rowAt f y) (λ e. eqb-false _ _ c (sym (row-object f y) ∙ sym (of-object e)))))
+    (λ b. one-no (triple x p o) (rowAt f y) (λ e. eqb-false _ _ b (sym (row-property f y) ∙ sym (of-property e)))))
     (λ a. one-no (triple x p o) (rowAt f y) (λ e. eqb-false _ _ a (sym (row-subject f y) ∙ sym (of-subject e))))
 
--- A fact of another subject is not x p o.
+-- Nothing, whatever is asked.
+cond-same : (a b : Bool) → _≡_ {A = ℕ} (cond a (cond b 0 0) 0) 0
+cond-same true true = refl
+cond-same true false = refl
+cond-same false b = refl
+
+-- A fact of another object is not x p o,
+pub explicit-object-not : (f : List ℕ) (x p o y : ℕ) → ¬ (objectAt f y ≡ o) → explicitAt f x p o y ≡ 0
+unfolding explicitAt
+explicit-object-not f x p o y n = rw (ne-eqb (objectAt f y) o n) (cond-same (eqb (subjectAt f y) x) (eqb (propertyAt f y) p))
+
+-- nor is a fact of another subject.
 pub explicit-other : (f : List ℕ) (x p o y : ℕ) → ¬ (subjectAt f y ≡ x) → explicitAt f x p o y ≡ 0
 unfolding explicitAt
 explicit-other f x p o y n = rw (ne-eqb (subjectAt f y) x n)
@@ -232,7 +270,7 @@ unfolding firstRows sumTo support
 support-first S t zero ws = refl
 support-first S t (suc n) ws =
     let e : sumTo (λ y. among t (carried S (tripleFrom (drop 3 ws) (y * 3)))) n ≡ sumTo (λ y. among t (carried S (tripleFrom ws (suc y * 3)))) n =
-      sum-ext (λ y. among t (carried S (tripleFrom (drop 3 ws) (y * 3)))) (λ y. among t (carried S (tripleFrom ws (suc y * 3)))) n (λ y l. ap (λ (u : Triple). among t (carried S u)) (tripleFrom-drop 3 ws (y * 3) (suc y * 3) (omega arith))) in
+    sum-ext (λ y. among t (carried S (tripleFrom (drop 3 ws) (y * 3)))) (λ y. among t (carried S (tripleFrom ws (suc y * 3)))) n (λ y l. ap (λ (u : Triple). among t (carried S u)) (tripleFrom-drop 3 ws (y * 3) (suc y * 3) (omega arith))) in
     omega (arith, support-first S t n (drop 3 ws), sum-first (λ y. among t (carried S (tripleFrom ws (y * 3)))) n)
 
 -- and of a table.
@@ -241,7 +279,7 @@ unfolding rows rowAt
 support-sum S f t =
     support-first S t (count f) (drop 1 f)
     ∙ sum-ext (λ y. among t (carried S (tripleFrom (drop 1 f) (y * 3)))) (λ y. among t (carried S (tripleFrom f (y * 3 + 1)))) (count f)
-      (λ y l. ap (λ (u : Triple). among t (carried S u)) (tripleFrom-drop 1 f (y * 3) (y * 3 + 1) (omega arith)))
+    (λ y l. ap (λ (u : Triple). among t (carried S u)) (tripleFrom-drop 1 f (y * 3) (y * 3 + 1) (omega arith)))
 
 -- ---- what each fact adds
 
@@ -256,7 +294,7 @@ module _ (st col d r f : List ℕ) (ns nc : ℕ) (w : WellFormed isAllowedStatem
       by-cases (ℕ-discrete (getD st (i * 3 + 2) 0) 2)
       (λ q. omega (arith, subject-class-node st i q, k .statements .small i l))
       (λ n. not-vocabulary (statements-plain st w (rowAt st i) (row-member isAllowedStatement mostStatements st w i l) .0)
-        (omega (arith, subject-property-node st i n, row-subject st i)) (omega (arith, subject-property-node st i n, row-subject st i)))
+      (omega (arith, subject-property-node st i n, row-subject st i)) (omega (arith, subject-property-node st i n, row-subject st i)))
 
   -- The bits of nodes.
   domain-iff : (x c : ℕ) → c < ns → (nodeBit st (count st) d x c ≡ 1) ↔ (Plus (edges st 4 (count st)) x (getD col c 0) × (¬ (x ≡ getD col c 0)))
@@ -277,8 +315,8 @@ module _ (st col d r f : List ℕ) (ns nc : ℕ) (w : WellFormed isAllowedStatem
       (λ e. omega (arith, own-type st (count st) nc d r f x c y e, domain-le (startNode f y) c l))
       (λ n. by-cases (ℕ-discrete (objectAt f y) x)
       (λ e. by-cases (decLt c nc)
-        (λ h. omega (arith, own-both st (count st) nc d r f x c y n e h, either-le (nodeBit st (count st) d (startNode f y) c) (nodeBit st (count st) r (startNode f y) c) (range-le (startNode f y) c l)))
-        (λ h. omega (arith, own-property st (count st) nc d r f x c y (omega arith), domain-le (startNode f y) c l)))
+      (λ h. omega (arith, own-both st (count st) nc d r f x c y n e h, either-le (nodeBit st (count st) d (startNode f y) c) (nodeBit st (count st) r (startNode f y) c) (range-le (startNode f y) c l)))
+      (λ h. omega (arith, own-property st (count st) nc d r f x c y (omega arith), domain-le (startNode f y) c l)))
       (λ z. omega (arith, own-single st (count st) nc d r f x c y z, domain-le (startNode f y) c l)))
 
   -- Each adds 0 or 1.
@@ -300,8 +338,8 @@ module _ (st col d r f : List ℕ) (ns nc : ℕ) (w : WellFormed isAllowedStatem
   property-adds-le x o c y l =
       by-cases (ℕ-discrete (subjectAt f y) x)
       (λ e. by-cases (ℕ-discrete (objectAt f y) o)
-        (λ q. omega (arith, property-adds st (count st) d f x o c y e q, domain-le (propertyNode (propertyAt f y)) c l))
-        (λ n. omega (arith, property-adds-object st (count st) d f x o c y n)))
+      (λ q. omega (arith, property-adds st (count st) d f x o c y e q, domain-le (propertyNode (propertyAt f y)) c l))
+      (λ n. omega (arith, property-adds-object st (count st) d f x o c y n)))
       (λ n. omega (arith, property-adds-subject st (count st) d f x o c y n))
 
   -- A fact adds to the column of a property wherever it adds to one of that property's rows.
@@ -309,17 +347,17 @@ module _ (st col d r f : List ℕ) (ns nc : ℕ) (w : WellFormed isAllowedStatem
   property-within x o c y h l =
       by-cases (ℕ-discrete (subjectAt f y) x)
       (λ e. by-cases (ℕ-discrete (objectAt f y) o)
-        (λ q. by-cases (ℕ-discrete (propertyAt f y) 1)
-          (λ p. let z : propertyNode (propertyAt f y) ≡ propertyNode 1 = ap propertyNode p in
-            omega (arith, property-adds st (count st) d f x o c y e q, ap (λ (n : ℕ). nodeBit st (count st) d n c) z, absent-node st d c (count st) (propertyNode 1) no-type))
-          (λ p. omega (
-            arith,
-            property-adds st (count st) d f x o c y e q,
-            subject-adds st (count st) nc d r f x c y e,
-            own-property st (count st) nc d r f x c y h,
-            ap (λ (n : ℕ). nodeBit st (count st) d n c) (start-other f y p),
-          )))
-        (λ n. omega (arith, property-adds-object st (count st) d f x o c y n)))
+      (λ q. by-cases (ℕ-discrete (propertyAt f y) 1)
+      (λ p. let z : propertyNode (propertyAt f y) ≡ propertyNode 1 = ap propertyNode p in
+      omega (arith, property-adds st (count st) d f x o c y e q, ap (λ (n : ℕ). nodeBit st (count st) d n c) z, absent-node st d c (count st) (propertyNode 1) no-type))
+      (λ p. omega (
+        arith,
+        property-adds st (count st) d f x o c y e q,
+        subject-adds st (count st) nc d r f x c y e,
+        own-property st (count st) nc d r f x c y h,
+        ap (λ (n : ℕ). nodeBit st (count st) d n c) (start-other f y p),
+      )))
+      (λ n. omega (arith, property-adds-object st (count st) d f x o c y n)))
       (λ n. omega (arith, property-adds-subject st (count st) d f x o c y n))
 
   -- ---- for the loops: what is added is the bit of the row of the fact's group
@@ -359,10 +397,10 @@ module _ (st col d r f : List ℕ) (ns nc : ℕ) (w : WellFormed isAllowedStatem
       let b : nodeBit st (count st) r (startNode f y) c ≡ 0 = node-bit-none st r c (count st) (startNode f y) g h q in
       subject-adds st (count st) nc d r f x c y s
       ∙ by-cases (ℕ-discrete (propertyAt f y) 1)
-        (λ e. own-type st (count st) nc d r f x c y e ∙ a)
-        (λ n. by-cases (ℕ-discrete (objectAt f y) x)
-          (λ e. by-cases (decLt c nc) (λ z. own-both st (count st) nc d r f x c y n e z ∙ (rw (a, b) refl)) (λ z. own-property st (count st) nc d r f x c y (omega arith) ∙ a))
-          (λ z. own-single st (count st) nc d r f x c y z ∙ a))
+      (λ e. own-type st (count st) nc d r f x c y e ∙ a)
+      (λ n. by-cases (ℕ-discrete (objectAt f y) x)
+      (λ e. by-cases (decLt c nc) (λ z. own-both st (count st) nc d r f x c y n e z ∙ (rw (a, b) refl)) (λ z. own-property st (count st) nc d r f x c y (omega arith) ∙ a))
+      (λ z. own-single st (count st) nc d r f x c y z ∙ a))
 
   -- A fact of the object x and another subject: row g of the square of ranges, or nothing.
   pub object-adds-found : (x y g c : ℕ) → c < ns → objectAt f y ≡ x → ¬ (subjectAt f y ≡ x) → Found (subjectNode st) (count st) (propertyNode (propertyAt f y)) g → g < count st → objectAdds st (count st) r f x c y ≡ at r g c
@@ -370,3 +408,228 @@ module _ (st col d r f : List ℕ) (ns nc : ℕ) (w : WellFormed isAllowedStatem
 
   pub object-adds-none : (x y g c : ℕ) → objectAt f y ≡ x → ¬ (subjectAt f y ≡ x) → Found (subjectNode st) (count st) (propertyNode (propertyAt f y)) g → count st ≤ g → objectAdds st (count st) r f x c y ≡ 0
   object-adds-none x y g c o s h q = object-adds st (count st) nc d r f x c y o s ∙ node-bit-none st r c (count st) (propertyNode (propertyAt f y)) g h q
+
+  -- ---- the bits are what the facts carry
+
+  domain-own : (y c : ℕ) → c < ns → (nodeBit st (count st) d (startNode f y) c ≡ 1) ↔ (Plus (edges st 4 (count st)) (key (rowAt f y)) (getD col c 0) × (¬ (key (rowAt f y) ≡ getD col c 0)))
+  domain-own y c l = rw (start-key f y) (domain-iff (key (rowAt f y)) c l)
+
+  range-own : (y c : ℕ) → c < ns → (nodeBit st (count st) r (propertyNode (propertyAt f y)) c ≡ 1) ↔ Plus (edges st 5 (count st)) (propertyNode (rowAt f y .property)) (getD col c 0)
+  range-own y c l = rw (row-property f y) (range-iff (propertyNode (propertyAt f y)) c l)
+
+  -- The object of fact y gets a class by range.
+  Ranged : ℕ → ℕ → ℕ → Type 0
+  Ranged x c y = (isLiteral (rowAt f y .object) ≡ false) × (¬ (rowAt f y .property ≡ 1)) × (x ≡ rowAt f y .object) × Plus (edges st 5 (count st)) (propertyNode (rowAt f y .property)) (getD col c 0)
+
+  not-typing : (y : ℕ) → ¬ (propertyAt f y ≡ 1) → ¬ (rowAt f y .property ≡ 1)
+  not-typing y n e = n (sym (row-property f y) ∙ e)
+
+  ranged : (x c y : ℕ) → c < ns → isLiteral x ≡ false → objectAt f y ≡ x → ¬ (propertyAt f y ≡ 1) → nodeBit st (count st) r (propertyNode (propertyAt f y)) c ≡ 1 → Ranged x c y
+  unfolding Ranged
+  ranged x c y l p o n b = let e : rowAt f y .object ≡ x = row-object f y ∙ o in (ap isLiteral e ∙ p, not-typing y n, sym e, range-own y c l .0 b)
+
+  own-iff : (x c y : ℕ) (l : y < count f) → c < nc → isLiteral x ≡ false
+      → (ownBit st (count st) nc d r f x c y ≡ 1)
+      ↔ Own (rows st) (rowAt f y) (statements-small st w) (statements-plain st w) (fact-words y l .object-small) (edges st 4 (count st)) (edges st 5 (count st)) (edges-are st w 4 (inl refl)) (edges-are st w 5 (inr refl)) x (getD col c 0)
+  unfolding Ranged
+  own-iff x c y l lc p = (fore, back)
+    where
+      lt : c < ns
+      lt = omega (arith, k .few)
+
+      fore : ownBit st (count st) nc d r f x c y ≡ 1 → (Plus (edges st 4 (count st)) (key (rowAt f y)) (getD col c 0) × (¬ (key (rowAt f y) ≡ getD col c 0))) ⊎ Ranged x c y
+      fore b =
+          by-cases (ℕ-discrete (propertyAt f y) 1)
+          (λ e. inl (domain-own y c lt .0 (sym (own-type st (count st) nc d r f x c y e) ∙ b)))
+          (λ n. by-cases (ℕ-discrete (objectAt f y) x)
+          (λ e. ⊎-elim
+          (λ a. inl (domain-own y c lt .0 a))
+          (λ a. inr (ranged x c y lt p e n (rw (start-other f y n) at a)))
+          (either-iff _ _ .0 (sym (own-both st (count st) nc d r f x c y n e lc) ∙ b)))
+          (λ z. inl (domain-own y c lt .0 (sym (own-single st (count st) nc d r f x c y z) ∙ b))))
+
+      left : nodeBit st (count st) d (startNode f y) c ≡ 1 → ownBit st (count st) nc d r f x c y ≡ 1
+      left a =
+          by-cases (ℕ-discrete (propertyAt f y) 1)
+          (λ e. own-type st (count st) nc d r f x c y e ∙ a)
+          (λ n. by-cases (ℕ-discrete (objectAt f y) x)
+          (λ e. own-both st (count st) nc d r f x c y n e lc ∙ either-iff _ _ .1 (inl a))
+          (λ z. own-single st (count st) nc d r f x c y z ∙ a))
+
+      right : Ranged x c y → ownBit st (count st) nc d r f x c y ≡ 1
+      right z =
+          let n : ¬ (propertyAt f y ≡ 1) = λ e. z .1 (row-property f y ∙ e) in
+          own-both st (count st) nc d r f x c y n (sym (row-object f y) ∙ sym (z .2)) lc
+          ∙ either-iff (nodeBit st (count st) d (startNode f y) c) (nodeBit st (count st) r (startNode f y) c) .1 (inr (ap (λ (q : ℕ). nodeBit st (count st) r q c) (start-other f y n) ∙ range-own y c lt .1 (z .3)))
+
+      back : (Plus (edges st 4 (count st)) (key (rowAt f y)) (getD col c 0) × (¬ (key (rowAt f y) ≡ getD col c 0))) ⊎ Ranged x c y → ownBit st (count st) nc d r f x c y ≡ 1
+      back (inl a) = left (domain-own y c lt .1 a)
+      back (inr z) = right z
+
+  other-iff : (x c y : ℕ) → c < ns → isLiteral x ≡ false → ¬ (subjectAt f y ≡ x) → (objectAdds st (count st) r f x c y ≡ 1) ↔ Ranged x c y
+  unfolding Ranged
+  other-iff x c y l p s = (fore, λ z. object-adds st (count st) nc d r f x c y (sym (row-object f y) ∙ sym (z .2)) s ∙ range-own y c l .1 (z .3))
+    where
+      fore : objectAdds st (count st) r f x c y ≡ 1 → Ranged x c y
+      fore b =
+          by-cases (ℕ-discrete (objectAt f y) x)
+          (λ e.
+          let h : nodeBit st (count st) r (propertyNode (propertyAt f y)) c ≡ 1 = sym (object-adds st (count st) nc d r f x c y e s) ∙ b in
+          ranged x c y l p e (λ q. omega (arith, absent-node st r c (count st) (propertyNode 1) no-type, ap (λ (z : ℕ). nodeBit st (count st) r (propertyNode z) c) q)) h)
+          (λ n. absurd (omega (arith, object-adds-not st (count st) nc d r f x c y n)))
+
+  class-bit : (x c y : ℕ) → c < nc → isLiteral x ≡ false → y < count f
+      → among (triple x 1 (getD col c 0)) (carried (rows st) (rowAt f y)) ≡ explicitAt f x 1 (getD col c 0) y + (subjectAdds st (count st) nc d r f x c y + objectAdds st (count st) r f x c y)
+  unfolding Ranged
+  class-bit x c y lc p l =
+      let lt : c < ns = omega (arith, k .few) in
+      by-cases (ℕ-discrete (subjectAt f y) x)
+      (λ e. omega (
+        arith,
+        bit-own (rows st) (rowAt f y) (statements-small st w) (statements-plain st w) (fact-words y l .object-small) (edges st 4 (count st)) (edges st 5 (count st)) (edges-are st w 4 (inl refl)) (edges-are st w 5 (inr refl))
+            x (getD col c 0) (ownBit st (count st) nc d r f x c y) (k .classes c lc) (sym (row-subject f y ∙ e)) (own-le x c y lt) (own-iff x c y l lc p),
+        explicit-one f x 1 (getD col c 0) y,
+        subject-adds st (count st) nc d r f x c y e,
+        object-adds-own st (count st) nc d r f x c y e,
+      ))
+      (λ n. omega (
+        arith,
+        bit-other (rows st) (rowAt f y) (statements-small st w) (statements-plain st w) (fact-words y l .object-small) (edges st 4 (count st)) (edges st 5 (count st)) (edges-are st w 4 (inl refl)) (edges-are st w 5 (inr refl))
+            x (getD col c 0) (objectAdds st (count st) r f x c y) (k .classes c lc) (λ e. n (sym (row-subject f y) ∙ sym e)) (object-adds-le x c y lt) (other-iff x c y lt p n),
+        explicit-other f x 1 (getD col c 0) y n,
+        subject-adds-not st (count st) nc d r f x c y n,
+      ))
+
+  -- The support of x 1 c, for a class c that is a column: whether it is explicit, what the facts of the subject x add to the column,
+  -- and what those of the object x and another subject add.
+  pub class-support : (x c : ℕ) → c < nc → isLiteral x ≡ false
+      → support (rows st) (rows f) (triple x 1 (getD col c 0))
+      ≡ sumTo (explicitAt f x 1 (getD col c 0)) (count f) + (sumTo (subjectAdds st (count st) nc d r f x c) (count f) + sumTo (objectAdds st (count st) r f x c) (count f))
+  class-support x c lc p =
+      support-sum (rows st) f (triple x 1 (getD col c 0))
+      ∙ sum-add (λ y. among (triple x 1 (getD col c 0)) (carried (rows st) (rowAt f y))) (explicitAt f x 1 (getD col c 0)) (λ y. subjectAdds st (count st) nc d r f x c y + objectAdds st (count st) r f x c y) (count f) (λ y l. class-bit x c y lc p l)
+      ∙ ap (λ (n : ℕ). sumTo (explicitAt f x 1 (getD col c 0)) (count f) + n) (sum-add (λ y. subjectAdds st (count st) nc d r f x c y + objectAdds st (count st) r f x c y) (subjectAdds st (count st) nc d r f x c) (objectAdds st (count st) r f x c) (count f) (λ y l. refl))
+
+  led-iff : (x q o c y : ℕ) (l : y < count f) → c < ns → getD col c 0 ≡ propertyNode q
+      → (propertyAdds st (count st) d f x o c y ≡ 1)
+      ↔ Led (rows st) (rowAt f y) (statements-small st w) (statements-plain st w) (fact-words y l .object-small) (edges st 4 (count st)) (edges st 5 (count st)) (edges-are st w 4 (inl refl)) (edges-are st w 5 (inr refl)) x q o
+  led-iff x q o c y l lc e = (fore, back)
+    where
+      fore : propertyAdds st (count st) d f x o c y ≡ 1 → (x ≡ rowAt f y .subject) × (o ≡ rowAt f y .object) × Plus (edges st 4 (count st)) (key (rowAt f y)) (propertyNode q) × (¬ (key (rowAt f y) ≡ propertyNode q))
+      fore b =
+          by-cases (ℕ-discrete (subjectAt f y) x)
+          (λ s. by-cases (ℕ-discrete (objectAt f y) o)
+          (λ h.
+          let g : nodeBit st (count st) d (propertyNode (propertyAt f y)) c ≡ 1 = sym (property-adds st (count st) d f x o c y s h) ∙ b in
+          let n : ¬ (propertyAt f y ≡ 1) = λ z. omega (arith, absent-node st d c (count st) (propertyNode 1) no-type, ap (λ (j : ℕ). nodeBit st (count st) d (propertyNode j) c) z) in
+          let p = domain-own y c lc .0 (ap (λ (j : ℕ). nodeBit st (count st) d j c) (start-other f y n) ∙ g) in
+          (sym (row-subject f y ∙ s), sym (row-object f y ∙ h), rw e at (p .0), λ z. p .1 (z ∙ sym e)))
+          (λ n. absurd (omega (arith, property-adds-object st (count st) d f x o c y n))))
+          (λ n. absurd (omega (arith, property-adds-subject st (count st) d f x o c y n)))
+
+      back : (x ≡ rowAt f y .subject) × (o ≡ rowAt f y .object) × Plus (edges st 4 (count st)) (key (rowAt f y)) (propertyNode q) × (¬ (key (rowAt f y) ≡ propertyNode q)) → propertyAdds st (count st) d f x o c y ≡ 1
+      back z =
+          let n : ¬ (propertyAt f y ≡ 1) = λ h. not-type (rows st) (rowAt f y) (statements-small st w) (statements-plain st w) (fact-words y l .object-small) (edges st 4 (count st)) (edges st 5 (count st)) (edges-are st w 4 (inl refl)) (edges-are st w 5 (inr refl)) q (inr (z .2)) (row-property f y ∙ h) in
+          let p : Plus (edges st 4 (count st)) (key (rowAt f y)) (getD col c 0) = rw e (z .2) in
+          property-adds st (count st) d f x o c y (sym (row-subject f y) ∙ sym (z .0)) (sym (row-object f y) ∙ sym (z .1))
+          ∙ ap (λ (j : ℕ). nodeBit st (count st) d j c) (sym (start-other f y n))
+          ∙ domain-own y c lc .1 (p, λ h. z .3 (h ∙ e))
+
+  property-bit : (x q o c y : ℕ) → ¬ (q ≡ 1) → c < ns → getD col c 0 ≡ propertyNode q → y < count f
+      → among (triple x q o) (carried (rows st) (rowAt f y)) ≡ explicitAt f x q o y + propertyAdds st (count st) d f x o c y
+  property-bit x q o c y n lc e l =
+      omega (
+        arith,
+        bit-property (rows st) (rowAt f y) (statements-small st w) (statements-plain st w) (fact-words y l .object-small) (edges st 4 (count st)) (edges st 5 (count st)) (edges-are st w 4 (inl refl)) (edges-are st w 5 (inr refl))
+            x q o (propertyAdds st (count st) d f x o c y) n (property-adds-le x o c y lc) (led-iff x q o c y l lc e),
+        explicit-one f x q o y,
+      )
+
+  -- The support of x q o, for a property q other than rdf:type that is a column: whether it is explicit, and what the facts x p o add
+  -- whose property leads to q.
+  pub property-support : (x q o c : ℕ) → ¬ (q ≡ 1) → c < ns → getD col c 0 ≡ propertyNode q
+      → support (rows st) (rows f) (triple x q o) ≡ sumTo (explicitAt f x q o) (count f) + sumTo (propertyAdds st (count st) d f x o c) (count f)
+  property-support x q o c n lc e =
+      support-sum (rows st) f (triple x q o)
+      ∙ sum-add (λ y. among (triple x q o) (carried (rows st) (rowAt f y))) (explicitAt f x q o) (propertyAdds st (count st) d f x o c) (count f) (λ y l. property-bit x q o c y n lc e l)
+
+  -- ---- rows that are explicit or not at all
+
+  -- A class that is no column is given to no subject but explicitly.
+  class-bit-none : (x o y : ℕ) → ((c : ℕ) → c < ns → ¬ (getD col c 0 ≡ o)) → y < count f → among (triple x 1 o) (carried (rows st) (rowAt f y)) ≡ explicitAt f x 1 o y
+  class-bit-none x o y n l =
+      by-cases (decLt o (2 ^ 32))
+      (λ small. by-cases (ℕ-discrete (subjectAt f y) x)
+      (λ e. omega (
+        arith,
+        bit-own (rows st) (rowAt f y) (statements-small st w) (statements-plain st w) (fact-words y l .object-small) (edges st 4 (count st)) (edges st 5 (count st)) (edges-are st w 4 (inl refl)) (edges-are st w 5 (inr refl))
+            x o 0 small (sym (row-subject f y ∙ e)) (omega arith)
+            ((λ q. absurd (omega arith)), λ z. absurd (⊎-elim (λ a. walk-end st col 4 (count st) ns _ o (k .columns) (a .0) n) (λ a. walk-end st col 5 (count st) ns _ o (k .columns) (a .3) n) z)),
+        explicit-one f x 1 o y,
+      ))
+      (λ s. omega (
+        arith,
+        bit-other (rows st) (rowAt f y) (statements-small st w) (statements-plain st w) (fact-words y l .object-small) (edges st 4 (count st)) (edges st 5 (count st)) (edges-are st w 4 (inl refl)) (edges-are st w 5 (inr refl))
+            x o 0 small (λ e. s (sym (row-subject f y) ∙ sym e)) (omega arith)
+            ((λ q. absurd (omega arith)), λ a. absurd (walk-end st col 5 (count st) ns _ o (k .columns) (a .3) n)),
+        explicit-other f x 1 o y s,
+      )))
+      (λ large.
+      bit-is (rows st) (rowAt f y) (triple x 1 o) 0 (statements-plain st w) (omega arith) ((λ q. absurd (omega arith)), λ h. absurd (too-large large (out h)))
+      ∙ sym (explicit-large large))
+    where
+      out : Carries (rows st) (rowAt f y) (triple x 1 o) → Carry (rowAt f y) (edges st 4 (count st)) (edges st 5 (count st)) (triple x 1 o)
+      out h = carry (rows st) (rowAt f y) (statements-small st w) (statements-plain st w) (fact-words y l .object-small) (edges st 4 (count st)) (edges st 5 (count st)) (edges-are st w 4 (inl refl)) (edges-are st w 5 (inr refl)) h
+
+      too-large : ¬ (o < 2 ^ 32) → Carry (rowAt f y) (edges st 4 (count st)) (edges st 5 (count st)) (triple x 1 o) → ⊥
+      too-large g (by-class a p b z) = g b
+      too-large g (by-property a b z) = g (rw b (fact-words y l .object-small))
+      too-large g (by-object a b s p h z) = g h
+
+      explicit-large : ¬ (o < 2 ^ 32) → explicitAt f x 1 o y ≡ 0
+      explicit-large g = explicit-object-not f x 1 o y (λ e. g (rw (sym e ∙ sym (row-object f y)) (fact-words y l .object-small)))
+
+  -- The support of x 1 o, for a class o that is no column: whether it is explicit.
+  pub class-support-none : (x o : ℕ) → ((c : ℕ) → c < ns → ¬ (getD col c 0 ≡ o)) → support (rows st) (rows f) (triple x 1 o) ≡ sumTo (explicitAt f x 1 o) (count f)
+  class-support-none x o n =
+      support-sum (rows st) f (triple x 1 o)
+      ∙ sum-ext (λ y. among (triple x 1 o) (carried (rows st) (rowAt f y))) (explicitAt f x 1 o) (count f) (λ y l. class-bit-none x o y n l)
+
+  property-bit-none : (x q o y : ℕ) → ¬ (q ≡ 1) → ((c : ℕ) → c < ns → ¬ (getD col c 0 ≡ propertyNode q)) → y < count f → among (triple x q o) (carried (rows st) (rowAt f y)) ≡ explicitAt f x q o y
+  property-bit-none x q o y k1 n l =
+      omega (
+        arith,
+        bit-property (rows st) (rowAt f y) (statements-small st w) (statements-plain st w) (fact-words y l .object-small) (edges st 4 (count st)) (edges st 5 (count st)) (edges-are st w 4 (inl refl)) (edges-are st w 5 (inr refl))
+            x q o 0 k1 (omega arith) ((λ z. absurd (omega arith)), λ z. absurd (walk-end st col 4 (count st) ns _ (propertyNode q) (k .columns) (z .2) n)),
+        explicit-one f x q o y,
+      )
+
+  -- The support of x q o, for a property q other than rdf:type that is no column: whether it is explicit.
+  pub property-support-none : (x q o : ℕ) → ¬ (q ≡ 1) → ((c : ℕ) → c < ns → ¬ (getD col c 0 ≡ propertyNode q)) → support (rows st) (rows f) (triple x q o) ≡ sumTo (explicitAt f x q o) (count f)
+  property-support-none x q o k1 n =
+      support-sum (rows st) f (triple x q o)
+      ∙ sum-ext (λ y. among (triple x q o) (carried (rows st) (rowAt f y))) (explicitAt f x q o) (count f) (λ y l. property-bit-none x q o y k1 n l)
+
+  -- The same where it is a column to which no fact of the subject x adds.
+  pub property-support-zero : (x q o c : ℕ) → ¬ (q ≡ 1) → nc ≤ c → c < ns → getD col c 0 ≡ propertyNode q → sumTo (subjectAdds st (count st) nc d r f x c) (count f) ≡ 0
+      → support (rows st) (rows f) (triple x q o) ≡ sumTo (explicitAt f x q o) (count f)
+  property-support-zero x q o c k1 h l e z =
+      omega (
+        arith,
+        property-support x q o c k1 l e,
+        sum-le (propertyAdds st (count st) d f x o c) (subjectAdds st (count st) nc d r f x c) (count f) (λ y b. property-within x o c y h l),
+      )
+
+-- ---- subjects without rows
+
+-- A row whose subject is neither the subject of a fact nor an object of one that is no literal has no support.
+pub absent-support : (S : List Triple) (f : List ℕ) (x p o : ℕ) → ((y : ℕ) → y < count f → ¬ (subjectAt f y ≡ x)) → ((y : ℕ) → y < count f → isLiteral x ≡ false → ¬ (objectAt f y ≡ x))
+    → support S (rows f) (triple x p o) ≡ 0
+absent-support S f x p o a b =
+    support-sum S f (triple x p o)
+    ∙ sum-zero (λ y. among (triple x p o) (carried S (rowAt f y))) (count f) (λ y l. choose-no (isIn equalTriples (triple x p o) (carried S (rowAt f y))) 1 0 (λ m. not-part y l (carried-part S (rowAt f y) (triple x p o) .0 m)))
+  where
+    not-part : (y : ℕ) → y < count f → ¬ Part S (rowAt f y) (triple x p o)
+    not-part y l (as-property s e q) = a y l (sym (row-subject f y) ∙ sym s)
+    not-part y l (as-subject s e q) = a y l (sym (row-subject f y) ∙ sym s)
+    not-part y l (as-object s e n q) = b y l (ap isLiteral s ∙ n) (sym (row-object f y) ∙ sym s)

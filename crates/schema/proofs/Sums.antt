@@ -88,3 +88,7 @@ pub sumAt-is : (h : ℕ → ℕ) (ix : List ℕ) (n : ℕ) → sumAt h ix n ≡ 
 unfolding sumTo sumAt
 sumAt-is h ix zero = refl
 sumAt-is h ix (suc n) = omega (arith, sumAt-is h ix n)
+
+-- Terms that are 0 before i and from e on add only there.
+pub sum-block : (h : ℕ → ℕ) (i e n : ℕ) → e ≤ n → ((y : ℕ) → y < i → h y ≡ 0) → ((y : ℕ) → e ≤ y → y < n → h y ≡ 0) → (sumTo h i ≡ 0) × (sumTo h n ≡ sumTo h e)
+sum-block h i e n le a b = (sum-zero h i a, sum-rest h e n le b)
