@@ -7,3 +7,4 @@ pub mod Bits
 pub mod Sums
 pub mod Tables
 pub mod Counted
+pub mod Ascent
