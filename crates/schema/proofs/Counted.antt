@@ -556,7 +556,7 @@ module _ (st col d r f : List ℕ) (ns nc : ℕ) (w : WellFormed isAllowedStatem
   -- ---- rows that are explicit or not at all
 
   -- A class that is no column is given to no subject but explicitly.
-  class-bit-none : (x o y : ℕ) → ((c : ℕ) → c < ns → ¬ (getD col c 0 ≡ o)) → y < count f → among (triple x 1 o) (carried (rows st) (rowAt f y)) ≡ explicitAt f x 1 o y
+  class-bit-none : (x o y : ℕ) → ((c : ℕ) → c < nc → ¬ (getD col c 0 ≡ o)) → y < count f → among (triple x 1 o) (carried (rows st) (rowAt f y)) ≡ explicitAt f x 1 o y
   class-bit-none x o y n l =
       by-cases (decLt o (2 ^ 32))
       (λ small. by-cases (ℕ-discrete (subjectAt f y) x)
@@ -564,20 +564,23 @@ module _ (st col d r f : List ℕ) (ns nc : ℕ) (w : WellFormed isAllowedStatem
         arith,
         bit-own (rows st) (rowAt f y) (statements-small st w) (statements-plain st w) (fact-words y l .object-small) (edges st 4 (count st)) (edges st 5 (count st)) (edges-are st w 4 (inl refl)) (edges-are st w 5 (inr refl))
             x o 0 small (sym (row-subject f y ∙ e)) (omega arith)
-            ((λ q. absurd (omega arith)), λ z. absurd (⊎-elim (λ a. walk-end st col 4 (count st) ns _ o (k .columns) (a .0) n) (λ a. walk-end st col 5 (count st) ns _ o (k .columns) (a .3) n) z)),
+            ((λ q. absurd (omega arith)), λ z. absurd (⊎-elim (λ a. walk-end st col 4 (count st) ns _ o (k .columns) (a .0) (no-column small)) (λ a. walk-end st col 5 (count st) ns _ o (k .columns) (a .3) (no-column small)) z)),
         explicit-one f x 1 o y,
       ))
       (λ s. omega (
         arith,
         bit-other (rows st) (rowAt f y) (statements-small st w) (statements-plain st w) (fact-words y l .object-small) (edges st 4 (count st)) (edges st 5 (count st)) (edges-are st w 4 (inl refl)) (edges-are st w 5 (inr refl))
             x o 0 small (λ e. s (sym (row-subject f y) ∙ sym e)) (omega arith)
-            ((λ q. absurd (omega arith)), λ a. absurd (walk-end st col 5 (count st) ns _ o (k .columns) (a .3) n)),
+            ((λ q. absurd (omega arith)), λ a. absurd (walk-end st col 5 (count st) ns _ o (k .columns) (a .3) (no-column small))),
         explicit-other f x 1 o y s,
       )))
       (λ large.
       bit-is (rows st) (rowAt f y) (triple x 1 o) 0 (statements-plain st w) (omega arith) ((λ q. absurd (omega arith)), λ h. absurd (too-large large (out h)))
       ∙ sym (explicit-large large))
     where
+      no-column : o < 2 ^ 32 → (c : ℕ) → c < ns → ¬ (getD col c 0 ≡ o)
+      no-column small c h e = by-cases (decLt c nc) (λ b. n c b e) (λ b. omega (arith, k .properties c (omega arith) h))
+
       out : Carries (rows st) (rowAt f y) (triple x 1 o) → Carry (rowAt f y) (edges st 4 (count st)) (edges st 5 (count st)) (triple x 1 o)
       out h = carry (rows st) (rowAt f y) (statements-small st w) (statements-plain st w) (fact-words y l .object-small) (edges st 4 (count st)) (edges st 5 (count st)) (edges-are st w 4 (inl refl)) (edges-are st w 5 (inr refl)) h
 
@@ -590,22 +593,22 @@ module _ (st col d r f : List ℕ) (ns nc : ℕ) (w : WellFormed isAllowedStatem
       explicit-large g = explicit-object-not f x 1 o y (λ e. g (rw (sym e ∙ sym (row-object f y)) (fact-words y l .object-small)))
 
   -- The support of x 1 o, for a class o that is no column: whether it is explicit.
-  pub class-support-none : (x o : ℕ) → ((c : ℕ) → c < ns → ¬ (getD col c 0 ≡ o)) → support (rows st) (rows f) (triple x 1 o) ≡ sumTo (explicitAt f x 1 o) (count f)
+  pub class-support-none : (x o : ℕ) → ((c : ℕ) → c < nc → ¬ (getD col c 0 ≡ o)) → support (rows st) (rows f) (triple x 1 o) ≡ sumTo (explicitAt f x 1 o) (count f)
   class-support-none x o n =
       support-sum (rows st) f (triple x 1 o)
       ∙ sum-ext (λ y. among (triple x 1 o) (carried (rows st) (rowAt f y))) (explicitAt f x 1 o) (count f) (λ y l. class-bit-none x o y n l)
 
-  property-bit-none : (x q o y : ℕ) → ¬ (q ≡ 1) → ((c : ℕ) → c < ns → ¬ (getD col c 0 ≡ propertyNode q)) → y < count f → among (triple x q o) (carried (rows st) (rowAt f y)) ≡ explicitAt f x q o y
+  property-bit-none : (x q o y : ℕ) → ¬ (q ≡ 1) → ((c : ℕ) → nc ≤ c → c < ns → ¬ (getD col c 0 ≡ propertyNode q)) → y < count f → among (triple x q o) (carried (rows st) (rowAt f y)) ≡ explicitAt f x q o y
   property-bit-none x q o y k1 n l =
       omega (
         arith,
         bit-property (rows st) (rowAt f y) (statements-small st w) (statements-plain st w) (fact-words y l .object-small) (edges st 4 (count st)) (edges st 5 (count st)) (edges-are st w 4 (inl refl)) (edges-are st w 5 (inr refl))
-            x q o 0 k1 (omega arith) ((λ z. absurd (omega arith)), λ z. absurd (walk-end st col 4 (count st) ns _ (propertyNode q) (k .columns) (z .2) n)),
+            x q o 0 k1 (omega arith) ((λ z. absurd (omega arith)), λ z. absurd (walk-end st col 4 (count st) ns _ (propertyNode q) (k .columns) (z .2) (λ c h e. by-cases (decLt c nc) (λ b. omega (arith, k .classes c b)) (λ b. n c (omega arith) h e)))),
         explicit-one f x q o y,
       )
 
   -- The support of x q o, for a property q other than rdf:type that is no column: whether it is explicit.
-  pub property-support-none : (x q o : ℕ) → ¬ (q ≡ 1) → ((c : ℕ) → c < ns → ¬ (getD col c 0 ≡ propertyNode q)) → support (rows st) (rows f) (triple x q o) ≡ sumTo (explicitAt f x q o) (count f)
+  pub property-support-none : (x q o : ℕ) → ¬ (q ≡ 1) → ((c : ℕ) → nc ≤ c → c < ns → ¬ (getD col c 0 ≡ propertyNode q)) → support (rows st) (rows f) (triple x q o) ≡ sumTo (explicitAt f x q o) (count f)
   property-support-none x q o k1 n =
       support-sum (rows st) f (triple x q o)
       ∙ sum-ext (λ y. among (triple x q o) (carried (rows st) (rowAt f y))) (explicitAt f x q o) (count f) (λ y l. property-bit-none x q o y k1 n l)

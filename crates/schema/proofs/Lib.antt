@@ -8,3 +8,4 @@ pub mod Sums
 pub mod Tables
 pub mod Counted
 pub mod Ascent
+pub mod Made
