@@ -21,7 +21,7 @@ use Rattle.table.proofs.Rows.{tripleFrom-drop}
 use Rattle.rdfs.specs.Entailment.{Carries, NoVocabulary}
 use Rattle.rdfs.specs.Closure.{isIn, carried}
 use Rattle.rdfs.specs.Saturation.{support}
-use Rattle.rdfs.proofs.Entailment.{not-vocabulary, allowed-fact}
+use Rattle.rdfs.proofs.Entailment.{not-vocabulary}
 use Rattle.rdfs.proofs.Carried.{carried-part, Part, as-property, as-subject, as-object}
 use Rattle.rdfs.proofs.Kept.{one, one-yes, one-no}
 use Rattle.rdfs.proofs.Saturation.{among}
@@ -35,7 +35,7 @@ use Rattle.schema.proofs.Closing.{Of, edges-of, subject-class-node, sub
 use Rattle.schema.proofs.Meaning.{Edges, Small, key, key-type, key-other, not-type, Carry, carry, by-class, by-property, by-object}
 use Rattle.schema.proofs.Bits.{support-cons, bit-is, Own, bit-own, bit-other, Led, bit-property}
 use Rattle.schema.proofs.Sums.{sum-ext, sum-add, sum-zero, sum-le, sum-first}
-use Rattle.schema.proofs.Tables.{Words, triple-words, row-subject, row-property, row-object, row-member, row-allowed, statements-small, statements-plain, edges-are}
+use Rattle.schema.proofs.Tables.{fact-words, row-subject, row-property, row-object, row-member, statements-small, statements-plain, edges-are}
 
 -- ---- the bit of a node
 
@@ -285,9 +285,6 @@ support-sum S f t =
 
 -- The compiled statements, and a table of facts.
 module _ (st col d r f : List ℕ) (ns nc : ℕ) (w : WellFormed isAllowedStatement mostStatements st) (v : WellFormed isAllowedFact mostFacts f) (k : Compiled st (count st) col ns nc d r) where
-  fact-words : (y : ℕ) → y < count f → Words (rowAt f y)
-  fact-words y l = triple-words (rowAt f y) (allowed-fact (rowAt f y) (row-allowed isAllowedFact mostFacts f v y l) .0)
-
   -- No statement starts at the node of rdf:type.
   no-type : (i : ℕ) → i < count st → ¬ (subjectNode st i ≡ propertyNode 1)
   no-type i l e =
@@ -430,7 +427,7 @@ module _ (st col d r f : List ℕ) (ns nc : ℕ) (w : WellFormed isAllowedStatem
 
   own-iff : (x c y : ℕ) (l : y < count f) → c < nc → isLiteral x ≡ false
       → (ownBit st (count st) nc d r f x c y ≡ 1)
-      ↔ Own (rows st) (rowAt f y) (statements-small st w) (statements-plain st w) (fact-words y l .object-small) (edges st 4 (count st)) (edges st 5 (count st)) (edges-are st w 4 (inl refl)) (edges-are st w 5 (inr refl)) x (getD col c 0)
+      ↔ Own (rows st) (rowAt f y) (statements-small st w) (statements-plain st w) (fact-words f v y l .object-small) (edges st 4 (count st)) (edges st 5 (count st)) (edges-are st w 4 (inl refl)) (edges-are st w 5 (inr refl)) x (getD col c 0)
   unfolding Ranged
   own-iff x c y l lc p = (fore, back)
     where
@@ -486,7 +483,7 @@ module _ (st col d r f : List ℕ) (ns nc : ℕ) (w : WellFormed isAllowedStatem
       by-cases (ℕ-discrete (subjectAt f y) x)
       (λ e. omega (
         arith,
-        bit-own (rows st) (rowAt f y) (statements-small st w) (statements-plain st w) (fact-words y l .object-small) (edges st 4 (count st)) (edges st 5 (count st)) (edges-are st w 4 (inl refl)) (edges-are st w 5 (inr refl))
+        bit-own (rows st) (rowAt f y) (statements-small st w) (statements-plain st w) (fact-words f v y l .object-small) (edges st 4 (count st)) (edges st 5 (count st)) (edges-are st w 4 (inl refl)) (edges-are st w 5 (inr refl))
             x (getD col c 0) (ownBit st (count st) nc d r f x c y) (k .classes c lc) (sym (row-subject f y ∙ e)) (own-le x c y lt) (own-iff x c y l lc p),
         explicit-one f x 1 (getD col c 0) y,
         subject-adds st (count st) nc d r f x c y e,
@@ -494,7 +491,7 @@ module _ (st col d r f : List ℕ) (ns nc : ℕ) (w : WellFormed isAllowedStatem
       ))
       (λ n. omega (
         arith,
-        bit-other (rows st) (rowAt f y) (statements-small st w) (statements-plain st w) (fact-words y l .object-small) (edges st 4 (count st)) (edges st 5 (count st)) (edges-are st w 4 (inl refl)) (edges-are st w 5 (inr refl))
+        bit-other (rows st) (rowAt f y) (statements-small st w) (statements-plain st w) (fact-words f v y l .object-small) (edges st 4 (count st)) (edges st 5 (count st)) (edges-are st w 4 (inl refl)) (edges-are st w 5 (inr refl))
             x (getD col c 0) (objectAdds st (count st) r f x c y) (k .classes c lc) (λ e. n (sym (row-subject f y) ∙ sym e)) (object-adds-le x c y lt) (other-iff x c y lt p n),
         explicit-other f x 1 (getD col c 0) y n,
         subject-adds-not st (count st) nc d r f x c y n,
@@ -512,7 +509,7 @@ module _ (st col d r f : List ℕ) (ns nc : ℕ) (w : WellFormed isAllowedStatem
 
   led-iff : (x q o c y : ℕ) (l : y < count f) → c < ns → getD col c 0 ≡ propertyNode q
       → (propertyAdds st (count st) d f x o c y ≡ 1)
-      ↔ Led (rows st) (rowAt f y) (statements-small st w) (statements-plain st w) (fact-words y l .object-small) (edges st 4 (count st)) (edges st 5 (count st)) (edges-are st w 4 (inl refl)) (edges-are st w 5 (inr refl)) x q o
+      ↔ Led (rows st) (rowAt f y) (statements-small st w) (statements-plain st w) (fact-words f v y l .object-small) (edges st 4 (count st)) (edges st 5 (count st)) (edges-are st w 4 (inl refl)) (edges-are st w 5 (inr refl)) x q o
   led-iff x q o c y l lc e = (fore, back)
     where
       fore : propertyAdds st (count st) d f x o c y ≡ 1 → (x ≡ rowAt f y .subject) × (o ≡ rowAt f y .object) × Plus (edges st 4 (count st)) (key (rowAt f y)) (propertyNode q) × (¬ (key (rowAt f y) ≡ propertyNode q))
@@ -529,7 +526,7 @@ module _ (st col d r f : List ℕ) (ns nc : ℕ) (w : WellFormed isAllowedStatem
 
       back : (x ≡ rowAt f y .subject) × (o ≡ rowAt f y .object) × Plus (edges st 4 (count st)) (key (rowAt f y)) (propertyNode q) × (¬ (key (rowAt f y) ≡ propertyNode q)) → propertyAdds st (count st) d f x o c y ≡ 1
       back z =
-          let n : ¬ (propertyAt f y ≡ 1) = λ h. not-type (rows st) (rowAt f y) (statements-small st w) (statements-plain st w) (fact-words y l .object-small) (edges st 4 (count st)) (edges st 5 (count st)) (edges-are st w 4 (inl refl)) (edges-are st w 5 (inr refl)) q (inr (z .2)) (row-property f y ∙ h) in
+          let n : ¬ (propertyAt f y ≡ 1) = λ h. not-type (rows st) (rowAt f y) (statements-small st w) (statements-plain st w) (fact-words f v y l .object-small) (edges st 4 (count st)) (edges st 5 (count st)) (edges-are st w 4 (inl refl)) (edges-are st w 5 (inr refl)) q (inr (z .2)) (row-property f y ∙ h) in
           let p : Plus (edges st 4 (count st)) (key (rowAt f y)) (getD col c 0) = rw e (z .2) in
           property-adds st (count st) d f x o c y (sym (row-subject f y) ∙ sym (z .0)) (sym (row-object f y) ∙ sym (z .1))
           ∙ ap (λ (j : ℕ). nodeBit st (count st) d j c) (sym (start-other f y n))
@@ -540,7 +537,7 @@ module _ (st col d r f : List ℕ) (ns nc : ℕ) (w : WellFormed isAllowedStatem
   property-bit x q o c y n lc e l =
       omega (
         arith,
-        bit-property (rows st) (rowAt f y) (statements-small st w) (statements-plain st w) (fact-words y l .object-small) (edges st 4 (count st)) (edges st 5 (count st)) (edges-are st w 4 (inl refl)) (edges-are st w 5 (inr refl))
+        bit-property (rows st) (rowAt f y) (statements-small st w) (statements-plain st w) (fact-words f v y l .object-small) (edges st 4 (count st)) (edges st 5 (count st)) (edges-are st w 4 (inl refl)) (edges-are st w 5 (inr refl))
             x q o (propertyAdds st (count st) d f x o c y) n (property-adds-le x o c y lc) (led-iff x q o c y l lc e),
         explicit-one f x q o y,
       )
@@ -562,14 +559,14 @@ module _ (st col d r f : List ℕ) (ns nc : ℕ) (w : WellFormed isAllowedStatem
       (λ small. by-cases (ℕ-discrete (subjectAt f y) x)
       (λ e. omega (
         arith,
-        bit-own (rows st) (rowAt f y) (statements-small st w) (statements-plain st w) (fact-words y l .object-small) (edges st 4 (count st)) (edges st 5 (count st)) (edges-are st w 4 (inl refl)) (edges-are st w 5 (inr refl))
+        bit-own (rows st) (rowAt f y) (statements-small st w) (statements-plain st w) (fact-words f v y l .object-small) (edges st 4 (count st)) (edges st 5 (count st)) (edges-are st w 4 (inl refl)) (edges-are st w 5 (inr refl))
             x o 0 small (sym (row-subject f y ∙ e)) (omega arith)
             ((λ q. absurd (omega arith)), λ z. absurd (⊎-elim (λ a. walk-end st col 4 (count st) ns _ o (k .columns) (a .0) (no-column small)) (λ a. walk-end st col 5 (count st) ns _ o (k .columns) (a .3) (no-column small)) z)),
         explicit-one f x 1 o y,
       ))
       (λ s. omega (
         arith,
-        bit-other (rows st) (rowAt f y) (statements-small st w) (statements-plain st w) (fact-words y l .object-small) (edges st 4 (count st)) (edges st 5 (count st)) (edges-are st w 4 (inl refl)) (edges-are st w 5 (inr refl))
+        bit-other (rows st) (rowAt f y) (statements-small st w) (statements-plain st w) (fact-words f v y l .object-small) (edges st 4 (count st)) (edges st 5 (count st)) (edges-are st w 4 (inl refl)) (edges-are st w 5 (inr refl))
             x o 0 small (λ e. s (sym (row-subject f y) ∙ sym e)) (omega arith)
             ((λ q. absurd (omega arith)), λ a. absurd (walk-end st col 5 (count st) ns _ o (k .columns) (a .3) (no-column small))),
         explicit-other f x 1 o y s,
@@ -582,15 +579,15 @@ module _ (st col d r f : List ℕ) (ns nc : ℕ) (w : WellFormed isAllowedStatem
       no-column small c h e = by-cases (decLt c nc) (λ b. n c b e) (λ b. omega (arith, k .properties c (omega arith) h))
 
       out : Carries (rows st) (rowAt f y) (triple x 1 o) → Carry (rowAt f y) (edges st 4 (count st)) (edges st 5 (count st)) (triple x 1 o)
-      out h = carry (rows st) (rowAt f y) (statements-small st w) (statements-plain st w) (fact-words y l .object-small) (edges st 4 (count st)) (edges st 5 (count st)) (edges-are st w 4 (inl refl)) (edges-are st w 5 (inr refl)) h
+      out h = carry (rows st) (rowAt f y) (statements-small st w) (statements-plain st w) (fact-words f v y l .object-small) (edges st 4 (count st)) (edges st 5 (count st)) (edges-are st w 4 (inl refl)) (edges-are st w 5 (inr refl)) h
 
       too-large : ¬ (o < 2 ^ 32) → Carry (rowAt f y) (edges st 4 (count st)) (edges st 5 (count st)) (triple x 1 o) → ⊥
       too-large g (by-class a p b z) = g b
-      too-large g (by-property a b z) = g (rw b (fact-words y l .object-small))
+      too-large g (by-property a b z) = g (rw b (fact-words f v y l .object-small))
       too-large g (by-object a b s p h z) = g h
 
       explicit-large : ¬ (o < 2 ^ 32) → explicitAt f x 1 o y ≡ 0
-      explicit-large g = explicit-object-not f x 1 o y (λ e. g (rw (sym e ∙ sym (row-object f y)) (fact-words y l .object-small)))
+      explicit-large g = explicit-object-not f x 1 o y (λ e. g (rw (sym e ∙ sym (row-object f y)) (fact-words f v y l .object-small)))
 
   -- The support of x 1 o, for a class o that is no column: whether it is explicit.
   pub class-support-none : (x o : ℕ) → ((c : ℕ) → c < nc → ¬ (getD col c 0 ≡ o)) → support (rows st) (rows f) (triple x 1 o) ≡ sumTo (explicitAt f x 1 o) (count f)
@@ -602,7 +599,7 @@ module _ (st col d r f : List ℕ) (ns nc : ℕ) (w : WellFormed isAllowedStatem
   property-bit-none x q o y k1 n l =
       omega (
         arith,
-        bit-property (rows st) (rowAt f y) (statements-small st w) (statements-plain st w) (fact-words y l .object-small) (edges st 4 (count st)) (edges st 5 (count st)) (edges-are st w 4 (inl refl)) (edges-are st w 5 (inr refl))
+        bit-property (rows st) (rowAt f y) (statements-small st w) (statements-plain st w) (fact-words f v y l .object-small) (edges st 4 (count st)) (edges st 5 (count st)) (edges-are st w 4 (inl refl)) (edges-are st w 5 (inr refl))
             x q o 0 k1 (omega arith) ((λ z. absurd (omega arith)), λ z. absurd (walk-end st col 4 (count st) ns _ (propertyNode q) (k .columns) (z .2) (λ c h e. by-cases (decLt c nc) (λ b. omega (arith, k .classes c b)) (λ b. n c (omega arith) h e)))),
         explicit-one f x q o y,
       )

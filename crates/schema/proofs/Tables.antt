@@ -14,7 +14,7 @@ use Rattle.rdf.specs.Term.{isUri, isBlank, isLiteral}
 use Rattle.rdf.specs.Triple.{triple, isResource, isTriple, isStatement, areSidesAllowed, isAllowedStatement, isAllowedFact}
 use Rattle.rdf.specs.Order.{triple-eq, Less, by-subject, by-property, by-object}
 use Rattle.rdf.proofs.Order.{of-subject, of-property, of-object}
-use Rattle.rdf.proofs.Lists.{or-cases}
+use Rattle.rdf.proofs.Lists.{or-cases, true-not-false}
 use Rattle.rdf.proofs.Ascending.{and-left, and-right}
 use Rattle.table.specs.Table.{count, rowAt, rows, mostStatements, mostFacts}
 use Rattle.table.specs.Laid.{WellFormed}
@@ -36,41 +36,40 @@ uri-small : (w : ℕ) → isUri w ≡ true → w < 2 ^ 32
 unfolding isUri
 uri-small w e = omega (arith, eqb-true (w / 2 ^ 30) 0 (and-left _ _ e))
 
-blank-small : (w : ℕ) → isBlank w ≡ true → w < 2 ^ 32
-unfolding isBlank
-blank-small w e = omega (arith, eqb-true (w / 2 ^ 30) 1 (and-left _ _ e))
-
 literal-small : (w : ℕ) → isLiteral w ≡ true → w < 2 ^ 32
 unfolding isLiteral
 literal-small w e = omega (arith, eqb-true (w / 2 ^ 30) 2 (and-left _ _ e))
 
-resource-small : (w : ℕ) → isResource w ≡ true → w < 2 ^ 32
-resource-small w e = ⊎-elim (uri-small w) (blank-small w) (or-cases (isUri w) (isBlank w) e)
+-- A word below 2 ^ 31 is no literal,
+pub plain-below : (w : ℕ) → w < 2 ^ 31 → isLiteral w ≡ false
+unfolding isLiteral
+plain-below w l = let k : ¬ (w / 2 ^ 30 ≡ 2) = λ z. omega arith in rw (ne-eqb (w / 2 ^ 30) 2 k)
 
--- A resource is no literal.
-resource-plain : (w : ℕ) → isResource w ≡ true → isLiteral w ≡ false
-unfolding isUri isBlank isLiteral
-resource-plain w e =
-    let k : ¬ (w / 2 ^ 30 ≡ 2) = λ z. ⊎-elim (λ u. omega (arith, eqb-true (w / 2 ^ 30) 0 (and-left _ _ u))) (λ u. omega (arith, eqb-true (w / 2 ^ 30) 1 (and-left _ _ u))) (or-cases (isUri w) (isBlank w) e) in
-    rw (ne-eqb (w / 2 ^ 30) 2 k)
+-- and a resource is such a word.
+resource-below : (w : ℕ) → isResource w ≡ true → w < 2 ^ 31
+unfolding isUri isBlank
+resource-below w e = ⊎-elim (λ u. omega (arith, eqb-true (w / 2 ^ 30) 0 (and-left _ _ u))) (λ u. omega (arith, eqb-true (w / 2 ^ 30) 1 (and-left _ _ u))) (or-cases (isUri w) (isBlank w) e)
 
 -- What the words of a triple are.
 pub record Words (t : Triple) : Type 0 where
-  pub subject-small : t .subject < 2 ^ 32
+  pub subject-below : t .subject < 2 ^ 31
   pub subject-plain : isLiteral (t .subject) ≡ false
   pub property-small : t .property < 2 ^ 32
   pub object-small : t .object < 2 ^ 32
+  pub object-below : isLiteral (t .object) ≡ false → t .object < 2 ^ 31
 
 pub triple-words : (t : Triple) → isTriple t ≡ true → Words t
 unfolding isTriple
 triple-words t e =
     let h = and-left _ _ e in
-    let s = and-left _ _ h in
+    let s = resource-below (t .subject) (and-left _ _ h) in
+    let o = or-cases (isResource (t .object)) (isLiteral (t .object)) (and-right (isResource (t .subject) && isUri (t .property)) _ e) in
     record {
-      subject-small = resource-small (t .subject) s;
-      subject-plain = resource-plain (t .subject) s;
+      subject-below = s;
+      subject-plain = plain-below (t .subject) s;
       property-small = uri-small (t .property) (and-right (isResource (t .subject)) _ h);
-      object-small = ⊎-elim (resource-small (t .object)) (literal-small (t .object)) (or-cases (isResource (t .object)) (isLiteral (t .object)) (and-right (isResource (t .subject) && isUri (t .property)) _ e));
+      object-small = ⊎-elim (λ r. omega (arith, resource-below (t .object) r)) (literal-small (t .object)) o;
+      object-below = λ n. ⊎-elim (resource-below (t .object)) (λ l. absurd (true-not-false (sym l ∙ n))) o;
     }
 
 -- An allowed statement is a triple, and its property is 2 to 5.
@@ -123,11 +122,39 @@ module _ (allowed : Triple → Bool) (most : ℕ) (ws : List ℕ) (w : WellForme
       let g : i < length (rows ws) = omega arith in
       rw (getD-rows ws i (triple 0 0 0) g, getD-rows ws j (triple 0 0 0) k) at (ascending-getD (rows ws) (triple 0 0 0) (w .ascends) i j l k)
 
--- A lesser row has no greater subject.
-pub less-subject : {t u : Triple} → Less t u → t .subject ≤ u .subject
-less-subject (by-subject h) = omega arith
-less-subject (by-property e h) = omega arith
-less-subject (by-object e g h) = omega arith
+-- How the words of a lesser row stand.
+record Stands (t u : Triple) : Type 0 where
+  subjects : t .subject ≤ u .subject
+  properties : t .subject ≡ u .subject → t .property ≤ u .property
+  objects : t .subject ≡ u .subject → t .property ≡ u .property → t .object < u .object
+
+stands : {t u : Triple} → Less t u → Stands t u
+stands (by-subject h) = record { subjects = omega arith; properties = λ e. absurd (omega arith); objects = λ e q. absurd (omega arith) }
+stands (by-property e h) = record { subjects = omega arith; properties = λ _. omega arith; objects = λ _ q. absurd (omega arith) }
+stands (by-object e g h) = record { subjects = omega arith; properties = λ _. omega arith; objects = λ _ _. h }
+
+module _ (allowed : Triple → Bool) (most : ℕ) (ws : List ℕ) (w : WellFormed allowed most ws) (i j : ℕ) (l : i < j) (h : j < count ws) where
+  -- The subjects of later rows are no less,
+  pub subjects-climb : getD ws (i * 3 + 1) 0 ≤ getD ws (j * 3 + 1) 0
+  subjects-climb = omega (arith, row-subject ws i, row-subject ws j, stands (rows-ascend allowed most ws w i j l h) .subjects)
+
+  -- those of one subject have no lesser property,
+  pub properties-climb : getD ws (i * 3 + 1) 0 ≡ getD ws (j * 3 + 1) 0 → getD ws (i * 3 + 2) 0 ≤ getD ws (j * 3 + 2) 0
+  properties-climb e = omega (arith, row-property ws i, row-property ws j, stands (rows-ascend allowed most ws w i j l h) .properties (row-subject ws i ∙ e ∙ sym (row-subject ws j)))
+
+  -- and those of one subject and property a greater object.
+  pub objects-climb : getD ws (i * 3 + 1) 0 ≡ getD ws (j * 3 + 1) 0 → getD ws (i * 3 + 2) 0 ≡ getD ws (j * 3 + 2) 0 → getD ws (i * 3 + 3) 0 < getD ws (j * 3 + 3) 0
+  objects-climb e q =
+      omega (
+        arith,
+        row-object ws i,
+        row-object ws j,
+        stands (rows-ascend allowed most ws w i j l h) .objects (row-subject ws i ∙ e ∙ sym (row-subject ws j)) (row-property ws i ∙ q ∙ sym (row-property ws j)),
+      )
+
+-- The words of a fact.
+pub fact-words : (f : List ℕ) → WellFormed isAllowedFact mostFacts f → (y : ℕ) → y < count f → Words (rowAt f y)
+fact-words f v y l = triple-words (rowAt f y) (allowed-fact (rowAt f y) (row-allowed isAllowedFact mostFacts f v y l) .0)
 
 -- ---- the statements
 
@@ -136,7 +163,7 @@ module _ (st : List ℕ) (w : WellFormed isAllowedStatement mostStatements st) w
   words-of t m = triple-words t (statement-triple t (all-member isAllowedStatement (rows st) (w .each-allowed) m))
 
   pub statements-small : Small (rows st)
-  statements-small t m = let h = words-of t m in (h .subject-small, h .object-small)
+  statements-small t m = let h = words-of t m in (omega (arith, h .subject-below), h .object-small)
 
   pub statements-plain : NoVocabulary (rows st)
   statements-plain = allowed-no-vocabulary (rows st) (λ t m. all-member isAllowedStatement (rows st) (w .each-allowed) m)
@@ -155,7 +182,7 @@ module _ (st : List ℕ) (w : WellFormed isAllowedStatement mostStatements st) w
       record {
         fit = omega (arith, w .laid .fits, w .laid .counted);
         kinds = kind-at;
-        small = λ k l. rw (row-subject st k) at (words-of (rowAt st k) (row-member isAllowedStatement mostStatements st w k l) .subject-small);
+        small = λ k l. omega (arith, row-subject st k, words-of (rowAt st k) (row-member isAllowedStatement mostStatements st w k l) .subject-below);
         climb = λ i j l h. rank-le i j (omega arith) (rows-ascend isAllowedStatement mostStatements st w i j l h);
       }
 
