@@ -27,7 +27,7 @@ pub support-cons : (S : List Triple) (f : Triple) (F : List Triple) (t : Triple)
 unfolding support
 support-cons S f F t = refl
 
-bit-is : (S : List Triple) (f t : Triple) (b : ℕ) → NoVocabulary S → b ≤ 1 → ((b ≡ 1) ↔ Carries S f t) → among t (carried S f) ≡ b
+pub bit-is : (S : List Triple) (f t : Triple) (b : ℕ) → NoVocabulary S → b ≤ 1 → ((b ≡ 1) ↔ Carries S f t) → among t (carried S f) ≡ b
 bit-is S f t b w le h =
     choose-elim (λ (n : ℕ). n ≡ b) (isIn equalTriples t (carried S f))
     (λ m. sym (h .1 (carried-iff S f t w .0 m)))
@@ -38,7 +38,7 @@ bit-sum : (S : List Triple) (f t : Triple) (P : Type 0) (b : ℕ) → NoVocabula
 bit-sum S f t P b w le h apart out into =
     by-cases (equalTriples t f)
     (λ e. let z : b ≡ 0 = by-cases (ℕ-discrete b 1) (λ q. absurd (apart e (h .0 q))) (λ k. omega arith) in
-      bit-is S f t 1 w (omega arith) ((λ _. explicit (List·Memᴰ·head e)), λ _. refl) ∙ (omega (arith, one-yes t f e)))
+    bit-is S f t 1 w (omega arith) ((λ _. explicit (List·Memᴰ·head e)), λ _. refl) ∙ (omega (arith, one-yes t f e)))
     (λ n. bit-is S f t b w le ((λ q. into (h .0 q)), λ c. h .1 (⊎-elim (λ e. absurd (n e)) (λ p. p) (out c))) ∙ (omega (arith, one-no t f n)))
 
 module _ (S : List Triple) (f : Triple) (small : Small S) (none : NoVocabulary S) (fo : f .object < 2 ^ 32) (D R : List Edge) (de : Edges S 4 D) (re : Edges S 5 R) where
@@ -92,6 +92,7 @@ module _ (S : List Triple) (f : Triple) (small : Small S) (none : NoVocabulary S
     where
       same : x ≡ f .subject → o ≡ f .object → From D (key f) (propertyNode q) → propertyNode q ≡ key f → triple x q o ≡ f
       same a b w e = triple-eq (triple x q o) f a (let n = not-type S f small none fo D R de re q w in omega (arith, key-other f n)) b
+
       go : Carry f D R (triple x q o) → (triple x q o ≡ f) ⊎ Led x q o
       go (by-class a p k w) = absurd (nq p)
       go (by-property a b (inl e)) = inl (same a b (inl e) e)

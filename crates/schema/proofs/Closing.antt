@@ -18,22 +18,35 @@ use Rattle.schema.specs.Squares.{at, Bits, Gained, Leads, Extended, Clos
 use Rattle.schema.proofs.Walks.{To, From, Grown, plus-cons, plus-nil, Ends, plus-ends, Starts, plus-starts}
 use Rattle.schema.proofs.Squares.{Spread}
 
-record Of (st : List ℕ) (n : ℕ) (e : Edge) : Type 0 where
-  number : ℕ
-  below : number < n
-  is : e ≡ (subjectNode st number, objectNode st number)
+-- The statement that an edge is of.
+pub record Of (st : List ℕ) (via n : ℕ) (e : Edge) : Type 0 where
+  pub number : ℕ
+  pub below : number < n
+  pub applied : applies st via number ≡ true
+  pub is : e ≡ (subjectNode st number, objectNode st number)
 
-edges-of : (st : List ℕ) (via n : ℕ) (e : Edge) → List·Memᴰ e (edges st via n) → Of st n e
+-- Each edge is of a statement,
+pub edges-of : (st : List ℕ) (via n : ℕ) (e : Edge) → List·Memᴰ e (edges st via n) → Of st via n e
 unfolding edges
 edges-of st via zero e m = absurd (List·Memᴰ·not-nil m)
-edges-of st via (suc n) e m = go (edges-of st via n e) (applies st via n) m
+edges-of st via (suc n) e m = go (edges-of st via n e) (applies st via n) refl m
   where
-    later : Of st n e → Of st (suc n) e
-    later o = record { number = o .number; below = omega (arith, o .below); is = o .is }
+    later : Of st via n e → Of st via (suc n) e
+    later o = record { number = o .number; below = omega (arith, o .below); applied = o .applied; is = o .is }
 
-    go : (List·Memᴰ e (edges st via n) → Of st n e) → (b : Bool) → List·Memᴰ e (cond b ((subjectNode st n, objectNode st n) ∷ edges st via n) (edges st via n)) → Of st (suc n) e
-    go f true i = ⊎-elim (λ q. record { number = n; below = omega arith; is = q }) (λ j. later (f j)) (List·Memᴰ·cases-cons i)
-    go f false i = later (f i)
+    go : (List·Memᴰ e (edges st via n) → Of st via n e) → (b : Bool) → applies st via n ≡ b → List·Memᴰ e (cond b ((subjectNode st n, objectNode st n) ∷ edges st via n) (edges st via n)) → Of st via (suc n) e
+    go f true y i = ⊎-elim (λ q. record { number = n; below = omega arith; applied = y; is = q }) (λ j. later (f j)) (List·Memᴰ·cases-cons i)
+    go f false y i = later (f i)
+
+-- and each statement that applies has its edge.
+pub edges-in : (st : List ℕ) (via n i : ℕ) → i < n → applies st via i ≡ true → List·Memᴰ (subjectNode st i, objectNode st i) (edges st via n)
+unfolding edges
+edges-in st via zero i l e = absurd (omega arith)
+edges-in st via (suc n) i l e = go (edges-in st via n i) (applies st via n) refl
+  where
+    go : (i < n → applies st via i ≡ true → List·Memᴰ (subjectNode st i, objectNode st i) (edges st via n)) → (b : Bool) → applies st via n ≡ b → List·Memᴰ (subjectNode st i, objectNode st i) (cond b ((subjectNode st n, objectNode st n) ∷ edges st via n) (edges st via n))
+    go f true y = by-cases (ℕ-discrete i n) (λ q. List·Memᴰ·head (rw q)) (λ k. List·Memᴰ·tail (f (omega arith) e))
+    go f false y = by-cases (ℕ-discrete i n) (λ q. absurd (true-not-false (sym e ∙ ap (applies st via) q ∙ y))) (λ k. f (omega arith) e)
 
 -- what one statement more does to the bits
 pub record Step (st : List ℕ) (m : ℕ) (col : List ℕ) (ns : ℕ) (sq sq' gain : List ℕ) (j ss so go : ℕ) : Type 0 where

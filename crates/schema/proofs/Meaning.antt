@@ -55,16 +55,19 @@ module _ (S : List Triple) (f : Triple) (small : Small S) (via x : ℕ) (E : Lis
       let w = small (triple c 2 d) m in
       record {
         cls = λ k l e. subst (λ (z : ℕ). Carries S f (triple x 1 z)) (sym eb ∙ e) (rdfs9 m (g .cls c (w .0) ea));
-        prp = λ q e. absurd (omega (arith, w .1)) }
+        prp = λ q e. absurd (omega (arith, w .1));
+      }
   got-step g (sub-property p q m ea eb) =
       record {
         cls = λ k l e. absurd (omega arith);
-        prp = λ r e. let h : q ≡ r = omega arith in subst (λ (z : ℕ). Carries S f (triple (f .subject) z (f .object))) h (rdfs7 m (g .prp p ea)) }
+        prp = λ r e. let h : q ≡ r = omega arith in subst (λ (z : ℕ). Carries S f (triple (f .subject) z (f .object))) h (rdfs7 m (g .prp p ea));
+      }
   got-step g (typing p c m ea eb) =
       let w = small (triple p via c) m in
       record {
         cls = λ k l e. subst (λ (z : ℕ). Carries S f (triple x 1 z)) (sym eb ∙ e) (rule p c m (g .prp p ea));
-        prp = λ q e. absurd (omega (arith, w .1)) }
+        prp = λ q e. absurd (omega (arith, w .1));
+      }
 
   got : {a b : ℕ} → Got a → Plus E a b → Got b
   got g (edge m) = got-step g (edges .out m)
@@ -83,7 +86,8 @@ module _ (S : List Triple) (f : Triple) (small : Small S) (fo : f .object < 2 ^ 
       by-cases (ℕ-discrete (f .property) 1)
       (λ e. rw (key-type f e) record {
         cls = λ c l q. explicit (List·Memᴰ·head (triple-eq (triple (f .subject) 1 c) f refl (sym e) (sym q)));
-        prp = λ q h. absurd (omega arith) })
+        prp = λ q h. absurd (omega arith);
+      })
       (λ n. rw (key-other f n) (got-prop S f small 4 (f .subject) E edges (λ p c m h. rdfs2 m h)))
 
   pub subject-class : (c : ℕ) → c < 2 ^ 32 → Plus E (key f) c → Carries S f (triple (f .subject) 1 c)
@@ -151,9 +155,11 @@ module _ (S : List Triple) (f : Triple) (small : Small S) (none : NoVocabulary S
       link-one e (sub-class c d m ea eb) = omega (arith, small (triple c 2 d) m .1)
       link-one e (sub-property p r m ea eb) = not-vocabulary (none (triple p 3 r) m .1) (omega arith) (omega arith)
       link-one e (typing p c m ea eb) = omega (arith, small (triple p 4 c) m .1)
+
       plus-one : {a b : ℕ} → b ≡ propertyNode q → ¬ Plus D a b
       plus-one e (edge m) = link-one e (de .out m)
       plus-one e (more p m) = link-one e (de .out m)
+
       go : ¬ (f .property ≡ 1) → From D (key f) (propertyNode q) → ⊥
       go n (inl e) = n (omega (arith, key-other f n))
       go n (inr p) = plus-one refl p

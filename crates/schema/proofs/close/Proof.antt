@@ -49,7 +49,7 @@ loop-less : tie.Need-loop-less Inv-loop μ-loop
 loop-less c = search needs
 
 loop-again : tie.Need-loop-again Inv-loop μ-loop
-loop-again c = let l = c .before .before .before .before .before .before .before .before .before .before .before .before .before .before .before .before .before .before in let s = c .before .before .before .before .before .before .before .before .before .before .before .before .before .before .before .before .before .before .before .before .before .before .before in let k = c .before .before .close-statement in let g = c .before .before .before .before .before .before .before .gains in (omega (arith, c .before .before .before .before .before .before .before .before .before .before .before .before .before .before .before .before .before .loop-test .taken), k .kept .1 .1 .0 ∙ l .loop .inv .1, g .kept .1 .0 ∙ l .loop .inv .2, closed-more (s .args .statements .now) (s .args .m) (s .args .columns .now) (s .args .ns) (l .loop .square) (s .args .via) (l .loop .n) (l .loop .inv .0) (s .pre .0) (l .loop .inv .3) (k .last .1 .1 .0) (g .last .1 .0) _ _ _ (c .before .before .before .before .before .before .before .before .before .before .before .before .before .before .before .before .before .loop-test .taken) (step-made (s .args .statements .now) (s .args .m) (s .args .columns .now) (s .args .ns) (l .loop .square) (k .last .1 .1 .0) (g .last .1 .0) (l .loop .n) _ _ _ _ _ (c .before .before .before .before .before .before .before .before .before .before .before .before .before .before .subject-node .ensures) (c .before .before .before .before .before .before .before .before .before .before .before .before .before .object-node .ensures) (c .before .before .before .before .before .before .before .before .before .before .before .before .column .ensures) (c .before .before .before .before .before .before .before .before .before .before .before .column2 .ensures) (c .before .before .before .before .before .before .before .before .before .before .first-statement .ensures) (g .ensures) (k .ensures)) (sym (c .before .before .before .before .before .before .before .before .before .before .before .before .before .before .before .before .applies .ensures) ∙ c .before .before .before .before .before .before .before .before .before .before .before .before .before .before .before .if1 .taken), k .ensures .bits (l .loop .inv .4))
+loop-again c = let l = c .before .before .before .before .before .before .before .before .before .before .before .before .before .before .before .before .before .before in let s = c .before .before .before .before .before .before .before .before .before .before .before .before .before .before .before .before .before .before .before .before .before .before .before in let k = c .before .before .close-statement in let g = c .before .before .before .before .before .before .before .gains in (omega (arith, c .before .before .before .before .before .before .before .before .before .before .before .before .before .before .before .before .before .loop-test .taken), k .kept .1 .1 .0 ∙ l .loop .inv .1, g .kept .1 .0 ∙ l .loop .inv .2, closed-more (s .args .statements .now) (s .args .m) (s .args .columns .now) (s .args .ns) (l .loop .square) (s .args .via) (l .loop .n) (l .loop .inv .0) (s .pre .0) (l .loop .inv .3) (k .last .1 .1 .0) (g .last .1 .0) _ _ _ (c .before .before .before .before .before .before .before .before .before .before .before .before .before .before .before .before .before .loop-test .taken) (step-made (s .args .statements .now) (s .args .m) (s .args .columns .now) (s .args .ns) (l .loop .square) (k .last .1 .1 .0) (g .last .1 .0) (l .loop .n) _ _ _ _ _ (c .before .before .before .before .before .before .before .before .before .before .before .before .before .before .subject-node .ensures) (c .before .before .before .before .before .before .before .before .before .before .before .before .before .object-node .ensures .0) (c .before .before .before .before .before .before .before .before .before .before .before .before .column .ensures) (c .before .before .before .before .before .before .before .before .before .before .before .column2 .ensures) (c .before .before .before .before .before .before .before .before .before .before .first-statement .ensures) (g .ensures) (k .ensures)) (sym (c .before .before .before .before .before .before .before .before .before .before .before .before .before .before .before .before .applies .ensures) ∙ c .before .before .before .before .before .before .before .before .before .before .before .before .before .before .before .if1 .taken), k .ensures .bits (l .loop .inv .4))
 
 loop-less-2 : tie.Need-loop-less-2 Inv-loop μ-loop
 loop-less-2 c = search needs

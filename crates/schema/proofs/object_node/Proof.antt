@@ -1,3 +1,4 @@
+use native.Mathlib.Omega.{arith}
 use borrow.Author.Needs.{needs}
 use mathlib.Core.Path.{sym, ap, _∙_}
 use Prim.Native.Nat.{ℕ, _^_, _+_}
@@ -36,10 +37,10 @@ add-result : tie.Need-add-result
 add-result c = search needs
 
 returns : tie.Need-returns
-returns c = ap (λ (z : ℕ). z + 2 ^ 32) (c .before .before .wide .ensures .0) ∙ sym (object-property-node _ _ (c .if1 .taken))
+returns c = (ap (λ (z : ℕ). z + 2 ^ 32) (c .before .before .wide .ensures .0) ∙ sym (object-property-node _ _ (c .if1 .taken)), omega (arith, c .before .before .wide .ensures .1))
 
 returns-2 : tie.Need-returns-2
-returns-2 c = c .before .before .wide .ensures .0 ∙ sym (object-class-node _ _ (c .if1 .left))
+returns-2 c = (c .before .before .wide .ensures .0 ∙ sym (object-class-node _ _ (c .if1 .left)), omega (arith, c .before .before .wide .ensures .1))
 
 pub object-node-spec : {M : Type 1} → statement M
 object-node-spec =
