@@ -12,12 +12,14 @@ use lib.Seq.{getD-set-same, getD-set-other}
 use lib.Dec.{ltb, eqb}
 use borrow.Author.Tests.{lt-ltb, le-ltb, eq-eqb, ne-eqb}
 use Rattle.rdf.proofs.Lists.{true-not-false}
-use Rattle.merge.specs.Streams.{objects, streams, often, tally, Rising, Over, AllRising}
+use Rattle.rdfs.specs.Saturation.{Kept}
+use Rattle.merge.specs.Streams.{objects, streams, often, tally, Rising, Over, AllRising, Tallied}
 use Rattle.merge.proofs.Streams.{streams-set}
 use Rattle.schema.specs.Nodes.{propertyNode, subjectNode}
 use Rattle.schema.specs.Compiled.{propertyAt, objectAt, nodeBit}
 use Rattle.saturate.specs.Sums.{sumFrom}
 use Rattle.saturate.specs.Blocks.{ledAt, OneSubject, Block, startsBelow, Gathered}
+use Rattle.saturate.specs.Rows.{ColumnRows}
 use Rattle.saturate.proofs.Ranges.{from-join, from-zero}
 use Rattle.saturate.proofs.NodeBits.{Starts, node-starts}
 
@@ -176,3 +178,24 @@ leads-yes b e = by-cases (ℕ-discrete b 1) (λ q. q) (λ n. absurd (true-not-fa
 -- and false of 0 alone.
 pub leads-no : (b : ℕ) → b ≤ 1 → eqb b 1 ≡ false → b ≡ 0
 leads-no b l e = by-cases (ℕ-discrete b 1) (λ q. absurd (true-not-false (sym (eq-eqb b 1 q) ∙ e))) (λ n. omega arith)
+
+-- ---- a block, and those that lead to a column
+
+module _ (f from to : List ℕ) (z b : ℕ) (lf : 0 < length from) (lt : 0 < length to) where
+  -- The block alone is one stream,
+  one-stream : streams f (set from 0 z) (set to 0 b) 1 ≡ objects f z (b - z) ∷ []
+  unfolding streams
+  one-stream = streams-push f from to 0 z b lf lt
+
+  -- which rises
+  pub one-rising : (t e w : ℕ) → OneSubject f t e → t ≤ z → b ≤ e → ((y : ℕ) → z ≤ y → y < b → propertyAt f y ≡ w) → AllRising (streams f (set from 0 z) (set to 0 b) 1)
+  one-rising t e w g l u all = rw one-stream (rows-rising f t e z b w g l u all, tt)
+
+  -- and ends in the table.
+  pub one-fits : b * 3 < length f → (y : ℕ) → y < 1 → getD (set to 0 b) y 0 * 3 < length f
+  one-fits h y l = let e : y ≡ 0 = omega arith in rw (e, getD-set-same to 0 b 0 lt) h
+
+  -- With the others it has the objects of the rows of the column.
+  pub column-tallied : (K : Kept) (st : List ℕ) (m : ℕ) (d : List ℕ) (c x w t e k : ℕ) (from' to' : List ℕ) → Gathered st m d c f (set from 0 z) (set to 0 b) from' to' 1 k t e e → ColumnRows K st m d c f x w z b t e → Tallied K x w (streams f from' to' k)
+  unfolding tally
+  column-tallied K st m d c x w t e k from' to' g h o = omega (arith, h o, g .sums o, ap (tally o) one-stream)

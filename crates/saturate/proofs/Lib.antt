@@ -3,3 +3,5 @@ pub mod Ranges
 pub mod NodeBits
 pub mod Adding
 pub mod Gathering
+pub mod Plain
+pub mod Properties

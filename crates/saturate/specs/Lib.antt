@@ -3,3 +3,4 @@ pub mod Index
 pub mod Prepared
 pub mod Counting
 pub mod Blocks
+pub mod Rows

@@ -20,19 +20,23 @@ pub record Square (st : List ℕ) (m ns : ℕ) (sq : List ℕ) : Type 0 where
   pub even : (i j c : ℕ) → i < m → j < m → c < ns → subjectNode st i ≡ subjectNode st j → at sq i c ≡ at sq j c
   pub bits : (i c : ℕ) → i < m → c < ns → at sq i c ≤ 1
 
--- The compiled statements: the keys of the classes ascend, and so do those of the properties, none of which is rdf:type.
-pub record Prepared (st : List ℕ) (m : ℕ) (keys : List ℕ) (nc ns : ℕ) (d r : List ℕ) : Type 0 where
-  pub statements : Statements st m
-  pub rows : m ≤ 512
+-- The keys of the classes ascend, and so do those of the properties, none of which is rdf:type.
+pub record Keys (keys : List ℕ) (nc ns : ℕ) : Type 0 where
   pub columns : ns ≤ 512
   pub classes : nc ≤ ns
-  pub domains : Square st m ns d
-  pub ranges : Square st m ns r
-  pub no-type : (i : ℕ) → i < m → ¬ (subjectNode st i ≡ propertyNode 1)
   pub small : (c : ℕ) → c < ns → getD keys c 0 < 2 ^ 32
   pub class-keys : (a b : ℕ) → a < b → b < nc → getD keys a 0 < getD keys b 0
   pub property-keys : (a b : ℕ) → nc ≤ a → a < b → b < ns → getD keys a 0 < getD keys b 0
   pub not-type : (c : ℕ) → nc ≤ c → c < ns → 2 ≤ getD keys c 0
+
+-- The compiled statements. No statement is about the property rdf:type.
+pub record Prepared (st : List ℕ) (m : ℕ) (keys : List ℕ) (nc ns : ℕ) (d r : List ℕ) : Type 0 where
+  pub statements : Statements st m
+  pub rows : m ≤ 512
+  pub keyed : Keys keys nc ns
+  pub domains : Square st m ns d
+  pub ranges : Square st m ns r
+  pub no-type : (i : ℕ) → i < m → ¬ (subjectNode st i ≡ propertyNode 1)
 
 -- The facts ascend; their words are terms, and an object from 2 ^ 31 on is a literal.
 pub record Facts (f : List ℕ) (n : ℕ) : Type 0 where
