@@ -98,6 +98,10 @@ module _ (st : List ℕ) (m nc ns : ℕ) (d r f : List ℕ) (x y : ℕ) (dw : Sq
           rw (own-self c n e) (by-cases (decLt c nc) (λ h. rw (lt-ltb c nc h) (either-bit (nodeBit st m d p c) (nodeBit st m r p c) br)) (λ h. let k : nc ≤ c = omega arith in rw (le-ltb c nc k) bd)))
         (λ k. omega (arith, own-other c n k, node-bit st m ns d dw (propertyNode (propertyAt f y)) c lc)))
 
+  -- To a property another fact than a typing adds the bit of its own.
+  pub own-property : (c : ℕ) → nc ≤ c → ¬ (propertyAt f y ≡ 1) → ownBit st m nc d r f x c y ≡ nodeBit st m d (propertyNode (propertyAt f y)) c
+  own-property c l n = by-cases (ℕ-discrete (objectAt f y) x) (λ e. own-self c n e ∙ rw (le-ltb c nc l)) (λ k. own-other c n k)
+
   -- By range: a fact of another subject adds the row of its property, one of the subject nothing.
   range-other : (c : ℕ) → ¬ (subjectAt f y ≡ x) → otherBit st m r f x c y ≡ nodeBit st m r (propertyNode (propertyAt f y)) c
   unfolding otherBit

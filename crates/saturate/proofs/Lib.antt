@@ -5,3 +5,5 @@ pub mod Adding
 pub mod Gathering
 pub mod Plain
 pub mod Properties
+pub mod Subjects
+pub mod Zeros

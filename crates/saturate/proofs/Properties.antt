@@ -59,7 +59,7 @@ later : (x v w : ℕ) → v ≤ w → ¬ Less (triple x w 0) (triple x v 0)
 later x v w l = not-before x v w 0 l
 
 -- A block of one property has each object as often as its facts are.
-block-often : (f : List ℕ) (w o z n : ℕ) → ((y : ℕ) → z ≤ y → y < z + n → propertyAt f y ≡ w) → sumFrom (sameAt f w o) z n ≡ often o (objects f z n)
+pub block-often : (f : List ℕ) (w o z n : ℕ) → ((y : ℕ) → z ≤ y → y < z + n → propertyAt f y ≡ w) → sumFrom (sameAt f w o) z n ≡ often o (objects f z n)
 unfolding sumFrom sameAt often objects
 block-often f w o z zero h = refl
 block-often f w o z (suc n) h = rw (eq-eqb (propertyAt f z) w (h z (omega arith) (omega arith)), block-often f w o (z + 1) n (λ y l u. h y (omega arith) (omega arith)))

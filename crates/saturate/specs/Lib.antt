@@ -4,3 +4,4 @@ pub mod Prepared
 pub mod Counting
 pub mod Blocks
 pub mod Rows
+pub mod Supported

@@ -8,8 +8,11 @@ ghost use Prim.Native.Nat.{ℕ, _+_, _-_, _*_, _^_, _≤_, _<_};
 ghost use lib.ListN.{length, getD};
 ghost use Rattle.schema.specs.Squares.{at};
 ghost use Rattle.schema.specs.Groups.{Statements};
-ghost use Rattle.schema.specs.Compiled.{either, ownBit};
-ghost use Rattle.saturate.specs.Prepared.{Square};
+ghost use Rattle.schema.specs.Compiled.{subjectAt, either, ownBit};
+ghost use Rattle.table.specs.Table.{count};
+ghost use Rattle.saturate.specs.Index.{objectOf, Index, Once};
+ghost use Rattle.saturate.specs.Prepared.{Square, Facts};
+ghost use Rattle.saturate.specs.Supported.{Range, CountsOf};
 ghost use Rattle.saturate.specs.Counting.{Added, eitherAt, otherBit, Summed};
 
 // A bit as a wider number.
@@ -86,7 +89,7 @@ fn count_fact(statements: &[u32], m: usize, f: &[u32], y: usize, x: u32, domains
 }
 
 // Adds what the facts i .. e, of the subject x, give x and lead to.
-pub fn count_subject(statements: &[u32], m: usize, f: &[u32], i: usize, e: usize, x: u32, domains: &[u8], ranges: &[u8], nc: usize, ns: usize, counts: &mut [u32])
+fn count_subject(statements: &[u32], m: usize, f: &[u32], i: usize, e: usize, x: u32, domains: &[u8], ranges: &[u8], nc: usize, ns: usize, counts: &mut [u32])
     requires { ⌜ Statements (now statements) m ⌝ }
     requires { ⌜ Square (now statements) m ns (now domains) ⌝ }
     requires { ⌜ Square (now statements) m ns (now ranges) ⌝ }
@@ -119,7 +122,7 @@ fn count_other(statements: &[u32], m: usize, f: &[u32], y: usize, x: u32, ranges
 }
 
 // Adds what the facts at the places j .. h of the index, whose object is x, give x by range.
-pub fn count_object(statements: &[u32], m: usize, f: &[u32], ix: &[u32], j: usize, h: usize, x: u32, ranges: &[u8], nc: usize, ns: usize, counts: &mut [u32])
+fn count_object(statements: &[u32], m: usize, f: &[u32], ix: &[u32], j: usize, h: usize, x: u32, ranges: &[u8], nc: usize, ns: usize, counts: &mut [u32])
     requires { ⌜ Statements (now statements) m ⌝ }
     requires { ⌜ Square (now statements) m ns (now ranges) ⌝ }
     requires { ⌜ (j ≤ h) × (h ≤ length (now ix)) × (nc ≤ ns) × (ns ≤ 512) × (ns ≤ length (now counts)) ⌝ }
@@ -132,4 +135,30 @@ pub fn count_object(statements: &[u32], m: usize, f: &[u32], ix: &[u32], j: usiz
         count_other(statements, m, f, ix[a] as usize, x, ranges, nc, ns, counts);
         a += 1;
     }
+}
+
+// Counts of 0.
+fn no_counts() -> [u32; 512]
+    ensures { λ r. ⌜ (length r ≡ 512) × ((c : ℕ) → getD r c 0 ≡ 0) ⌝ }
+{
+    [0u32; 512]
+}
+
+// The counts of the columns for x, from the facts i .. e of the subject x and those at the places j .. h of the index, of the object x.
+pub fn counts_of(statements: &[u32], m: usize, domains: &[u8], ranges: &[u8], nc: usize, ns: usize, f: &[u32], ix: &[u32], i: usize, e: usize, j: usize, h: usize, x: u32) -> [u32; 512]
+    requires { ⌜ Statements (now statements) m ⌝ }
+    requires { ⌜ Square (now statements) m ns (now domains) ⌝ }
+    requires { ⌜ Square (now statements) m ns (now ranges) ⌝ }
+    requires { ⌜ (nc ≤ ns) × (ns ≤ 512) ⌝ }
+    requires { ⌜ Facts (now f) (count (now f)) ⌝ }
+    requires { ⌜ Index (now f) (now ix) (count (now f)) ⌝ }
+    requires { ⌜ Once (count (now f)) (now ix) ⌝ }
+    requires { ⌜ Range (subjectAt (now f)) (count (now f)) x i e ⌝ }
+    requires { ⌜ Range (objectOf (now f) (now ix)) (count (now f)) x j h ⌝ }
+    ensures { λ r. ⌜ CountsOf (now (statements .entry)) m (now (domains .entry)) (now (ranges .entry)) nc ns (now (f .entry)) (count (now (f .entry))) x r ⌝ }
+{
+    let mut counts = no_counts();
+    count_subject(statements, m, f, i, e, x, domains, ranges, nc, ns, &mut counts);
+    count_object(statements, m, f, ix, j, h, x, ranges, nc, ns, &mut counts);
+    counts
 }

@@ -1,6 +1,8 @@
 // The rows of one subject, put in their order.
+use crate::count::counts_of;
 use crate::gather::gather;
 use crate::words::property_at;
+use merge::merge_counted;
 use merge::merge_streams;
 use merge::put;
 use merge::wide;
@@ -14,9 +16,13 @@ ghost use Rattle.rdfs.specs.Counts.{Counts};
 ghost use Rattle.merge.specs.Output.{output, putAll};
 ghost use Rattle.merge.specs.Between.{between};
 ghost use Rattle.schema.specs.Groups.{Statements};
-ghost use Rattle.schema.specs.Compiled.{propertyAt};
+ghost use Rattle.rdf.specs.Term.{isLiteral};
+ghost use mathlib.Core.Bool.{false};
+ghost use Rattle.schema.specs.Compiled.{subjectAt, propertyAt};
 ghost use Rattle.saturate.specs.Blocks.{OneSubject};
-ghost use Rattle.saturate.specs.Prepared.{Square, Keys, Facts};
+ghost use Rattle.saturate.specs.Prepared.{Square, Keys, Prepared, Facts};
+ghost use Rattle.saturate.specs.Index.{objectOf, Index, Once};
+ghost use Rattle.saturate.specs.Supported.{Supported, Small, Range};
 ghost use Rattle.saturate.specs.Rows.{ones, Split, Of, ColumnRows, PropertyRows, Uncounted};
 
 // The first of the facts q .. e, of one subject, whose property is not below w; e where there is none.
@@ -96,4 +102,24 @@ fn property_rows(statements: &[u32], m: usize, domains: &[u8], keys: &[u32; 512]
         }
     }
     put_facts(f, q, e, kept, supports, room, n)
+}
+
+// Puts the rows of the subject x, from the facts i .. e of the subject x and those at the places j .. h of the index, of the object x.
+pub fn subject_rows(statements: &[u32], m: usize, domains: &[u8], ranges: &[u8], keys: &[u32; 512], nc: usize, ns: usize, f: &[u32], ix: &[u32], i: usize, e: usize, j: usize, h: usize, x: u32, from: &mut [usize], to: &mut [usize], kept: &mut [u32], supports: &mut [u16], room: usize, n0: usize) -> usize
+    requires { ⌜ Prepared (now statements) m (now keys) nc ns (now domains) (now ranges) ⌝ }
+    requires { ⌜ Facts (now f) (count (now f)) ⌝ }
+    requires { ⌜ Index (now f) (now ix) (count (now f)) ⌝ }
+    requires { ⌜ Once (count (now f)) (now ix) ⌝ }
+    requires { ⌜ Small (now statements) m (now domains) (now ranges) (now keys) nc (now f) (count (now f)) ⌝ }
+    requires { ⌜ Range (subjectAt (now f)) (count (now f)) x i e ⌝ }
+    requires { ⌜ Range (objectOf (now f) (now ix)) (count (now f)) x j h ⌝ }
+    requires { ⌜ isLiteral x ≡ false ⌝ }
+    requires { ⌜ (513 ≤ length (now from)) × (513 ≤ length (now to)) ⌝ }
+    requires { ⌜ (room * 3 < length (now kept)) × (room ≤ length (now supports)) × (room ≤ 2 ^ 32) ⌝ }
+    ensures { λ r. ⌜ ((K : Kept) → Counts K → Supported K (now (statements .entry)) m (now (domains .entry)) (now (ranges .entry)) (now (keys .entry)) nc ns (now (f .entry)) (count (now (f .entry))) → output (now (kept .exit)) (now (supports .exit)) r ≡ putAll room (between (triple x 0 0) (triple (x + 1) 0 0) K) (output (now (kept .entry)) (now (supports .entry)) n0)) ⌝ }
+{
+    let counts = counts_of(statements, m, domains, ranges, nc, ns, f, ix, i, e, j, h, x);
+    let t = first_from(f, i, e, 2);
+    let n = merge_counted(f, i, t, x, 1, keys, nc, &counts, kept, supports, room, n0);
+    property_rows(statements, m, domains, keys, nc, ns, &counts, f, t, e, x, from, to, kept, supports, room, n)
 }
