@@ -7,3 +7,4 @@ pub mod Plain
 pub mod Properties
 pub mod Subjects
 pub mod Zeros
+pub mod Running

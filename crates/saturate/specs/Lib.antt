@@ -5,3 +5,4 @@ pub mod Counting
 pub mod Blocks
 pub mod Rows
 pub mod Supported
+pub mod Run
