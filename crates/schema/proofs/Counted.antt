@@ -1,13 +1,13 @@
 -- The supports as sums over the facts, in the shape in which the run over the subjects counts them. Assumes nothing.
 use mathlib.Core.Path.{_≡_, refl, sym, ap, _∙_, subst}
 use mathlib.Core.Bool.{Bool, true, false, cond}
-use mathlib.Core.List.{List, [], _∷_, List·Memᴰ}
+use mathlib.Core.List.{List}
 use mathlib.Core.Logic.{_↔_, _⊎_, inl, inr, ⊎-elim, by-cases}
 use Prim.Native.Nat.{ℕ, zero, suc, _+_, _*_, _^_, _≤_, _<_}
 use native.Mathlib.Omega.{arith}
 use native.Mathlib.Decide.{ℕ-discrete, decLt}
-use lib.ListN.{length, getD, drop}
-use lib.Dec.{eqb, ltb}
+use lib.ListN.{getD, drop}
+use lib.Dec.{eqb}
 use borrow.Author.Tests.{eqb-true, eqb-false, eq-eqb, ne-eqb, lt-ltb, le-ltb}
 use Rattle.rdf.specs.declared.Triple.{Triple}
 use Rattle.rdf.specs.Term.{isLiteral}
@@ -18,7 +18,7 @@ use Rattle.rdf.proofs.Lists.{cond-elim}
 use Rattle.table.specs.Table.{count, tripleFrom, rowAt, firstRows, rows, mostStatements, mostFacts}
 use Rattle.table.specs.Laid.{WellFormed}
 use Rattle.table.proofs.Rows.{tripleFrom-drop}
-use Rattle.rdfs.specs.Entailment.{Carries, NoVocabulary}
+use Rattle.rdfs.specs.Entailment.{Carries}
 use Rattle.rdfs.specs.Closure.{isIn, carried}
 use Rattle.rdfs.specs.Saturation.{support}
 use Rattle.rdfs.proofs.Entailment.{not-vocabulary}
@@ -26,14 +26,14 @@ use Rattle.rdfs.proofs.Carried.{carried-part, Part, as-property, as-subject, as
 use Rattle.rdfs.proofs.Kept.{one, one-yes, one-no}
 use Rattle.rdfs.proofs.Saturation.{among}
 use Rattle.schema.specs.Walks.{Edge, Plus}
-use Rattle.schema.specs.Nodes.{propertyNode, subjectNode, objectNode, edges, Found, found, none, word, Columns}
-use Rattle.schema.specs.Squares.{at, Marks, Closed}
+use Rattle.schema.specs.Nodes.{propertyNode, subjectNode, objectNode, edges, Found, found, none, Columns}
+use Rattle.schema.specs.Squares.{at, Marks}
 use Rattle.schema.specs.Sums.{sumTo}
 use Rattle.schema.specs.Compiled.{Compiled, subjectAt, propertyAt, objectAt, nodeBit, startNode, either, explicitAt, ownBit, subjectAdds, objectAdds, propertyAdds}
-use Rattle.schema.proofs.Walks.{Ends, plus-ends, Starts, plus-starts}
-use Rattle.schema.proofs.Closing.{Of, edges-of, subject-class-node, subject-property-node}
-use Rattle.schema.proofs.Meaning.{Edges, Small, key, key-type, key-other, not-type, Carry, carry, by-class, by-property, by-object}
-use Rattle.schema.proofs.Bits.{support-cons, bit-is, Own, bit-own, bit-other, Led, bit-property}
+use Rattle.schema.proofs.Walks.{plus-ends, plus-starts}
+use Rattle.schema.proofs.Closing.{edges-of, subject-class-node, subject-property-node}
+use Rattle.schema.proofs.Meaning.{key, key-type, key-other, not-type, Carry, carry, by-class, by-property, by-object}
+use Rattle.schema.proofs.Bits.{bit-is, Own, bit-own, bit-other, Led, bit-property}
 use Rattle.schema.proofs.Sums.{sum-ext, sum-add, sum-zero, sum-le, sum-first}
 use Rattle.schema.proofs.Tables.{fact-words, row-subject, row-property, row-object, row-member, statements-small, statements-plain, edges-are}
 
@@ -119,6 +119,7 @@ node-bit-row st sq c (suc m) x h =
     (λ _ b. let g = node-bit-row st sq c m x b in record { number = g .number; below = omega (arith, g .below); node = g .node; has = g .has })
     h
 
+-- So it says which rows have the column.
 pub node-bit-marked : (st col sq : List ℕ) (ns c : ℕ) (P : ℕ → ℕ → Type 0) → c < ns → (m x : ℕ) → Marks st m col ns sq P → (nodeBit st m sq x c ≡ 1) ↔ Marked st m sq x c
 node-bit-marked st col sq ns c P lc m x w = (
   node-bit-row st sq c m x,
@@ -135,6 +136,7 @@ unfolding nodeBit
 absent-node st sq c zero x h = refl
 absent-node st sq c (suc m) x h = rw (ne-eqb (subjectNode st m) x (h m (omega arith))) (absent-node st sq c m x (λ i l. h i (omega arith)))
 
+-- The same, by the search for a statement.
 pub node-bit-none : (st sq : List ℕ) (c m x g : ℕ) → Found (subjectNode st) m x g → m ≤ g → nodeBit st m sq x c ≡ 0
 node-bit-none st sq c m x g (found l e) le = absurd (omega arith)
 node-bit-none st sq c m x g (none e n) le = absent-node st sq c m x n
@@ -146,6 +148,7 @@ pub start-type : (f : List ℕ) (y : ℕ) → propertyAt f y ≡ 1 → startNode
 unfolding startNode
 start-type f y e = rw (eq-eqb (propertyAt f y) 1 e)
 
+-- Any other fact starts at its property.
 pub start-other : (f : List ℕ) (y : ℕ) → ¬ (propertyAt f y ≡ 1) → startNode f y ≡ propertyNode (propertyAt f y)
 unfolding startNode
 start-other f y n = rw (ne-eqb (propertyAt f y) 1 n)
@@ -201,10 +204,12 @@ module _ (st : List ℕ) (m nc : ℕ) (d r f : List ℕ) (x c y : ℕ) where
   unfolding ownBit
   own-type e = rw (eq-eqb (propertyAt f y) 1 e)
 
+  -- also where its object is another,
   own-single : ¬ (objectAt f y ≡ x) → ownBit st m nc d r f x c y ≡ nodeBit st m d (startNode f y) c
   unfolding ownBit
   own-single n = cond-elim (λ (k : ℕ). k ≡ nodeBit st m d (startNode f y) c) (eqb (propertyAt f y) 1) (λ _. refl) (λ _. rw (ne-eqb (objectAt f y) x n))
 
+  -- also for the column of a property;
   own-property : nc ≤ c → ownBit st m nc d r f x c y ≡ nodeBit st m d (startNode f y) c
   unfolding ownBit
   own-property l =
@@ -216,6 +221,7 @@ module _ (st : List ℕ) (m nc : ℕ) (d r f : List ℕ) (x c y : ℕ) where
   unfolding ownBit
   own-both n e l = rw (ne-eqb (propertyAt f y) 1 n, eq-eqb (objectAt f y) x e, lt-ltb c nc l)
 
+  -- As a fact of the subject x it adds that.
   pub subject-adds : subjectAt f y ≡ x → subjectAdds st m nc d r f x c y ≡ ownBit st m nc d r f x c y
   unfolding subjectAdds
   subject-adds e = rw (eq-eqb (subjectAt f y) x e)
@@ -230,24 +236,29 @@ module _ (st : List ℕ) (m nc : ℕ) (d r f : List ℕ) (x c y : ℕ) where
   unfolding objectAdds
   object-adds-not n = rw (ne-eqb (objectAt f y) x n)
 
+  -- A fact of the subject x adds nothing as one of the object x.
   pub object-adds-own : subjectAt f y ≡ x → objectAdds st m r f x c y ≡ 0
   unfolding objectAdds
   object-adds-own e = cond-elim (λ (k : ℕ). k ≡ 0) (eqb (objectAt f y) x) (λ _. rw (eq-eqb (subjectAt f y) x e)) (λ _. refl)
 
+  -- A fact of the object x and another subject adds the bit of its property in the square of ranges.
   pub object-adds : objectAt f y ≡ x → ¬ (subjectAt f y ≡ x) → objectAdds st m r f x c y ≡ nodeBit st m r (propertyNode (propertyAt f y)) c
   unfolding objectAdds
   object-adds e n = rw (eq-eqb (objectAt f y) x e, ne-eqb (subjectAt f y) x n)
 
 -- What a fact of the subject x adds to a row of a property.
 module _ (st : List ℕ) (m : ℕ) (d f : List ℕ) (x o c y : ℕ) where
+  -- The bit of its property in the square of domains, where its object is o;
   pub property-adds : subjectAt f y ≡ x → objectAt f y ≡ o → propertyAdds st m d f x o c y ≡ nodeBit st m d (propertyNode (propertyAt f y)) c
   unfolding propertyAdds
   property-adds a b = rw (eq-eqb (subjectAt f y) x a, eq-eqb (objectAt f y) o b)
 
+  -- nothing for another subject,
   pub property-adds-subject : ¬ (subjectAt f y ≡ x) → propertyAdds st m d f x o c y ≡ 0
   unfolding propertyAdds
   property-adds-subject n = rw (ne-eqb (subjectAt f y) x n)
 
+  -- and nothing for another object.
   pub property-adds-object : ¬ (objectAt f y ≡ o) → propertyAdds st m d f x o c y ≡ 0
   unfolding propertyAdds
   property-adds-object n = cond-elim (λ (k : ℕ). k ≡ 0) (eqb (subjectAt f y) x) (λ _. rw (ne-eqb (objectAt f y) o n)) (λ _. refl)
@@ -259,6 +270,7 @@ either-iff a b = (
   λ z. cond-elim (λ (k : ℕ). k ≡ 1) (eqb a 1) (λ _. refl) (λ n. ⊎-elim (λ e. absurd (eqb-false _ _ n e)) (λ q. q) z),
 )
 
+-- Either of two bits is a bit.
 either-le : (a b : ℕ) → b ≤ 1 → either a b ≤ 1
 either-le a b l = cond-elim (λ (k : ℕ). k ≤ 1) (eqb a 1) (λ _. omega arith) (λ _. l)
 
@@ -297,15 +309,19 @@ module _ (st col d r f : List ℕ) (ns nc : ℕ) (w : WellFormed isAllowedStatem
   domain-iff : (x c : ℕ) → c < ns → (nodeBit st (count st) d x c ≡ 1) ↔ (Plus (edges st 4 (count st)) x (getD col c 0) × (¬ (x ≡ getD col c 0)))
   domain-iff x c l = node-bit-iff st col d ns c (λ a b. Plus (edges st 4 (count st)) a b × (¬ (a ≡ b))) l (count st) x (k .domains) (λ p. walk-start st 4 (count st) x (getD col c 0) (p .0))
 
+  -- The same for the square of ranges.
   range-iff : (x c : ℕ) → c < ns → (nodeBit st (count st) r x c ≡ 1) ↔ Plus (edges st 5 (count st)) x (getD col c 0)
   range-iff x c l = node-bit-iff st col r ns c (Plus (edges st 5 (count st))) l (count st) x (k .ranges) (walk-start st 5 (count st) x (getD col c 0))
 
+  -- The bit of a node is 0 or 1,
   domain-le : (x c : ℕ) → c < ns → nodeBit st (count st) d x c ≤ 1
   domain-le x c l = node-bit-le st col d ns c (λ a b. ℕ) l (count st) x (λ i h. k .domain-bits i c h l)
 
+  -- in both squares.
   range-le : (x c : ℕ) → c < ns → nodeBit st (count st) r x c ≤ 1
   range-le x c l = node-bit-le st col r ns c (λ a b. ℕ) l (count st) x (λ i h. k .range-bits i c h l)
 
+  -- So is what a fact adds.
   own-le : (x c y : ℕ) → c < ns → ownBit st (count st) nc d r f x c y ≤ 1
   own-le x c y l =
       by-cases (ℕ-discrete (propertyAt f y) 1)
@@ -323,6 +339,7 @@ module _ (st col d r f : List ℕ) (ns nc : ℕ) (w : WellFormed isAllowedStatem
       (λ e. omega (arith, subject-adds st (count st) nc d r f x c y e, own-le x c y l))
       (λ n. omega (arith, subject-adds-not st (count st) nc d r f x c y n))
 
+  -- The same for the object,
   pub object-adds-le : (x c y : ℕ) → c < ns → objectAdds st (count st) r f x c y ≤ 1
   object-adds-le x c y l =
       by-cases (ℕ-discrete (subjectAt f y) x)
@@ -331,6 +348,7 @@ module _ (st col d r f : List ℕ) (ns nc : ℕ) (w : WellFormed isAllowedStatem
       (λ e. omega (arith, object-adds st (count st) nc d r f x c y e n, range-le (propertyNode (propertyAt f y)) c l))
       (λ z. omega (arith, object-adds-not st (count st) nc d r f x c y z)))
 
+  -- and for a property.
   pub property-adds-le : (x o c y : ℕ) → c < ns → propertyAdds st (count st) d f x o c y ≤ 1
   property-adds-le x o c y l =
       by-cases (ℕ-discrete (subjectAt f y) x)
@@ -359,9 +377,11 @@ module _ (st col d r f : List ℕ) (ns nc : ℕ) (w : WellFormed isAllowedStatem
 
   -- ---- for the loops: what is added is the bit of the row of the fact's group
 
+  -- The bit of a node is that of the row found,
   domain-found : (n g c : ℕ) → c < ns → Found (subjectNode st) (count st) n g → g < count st → nodeBit st (count st) d n c ≡ at d g c
   domain-found n g c l h q = node-bit-found st col d ns c (λ a b. Plus (edges st 4 (count st)) a b × (¬ (a ≡ b))) l (count st) n g (k .domains) (λ i z. k .domain-bits i c z l) h q
 
+  -- in both squares.
   range-found : (n g c : ℕ) → c < ns → Found (subjectNode st) (count st) n g → g < count st → nodeBit st (count st) r n c ≡ at r g c
   range-found n g c l h q = node-bit-found st col r ns c (Plus (edges st 5 (count st))) l (count st) n g (k .ranges) (λ i z. k .range-bits i c z l) h q
 
@@ -370,6 +390,7 @@ module _ (st col d r f : List ℕ) (ns nc : ℕ) (w : WellFormed isAllowedStatem
   subject-adds-type x y g c l s p h q =
       subject-adds st (count st) nc d r f x c y s ∙ own-type st (count st) nc d r f x c y p ∙ ap (λ (n : ℕ). nodeBit st (count st) d n c) (start-type f y p) ∙ domain-found (objectAt f y) g c l h q
 
+  -- A fact of the subject x and another object: the same row.
   pub subject-adds-single : (x y g c : ℕ) → c < ns → subjectAt f y ≡ x → ¬ (propertyAt f y ≡ 1) → ¬ (objectAt f y ≡ x) → Found (subjectNode st) (count st) (propertyNode (propertyAt f y)) g → g < count st → subjectAdds st (count st) nc d r f x c y ≡ at d g c
   subject-adds-single x y g c l s p o h q =
       subject-adds st (count st) nc d r f x c y s ∙ own-single st (count st) nc d r f x c y o ∙ ap (λ (n : ℕ). nodeBit st (count st) d n c) (start-other f y p) ∙ domain-found (propertyNode (propertyAt f y)) g c l h q
@@ -403,14 +424,17 @@ module _ (st col d r f : List ℕ) (ns nc : ℕ) (w : WellFormed isAllowedStatem
   pub object-adds-found : (x y g c : ℕ) → c < ns → objectAt f y ≡ x → ¬ (subjectAt f y ≡ x) → Found (subjectNode st) (count st) (propertyNode (propertyAt f y)) g → g < count st → objectAdds st (count st) r f x c y ≡ at r g c
   object-adds-found x y g c l o s h q = object-adds st (count st) nc d r f x c y o s ∙ range-found (propertyNode (propertyAt f y)) g c l h q
 
+  -- One whose property has no statement adds nothing.
   pub object-adds-none : (x y g c : ℕ) → objectAt f y ≡ x → ¬ (subjectAt f y ≡ x) → Found (subjectNode st) (count st) (propertyNode (propertyAt f y)) g → count st ≤ g → objectAdds st (count st) r f x c y ≡ 0
   object-adds-none x y g c o s h q = object-adds st (count st) nc d r f x c y o s ∙ node-bit-none st r c (count st) (propertyNode (propertyAt f y)) g h q
 
   -- ---- the bits are what the facts carry
 
+  -- What a fact leads to by domains,
   domain-own : (y c : ℕ) → c < ns → (nodeBit st (count st) d (startNode f y) c ≡ 1) ↔ (Plus (edges st 4 (count st)) (key (rowAt f y)) (getD col c 0) × (¬ (key (rowAt f y) ≡ getD col c 0)))
   domain-own y c l = rw (start-key f y) (domain-iff (key (rowAt f y)) c l)
 
+  -- and by ranges.
   range-own : (y c : ℕ) → c < ns → (nodeBit st (count st) r (propertyNode (propertyAt f y)) c ≡ 1) ↔ Plus (edges st 5 (count st)) (propertyNode (rowAt f y .property)) (getD col c 0)
   range-own y c l = rw (row-property f y) (range-iff (propertyNode (propertyAt f y)) c l)
 
@@ -418,13 +442,16 @@ module _ (st col d r f : List ℕ) (ns nc : ℕ) (w : WellFormed isAllowedStatem
   Ranged : ℕ → ℕ → ℕ → Type 0
   Ranged x c y = (isLiteral (rowAt f y .object) ≡ false) × (¬ (rowAt f y .property ≡ 1)) × (x ≡ rowAt f y .object) × Plus (edges st 5 (count st)) (propertyNode (rowAt f y .property)) (getD col c 0)
 
+  -- A fact that is no typing.
   not-typing : (y : ℕ) → ¬ (propertyAt f y ≡ 1) → ¬ (rowAt f y .property ≡ 1)
   not-typing y n e = n (sym (row-property f y) ∙ e)
 
+  -- The bit in the square of ranges says so.
   ranged : (x c y : ℕ) → c < ns → isLiteral x ≡ false → objectAt f y ≡ x → ¬ (propertyAt f y ≡ 1) → nodeBit st (count st) r (propertyNode (propertyAt f y)) c ≡ 1 → Ranged x c y
   unfolding Ranged
   ranged x c y l p o n b = let e : rowAt f y .object ≡ x = row-object f y ∙ o in (ap isLiteral e ∙ p, not-typing y n, sym e, range-own y c l .0 b)
 
+  -- What a fact of the subject x adds to the column of a class.
   own-iff : (x c y : ℕ) (l : y < count f) → c < nc → isLiteral x ≡ false
       → (ownBit st (count st) nc d r f x c y ≡ 1)
       ↔ Own (rows st) (rowAt f y) (statements-small st w) (statements-plain st w) (fact-words f v y l .object-small) (edges st 4 (count st)) (edges st 5 (count st)) (edges-are st w 4 (inl refl)) (edges-are st w 5 (inr refl)) x (getD col c 0)
@@ -463,6 +490,7 @@ module _ (st col d r f : List ℕ) (ns nc : ℕ) (w : WellFormed isAllowedStatem
       back (inl a) = left (domain-own y c lt .1 a)
       back (inr z) = right z
 
+  -- What a fact of another subject adds to it.
   other-iff : (x c y : ℕ) → c < ns → isLiteral x ≡ false → ¬ (subjectAt f y ≡ x) → (objectAdds st (count st) r f x c y ≡ 1) ↔ Ranged x c y
   unfolding Ranged
   other-iff x c y l p s = (fore, λ z. object-adds st (count st) nc d r f x c y (sym (row-object f y) ∙ sym (z .2)) s ∙ range-own y c l .1 (z .3))
@@ -475,6 +503,7 @@ module _ (st col d r f : List ℕ) (ns nc : ℕ) (w : WellFormed isAllowedStatem
           ranged x c y l p e (λ q. omega (arith, absent-node st r c (count st) (propertyNode 1) no-type, ap (λ (z : ℕ). nodeBit st (count st) r (propertyNode z) c) q)) h)
           (λ n. absurd (omega (arith, object-adds-not st (count st) nc d r f x c y n)))
 
+  -- What any fact adds to the support of x 1 c.
   class-bit : (x c y : ℕ) → c < nc → isLiteral x ≡ false → y < count f
       → among (triple x 1 (getD col c 0)) (carried (rows st) (rowAt f y)) ≡ explicitAt f x 1 (getD col c 0) y + (subjectAdds st (count st) nc d r f x c y + objectAdds st (count st) r f x c y)
   unfolding Ranged
@@ -507,6 +536,7 @@ module _ (st col d r f : List ℕ) (ns nc : ℕ) (w : WellFormed isAllowedStatem
       ∙ sum-add (λ y. among (triple x 1 (getD col c 0)) (carried (rows st) (rowAt f y))) (explicitAt f x 1 (getD col c 0)) (λ y. subjectAdds st (count st) nc d r f x c y + objectAdds st (count st) r f x c y) (count f) (λ y l. class-bit x c y lc p l)
       ∙ ap (λ (n : ℕ). sumTo (explicitAt f x 1 (getD col c 0)) (count f) + n) (sum-add (λ y. subjectAdds st (count st) nc d r f x c y + objectAdds st (count st) r f x c y) (subjectAdds st (count st) nc d r f x c) (objectAdds st (count st) r f x c) (count f) (λ y l. refl))
 
+  -- What a fact adds to a row of a property.
   led-iff : (x q o c y : ℕ) (l : y < count f) → c < ns → getD col c 0 ≡ propertyNode q
       → (propertyAdds st (count st) d f x o c y ≡ 1)
       ↔ Led (rows st) (rowAt f y) (statements-small st w) (statements-plain st w) (fact-words f v y l .object-small) (edges st 4 (count st)) (edges st 5 (count st)) (edges-are st w 4 (inl refl)) (edges-are st w 5 (inr refl)) x q o
@@ -532,6 +562,7 @@ module _ (st col d r f : List ℕ) (ns nc : ℕ) (w : WellFormed isAllowedStatem
           ∙ ap (λ (j : ℕ). nodeBit st (count st) d j c) (sym (start-other f y n))
           ∙ domain-own y c lc .1 (p, λ h. z .3 (h ∙ e))
 
+  -- What any fact adds to the support of x q o.
   property-bit : (x q o c y : ℕ) → ¬ (q ≡ 1) → c < ns → getD col c 0 ≡ propertyNode q → y < count f
       → among (triple x q o) (carried (rows st) (rowAt f y)) ≡ explicitAt f x q o y + propertyAdds st (count st) d f x o c y
   property-bit x q o c y n lc e l =
@@ -595,6 +626,7 @@ module _ (st col d r f : List ℕ) (ns nc : ℕ) (w : WellFormed isAllowedStatem
       support-sum (rows st) f (triple x 1 o)
       ∙ sum-ext (λ y. among (triple x 1 o) (carried (rows st) (rowAt f y))) (explicitAt f x 1 o) (count f) (λ y l. class-bit-none x o y n l)
 
+  -- A property that is no column is given by explicit facts alone.
   property-bit-none : (x q o y : ℕ) → ¬ (q ≡ 1) → ((c : ℕ) → nc ≤ c → c < ns → ¬ (getD col c 0 ≡ propertyNode q)) → y < count f → among (triple x q o) (carried (rows st) (rowAt f y)) ≡ explicitAt f x q o y
   property-bit-none x q o y k1 n l =
       omega (

@@ -1,24 +1,23 @@
 -- The compiled statements, from what `columns`, `classes`, `terms`, `close` and `clear_own` ensure. Assumes nothing.
-use mathlib.Core.Path.{_≡_, refl, sym, _∙_}
+use mathlib.Core.Path.{_≡_, sym, _∙_}
 use mathlib.Core.List.{List}
-use mathlib.Core.Logic.{_↔_, by-cases}
+use mathlib.Core.Logic.{by-cases}
 use Prim.Native.Nat.{ℕ, _+_, _*_, _^_, _≤_, _<_}
 use native.Mathlib.Omega.{arith}
 use native.Mathlib.Decide.{ℕ-discrete}
 use lib.ListN.{getD}
 use Rattle.rdf.specs.Triple.{isAllowedStatement}
-use Rattle.table.specs.Table.{count, rowAt, rows, mostStatements}
+use Rattle.table.specs.Table.{count, rowAt, mostStatements}
 use Rattle.table.specs.Laid.{WellFormed}
 use Rattle.table.proofs.Formed.{capacity-most}
 use Rattle.rdfs.proofs.Entailment.{not-vocabulary}
-use Rattle.schema.specs.Walks.{Plus}
-use Rattle.schema.specs.Nodes.{propertyNode, subjectNode, objectNode, edges, Columns}
-use Rattle.schema.specs.Squares.{at, Bits, Marks, Closed, Cleared}
+use Rattle.schema.specs.Nodes.{propertyNode, subjectNode, edges, Columns}
+use Rattle.schema.specs.Squares.{at, Bits, Closed, Cleared}
 use Rattle.schema.specs.Ascent.{Placed, Ends, termOf}
 use Rattle.schema.specs.Compiled.{Compiled, Keyed}
-use Rattle.schema.proofs.Ascent.{ends-columns, term-class, term-less, term-property}
+use Rattle.schema.proofs.Ascent.{ends-columns, term-class, term-less}
 use Rattle.schema.proofs.Closing.{object-class-node, object-property-node}
-use Rattle.schema.proofs.Tables.{Words, triple-words, statement-triple, row-subject, row-object, row-member, row-allowed, statements-are, statements-plain}
+use Rattle.schema.proofs.Tables.{triple-words, statement-triple, row-object, row-member, row-allowed, statements-are, statements-plain}
 
 module _ (st : List ℕ) (w : WellFormed isAllowedStatement mostStatements st) (col : List ℕ) (ns nc : ℕ) (g : Ends st (count st) col ns) (p : Placed col ns (2 ^ 32) nc) where
   -- The columns that `close` asks for.
@@ -35,8 +34,8 @@ module _ (st : List ℕ) (w : WellFormed isAllowedStatement mostStatements st) (
         classes = p .before;
         properties = p .after;
         domains = λ i c li lc. by-cases (ℕ-discrete (subjectNode st i) (getD col c 0))
-          (λ e. ((λ h. absurd (omega (arith, cl .own i c li lc e))), λ z. absurd (z .1 e)))
-          (λ n. let q = cl .other i c (wide c lc) n in ((λ h. (cd i c li lc .0 (sym q ∙ h), n)), λ z. q ∙ cd i c li lc .1 (z .0)));
+            (λ e. ((λ h. absurd (omega (arith, cl .own i c li lc e))), λ z. absurd (z .1 e)))
+            (λ n. let q = cl .other i c (wide c lc) n in ((λ h. (cd i c li lc .0 (sym q ∙ h), n)), λ z. q ∙ cd i c li lc .1 (z .0)));
         ranges = cr;
         domain-bits = λ i c li lc. by-cases (ℕ-discrete (subjectNode st i) (getD col c 0)) (λ e. omega (arith, cl .own i c li lc e)) (λ n. omega (arith, cl .other i c (wide c lc) n, bd i c (wide c lc)));
         range-bits = λ i c li lc. br i c (wide c lc);
@@ -53,7 +52,7 @@ module _ (st : List ℕ) (w : WellFormed isAllowedStatement mostStatements st) (
       let small : getD st (o .number * 3 + 3) 0 < 2 ^ 32 = rw (row-object st (o .number)) at (triple-words (rowAt st (o .number)) (statement-triple (rowAt st (o .number)) (row-allowed isAllowedStatement mostStatements st w (o .number) (o .below))) .object-small) in
       by-cases (ℕ-discrete (getD st (o .number * 3 + 2) 0) 3)
       (λ q. not-vocabulary (statements-plain st w (rowAt st (o .number)) m .1)
-        (omega (arith, object-property-node st (o .number) q, o .is, row-object st (o .number))) (omega (arith, object-property-node st (o .number) q, o .is, row-object st (o .number))))
+      (omega (arith, object-property-node st (o .number) q, o .is, row-object st (o .number))) (omega (arith, object-property-node st (o .number) q, o .is, row-object st (o .number))))
       (λ n. omega (arith, object-class-node st (o .number) n, o .is))
 
   -- The terms of the columns.
