@@ -1,7 +1,7 @@
 -- Whether a fact counts for a row, as the bits of the squares have it. Assumes nothing.
 use mathlib.Core.Path.{_≡_, refl, sym, ap, _∙_}
 use mathlib.Core.Bool.{false}
-use mathlib.Core.List.{List, _∷_, List·Memᴰ·head}
+use mathlib.Core.List.{List, List·Memᴰ·head}
 use mathlib.Core.Logic.{_↔_, _⊎_, inl, inr, ⊎-elim, by-cases}
 use Prim.Native.Nat.{ℕ, _+_, _^_, _≤_, _<_}
 use native.Mathlib.Omega.{arith}
@@ -13,7 +13,6 @@ use Rattle.rdf.specs.Order.{triple-eq, equalTriples}
 use Rattle.rdf.proofs.Order.{of-property, of-object, choose-elim}
 use Rattle.rdfs.specs.Entailment.{explicit, Carries, NoVocabulary}
 use Rattle.rdfs.specs.Closure.{isIn, carried}
-use Rattle.rdfs.specs.Saturation.{support}
 use Rattle.rdfs.proofs.Carried.{carried-iff}
 use Rattle.rdfs.proofs.Kept.{one, one-yes, one-no}
 use Rattle.rdfs.proofs.Saturation.{among}
@@ -22,11 +21,6 @@ use Rattle.schema.specs.Nodes.{propertyNode}
 use Rattle.schema.proofs.Walks.{From}
 use Rattle.schema.proofs.Meaning.{Edges, Small, key, key-type, key-other, Carry, by-class, by-property, by-object, carry, no-one, not-type}
 use Rattle.schema.proofs.Meaning as meaning
-
--- The support, fact by fact.
-pub support-cons : (S : List Triple) (f : Triple) (F : List Triple) (t : Triple) → support S (f ∷ F) t ≡ among t (carried S f) + support S F t
-unfolding support
-support-cons S f F t = refl
 
 -- A bit that says whether f carries t is the one that the support counts.
 pub bit-is : (S : List Triple) (f t : Triple) (b : ℕ) → NoVocabulary S → b ≤ 1 → ((b ≡ 1) ↔ Carries S f t) → among t (carried S f) ≡ b

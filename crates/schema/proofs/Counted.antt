@@ -26,7 +26,7 @@ use Rattle.rdfs.proofs.Carried.{carried-part, Part, as-property, as-subject, as
 use Rattle.rdfs.proofs.Kept.{one, one-yes, one-no}
 use Rattle.rdfs.proofs.Saturation.{among}
 use Rattle.schema.specs.Walks.{Edge, Plus}
-use Rattle.schema.specs.Nodes.{propertyNode, subjectNode, objectNode, edges, Found, found, none, Columns}
+use Rattle.schema.specs.Nodes.{propertyNode, subjectNode, objectNode, edges, none, Columns}
 use Rattle.schema.specs.Squares.{at, Marks}
 use Rattle.schema.specs.Sums.{sumTo}
 use Rattle.schema.specs.Compiled.{Compiled, subjectAt, propertyAt, objectAt, nodeBit, startNode, either, explicitAt, ownBit, subjectAdds, objectAdds, propertyAdds}
@@ -35,7 +35,7 @@ use Rattle.schema.proofs.Closing.{edges-of, subject-class-node, subject
 use Rattle.schema.proofs.Meaning.{key, key-type, key-other, not-type, Carry, carry, by-class, by-property, by-object}
 use Rattle.schema.proofs.Bits.{bit-is, Own, bit-own, bit-other, Led, bit-property}
 use Rattle.schema.proofs.Sums.{sum-ext, sum-add, sum-zero, sum-le, sum-first}
-use Rattle.schema.proofs.Tables.{fact-words, row-subject, row-property, row-object, row-member, statements-small, statements-plain, edges-are}
+use Rattle.schema.proofs.Tables.{fact-words, row-subject, row-property, row-object, row-member, statements-are, statements-small, statements-plain, edges-are}
 
 -- ---- the bit of a node
 
@@ -92,54 +92,21 @@ module _ (st col sq : List ℕ) (ns c : ℕ) (P : ℕ → ℕ → Type 0) (lc : 
   pub node-bit-iff : (m x : ℕ) → Marks st m col ns sq P → (P x (getD col c 0) → Start st m x) → (nodeBit st m sq x c ≡ 1) ↔ P x (getD col c 0)
   node-bit-iff m x g s = (node-bit-says m x g, λ p. let i = s p in node-bit-has m x (i .number) (i .below) (i .is) g p)
 
-  -- It is the bit of any row of the node.
-  pub node-bit-found : (m x g : ℕ) → Marks st m col ns sq P → ((i : ℕ) → i < m → at sq i c ≤ 1) → Found (subjectNode st) m x g → g < m → nodeBit st m sq x c ≡ at sq g c
-  node-bit-found m x g w b (none e n) l = absurd (omega arith)
-  node-bit-found m x g w b (found h e) l =
-      by-cases (ℕ-discrete (at sq g c) 1)
-      (λ q. node-bit-has m x g l e w (subst (λ (z : ℕ). P z (getD col c 0)) e (w g c l lc .0 q)) ∙ sym q)
-      (λ n. by-cases (ℕ-discrete (nodeBit st m sq x c) 1)
-      (λ q. absurd (n (w g c l lc .1 (subst (λ (z : ℕ). P z (getD col c 0)) (sym e) (node-bit-says m x w q)))))
-      (λ z. omega (arith, b g l, node-bit-le m x b)))
-
--- A row of the node x that has column c.
-pub record Marked (st : List ℕ) (m : ℕ) (sq : List ℕ) (x c : ℕ) : Type 0 where
-  pub number : ℕ
-  pub below : number < m
-  pub node : subjectNode st number ≡ x
-  pub has : at sq number c ≡ 1
-
--- It is 1 exactly if some row of the node has the column.
-node-bit-row : (st sq : List ℕ) (c m x : ℕ) → nodeBit st m sq x c ≡ 1 → Marked st m sq x c
-unfolding nodeBit
-node-bit-row st sq c zero x h = absurd (omega arith)
-node-bit-row st sq c (suc m) x h =
-    cond-elim (λ (n : ℕ). n ≡ 1 → Marked st (suc m) sq x c) (eqb (subjectNode st m) x)
-    (λ e b. record { number = m; below = omega arith; node = eqb-true _ _ e; has = b })
-    (λ _ b. let g = node-bit-row st sq c m x b in record { number = g .number; below = omega (arith, g .below); node = g .node; has = g .has })
-    h
-
--- So it says which rows have the column.
-pub node-bit-marked : (st col sq : List ℕ) (ns c : ℕ) (P : ℕ → ℕ → Type 0) → c < ns → (m x : ℕ) → Marks st m col ns sq P → (nodeBit st m sq x c ≡ 1) ↔ Marked st m sq x c
-node-bit-marked st col sq ns c P lc m x w = (
-  node-bit-row st sq c m x,
-  λ g. node-bit-has st col sq ns c P lc m x (g .number) (g .below) (g .node) w (subst (λ (z : ℕ). P z (getD col c 0)) (g .node) (w (g .number) c (g .below) lc .0 (g .has))),
-)
-
--- Rows of one node have the same columns.
-pub marks-even : (st col sq : List ℕ) (ns c m : ℕ) (P : ℕ → ℕ → Type 0) → c < ns → Marks st m col ns sq P → (i j : ℕ) → i < m → j < m → subjectNode st i ≡ subjectNode st j → at sq i c ≡ 1 → at sq j c ≡ 1
-marks-even st col sq ns c m P lc w i j li lj e h = w j c lj lc .1 (subst (λ (z : ℕ). P z (getD col c 0)) e (w i c li lc .0 h))
+-- Rows of one node have the same bits.
+pub marks-even : (st col sq : List ℕ) (m ns : ℕ) (P : ℕ → ℕ → Type 0) → Marks st m col ns sq P → ((i c : ℕ) → i < m → c < ns → at sq i c ≤ 1)
+    → (i j c : ℕ) → i < m → j < m → c < ns → subjectNode st i ≡ subjectNode st j → at sq i c ≡ at sq j c
+marks-even st col sq m ns P w b i j c li lj lc e =
+    let same : at sq i c ≡ 1 → at sq j c ≡ 1 = λ z. w j c lj lc .1 (subst (λ (x : ℕ). P x (getD col c 0)) e (w i c li lc .0 z)) in
+    let back : at sq j c ≡ 1 → at sq i c ≡ 1 = λ z. w i c li lc .1 (subst (λ (x : ℕ). P x (getD col c 0)) (sym e) (w j c lj lc .0 z)) in
+    by-cases (ℕ-discrete (at sq i c) 1)
+    (λ q. q ∙ sym (same q))
+    (λ n. by-cases (ℕ-discrete (at sq j c) 1) (λ q. absurd (n (back q))) (λ z. omega (arith, b i c li lc, b j c lj lc)))
 
 -- It is 0 where no statement starts at the node.
 absent-node : (st sq : List ℕ) (c m x : ℕ) → ((i : ℕ) → i < m → ¬ (subjectNode st i ≡ x)) → nodeBit st m sq x c ≡ 0
 unfolding nodeBit
 absent-node st sq c zero x h = refl
 absent-node st sq c (suc m) x h = rw (ne-eqb (subjectNode st m) x (h m (omega arith))) (absent-node st sq c m x (λ i l. h i (omega arith)))
-
--- The same, by the search for a statement.
-pub node-bit-none : (st sq : List ℕ) (c m x g : ℕ) → Found (subjectNode st) m x g → m ≤ g → nodeBit st m sq x c ≡ 0
-node-bit-none st sq c m x g (found l e) le = absurd (omega arith)
-node-bit-none st sq c m x g (none e n) le = absent-node st sq c m x n
 
 -- ---- the clauses as equations
 
@@ -295,16 +262,16 @@ support-sum S f t =
 
 -- ---- what each fact adds
 
+-- No statement starts at the node of rdf:type.
+pub no-type : (st : List ℕ) → WellFormed isAllowedStatement mostStatements st → (i : ℕ) → i < count st → ¬ (subjectNode st i ≡ propertyNode 1)
+no-type st w i l e =
+    by-cases (ℕ-discrete (getD st (i * 3 + 2) 0) 2)
+    (λ q. omega (arith, subject-class-node st i q, statements-are st w .small i l))
+    (λ n. not-vocabulary (statements-plain st w (rowAt st i) (row-member isAllowedStatement mostStatements st w i l) .0)
+    (omega (arith, subject-property-node st i n, row-subject st i)) (omega (arith, subject-property-node st i n, row-subject st i)))
+
 -- The compiled statements, and a table of facts.
 module _ (st col d r f : List ℕ) (ns nc : ℕ) (w : WellFormed isAllowedStatement mostStatements st) (v : WellFormed isAllowedFact mostFacts f) (k : Compiled st (count st) col ns nc d r) where
-  -- No statement starts at the node of rdf:type.
-  no-type : (i : ℕ) → i < count st → ¬ (subjectNode st i ≡ propertyNode 1)
-  no-type i l e =
-      by-cases (ℕ-discrete (getD st (i * 3 + 2) 0) 2)
-      (λ q. omega (arith, subject-class-node st i q, k .statements .small i l))
-      (λ n. not-vocabulary (statements-plain st w (rowAt st i) (row-member isAllowedStatement mostStatements st w i l) .0)
-      (omega (arith, subject-property-node st i n, row-subject st i)) (omega (arith, subject-property-node st i n, row-subject st i)))
-
   -- The bits of nodes.
   domain-iff : (x c : ℕ) → c < ns → (nodeBit st (count st) d x c ≡ 1) ↔ (Plus (edges st 4 (count st)) x (getD col c 0) × (¬ (x ≡ getD col c 0)))
   domain-iff x c l = node-bit-iff st col d ns c (λ a b. Plus (edges st 4 (count st)) a b × (¬ (a ≡ b))) l (count st) x (k .domains) (λ p. walk-start st 4 (count st) x (getD col c 0) (p .0))
@@ -364,7 +331,7 @@ module _ (st col d r f : List ℕ) (ns nc : ℕ) (w : WellFormed isAllowedStatem
       (λ e. by-cases (ℕ-discrete (objectAt f y) o)
       (λ q. by-cases (ℕ-discrete (propertyAt f y) 1)
       (λ p. let z : propertyNode (propertyAt f y) ≡ propertyNode 1 = ap propertyNode p in
-      omega (arith, property-adds st (count st) d f x o c y e q, ap (λ (n : ℕ). nodeBit st (count st) d n c) z, absent-node st d c (count st) (propertyNode 1) no-type))
+      omega (arith, property-adds st (count st) d f x o c y e q, ap (λ (n : ℕ). nodeBit st (count st) d n c) z, absent-node st d c (count st) (propertyNode 1) (no-type st w)))
       (λ p. omega (
         arith,
         property-adds st (count st) d f x o c y e q,
@@ -374,59 +341,6 @@ module _ (st col d r f : List ℕ) (ns nc : ℕ) (w : WellFormed isAllowedStatem
       )))
       (λ n. omega (arith, property-adds-object st (count st) d f x o c y n)))
       (λ n. omega (arith, property-adds-subject st (count st) d f x o c y n))
-
-  -- ---- for the loops: what is added is the bit of the row of the fact's group
-
-  -- The bit of a node is that of the row found,
-  domain-found : (n g c : ℕ) → c < ns → Found (subjectNode st) (count st) n g → g < count st → nodeBit st (count st) d n c ≡ at d g c
-  domain-found n g c l h q = node-bit-found st col d ns c (λ a b. Plus (edges st 4 (count st)) a b × (¬ (a ≡ b))) l (count st) n g (k .domains) (λ i z. k .domain-bits i c z l) h q
-
-  -- in both squares.
-  range-found : (n g c : ℕ) → c < ns → Found (subjectNode st) (count st) n g → g < count st → nodeBit st (count st) r n c ≡ at r g c
-  range-found n g c l h q = node-bit-found st col r ns c (Plus (edges st 5 (count st))) l (count st) n g (k .ranges) (λ i z. k .range-bits i c z l) h q
-
-  -- A typing of the subject x, or a fact of another object: row g of the square of domains.
-  pub subject-adds-type : (x y g c : ℕ) → c < ns → subjectAt f y ≡ x → propertyAt f y ≡ 1 → Found (subjectNode st) (count st) (objectAt f y) g → g < count st → subjectAdds st (count st) nc d r f x c y ≡ at d g c
-  subject-adds-type x y g c l s p h q =
-      subject-adds st (count st) nc d r f x c y s ∙ own-type st (count st) nc d r f x c y p ∙ ap (λ (n : ℕ). nodeBit st (count st) d n c) (start-type f y p) ∙ domain-found (objectAt f y) g c l h q
-
-  -- A fact of the subject x and another object: the same row.
-  pub subject-adds-single : (x y g c : ℕ) → c < ns → subjectAt f y ≡ x → ¬ (propertyAt f y ≡ 1) → ¬ (objectAt f y ≡ x) → Found (subjectNode st) (count st) (propertyNode (propertyAt f y)) g → g < count st → subjectAdds st (count st) nc d r f x c y ≡ at d g c
-  subject-adds-single x y g c l s p o h q =
-      subject-adds st (count st) nc d r f x c y s ∙ own-single st (count st) nc d r f x c y o ∙ ap (λ (n : ℕ). nodeBit st (count st) d n c) (start-other f y p) ∙ domain-found (propertyNode (propertyAt f y)) g c l h q
-
-  -- A fact of the subject x and the object x: row g of either square for a class,
-  pub subject-adds-both : (x y g c : ℕ) → c < nc → subjectAt f y ≡ x → ¬ (propertyAt f y ≡ 1) → objectAt f y ≡ x → Found (subjectNode st) (count st) (propertyNode (propertyAt f y)) g → g < count st → subjectAdds st (count st) nc d r f x c y ≡ either (at d g c) (at r g c)
-  subject-adds-both x y g c l s p o h q =
-      let z : c < ns = omega (arith, k .few) in
-      subject-adds st (count st) nc d r f x c y s ∙ own-both st (count st) nc d r f x c y p o l
-      ∙ ap (λ (n : ℕ). either (nodeBit st (count st) d n c) (nodeBit st (count st) r n c)) (start-other f y p)
-      ∙ (rw (domain-found (propertyNode (propertyAt f y)) g c z h q, range-found (propertyNode (propertyAt f y)) g c z h q) refl)
-
-  -- and of the square of domains for a property.
-  pub subject-adds-property : (x y g c : ℕ) → nc ≤ c → c < ns → subjectAt f y ≡ x → ¬ (propertyAt f y ≡ 1) → Found (subjectNode st) (count st) (propertyNode (propertyAt f y)) g → g < count st → subjectAdds st (count st) nc d r f x c y ≡ at d g c
-  subject-adds-property x y g c b l s p h q =
-      subject-adds st (count st) nc d r f x c y s ∙ own-property st (count st) nc d r f x c y b ∙ ap (λ (n : ℕ). nodeBit st (count st) d n c) (start-other f y p) ∙ domain-found (propertyNode (propertyAt f y)) g c l h q
-
-  -- A fact whose node has no statement adds nothing.
-  pub subject-adds-none : (x y g c : ℕ) → c < ns → subjectAt f y ≡ x → Found (subjectNode st) (count st) (startNode f y) g → count st ≤ g → subjectAdds st (count st) nc d r f x c y ≡ 0
-  subject-adds-none x y g c l s h q =
-      let a : nodeBit st (count st) d (startNode f y) c ≡ 0 = node-bit-none st d c (count st) (startNode f y) g h q in
-      let b : nodeBit st (count st) r (startNode f y) c ≡ 0 = node-bit-none st r c (count st) (startNode f y) g h q in
-      subject-adds st (count st) nc d r f x c y s
-      ∙ by-cases (ℕ-discrete (propertyAt f y) 1)
-      (λ e. own-type st (count st) nc d r f x c y e ∙ a)
-      (λ n. by-cases (ℕ-discrete (objectAt f y) x)
-      (λ e. by-cases (decLt c nc) (λ z. own-both st (count st) nc d r f x c y n e z ∙ (rw (a, b) refl)) (λ z. own-property st (count st) nc d r f x c y (omega arith) ∙ a))
-      (λ z. own-single st (count st) nc d r f x c y z ∙ a))
-
-  -- A fact of the object x and another subject: row g of the square of ranges, or nothing.
-  pub object-adds-found : (x y g c : ℕ) → c < ns → objectAt f y ≡ x → ¬ (subjectAt f y ≡ x) → Found (subjectNode st) (count st) (propertyNode (propertyAt f y)) g → g < count st → objectAdds st (count st) r f x c y ≡ at r g c
-  object-adds-found x y g c l o s h q = object-adds st (count st) nc d r f x c y o s ∙ range-found (propertyNode (propertyAt f y)) g c l h q
-
-  -- One whose property has no statement adds nothing.
-  pub object-adds-none : (x y g c : ℕ) → objectAt f y ≡ x → ¬ (subjectAt f y ≡ x) → Found (subjectNode st) (count st) (propertyNode (propertyAt f y)) g → count st ≤ g → objectAdds st (count st) r f x c y ≡ 0
-  object-adds-none x y g c o s h q = object-adds st (count st) nc d r f x c y o s ∙ node-bit-none st r c (count st) (propertyNode (propertyAt f y)) g h q
 
   -- ---- the bits are what the facts carry
 
@@ -500,7 +414,7 @@ module _ (st col d r f : List ℕ) (ns nc : ℕ) (w : WellFormed isAllowedStatem
           by-cases (ℕ-discrete (objectAt f y) x)
           (λ e.
           let h : nodeBit st (count st) r (propertyNode (propertyAt f y)) c ≡ 1 = sym (object-adds st (count st) nc d r f x c y e s) ∙ b in
-          ranged x c y l p e (λ q. omega (arith, absent-node st r c (count st) (propertyNode 1) no-type, ap (λ (z : ℕ). nodeBit st (count st) r (propertyNode z) c) q)) h)
+          ranged x c y l p e (λ q. omega (arith, absent-node st r c (count st) (propertyNode 1) (no-type st w), ap (λ (z : ℕ). nodeBit st (count st) r (propertyNode z) c) q)) h)
           (λ n. absurd (omega (arith, object-adds-not st (count st) nc d r f x c y n)))
 
   -- What any fact adds to the support of x 1 c.
@@ -548,7 +462,7 @@ module _ (st col d r f : List ℕ) (ns nc : ℕ) (w : WellFormed isAllowedStatem
           (λ s. by-cases (ℕ-discrete (objectAt f y) o)
           (λ h.
           let g : nodeBit st (count st) d (propertyNode (propertyAt f y)) c ≡ 1 = sym (property-adds st (count st) d f x o c y s h) ∙ b in
-          let n : ¬ (propertyAt f y ≡ 1) = λ z. omega (arith, absent-node st d c (count st) (propertyNode 1) no-type, ap (λ (j : ℕ). nodeBit st (count st) d (propertyNode j) c) z) in
+          let n : ¬ (propertyAt f y ≡ 1) = λ z. omega (arith, absent-node st d c (count st) (propertyNode 1) (no-type st w), ap (λ (j : ℕ). nodeBit st (count st) d (propertyNode j) c) z) in
           let p = domain-own y c lc .0 (ap (λ (j : ℕ). nodeBit st (count st) d j c) (start-other f y n) ∙ g) in
           (sym (row-subject f y ∙ s), sym (row-object f y ∙ h), rw e at (p .0), λ z. p .1 (z ∙ sym e)))
           (λ n. absurd (omega (arith, property-adds-object st (count st) d f x o c y n))))

@@ -36,6 +36,11 @@ uri-small : (w : ℕ) → isUri w ≡ true → w < 2 ^ 32
 unfolding isUri
 uri-small w e = omega (arith, eqb-true (w / 2 ^ 30) 0 (and-left _ _ e))
 
+-- A URI is not 0.
+pub uri-term : (w : ℕ) → isUri w ≡ true → 1 ≤ w
+unfolding isUri
+uri-term w e = by-cases (ℕ-discrete w 0) (λ z. absurd (true-not-false (sym e ∙ (rw z refl)))) (λ n. omega arith)
+
 -- A literal too is a word below 2 ^ 32.
 literal-small : (w : ℕ) → isLiteral w ≡ true → w < 2 ^ 32
 unfolding isLiteral
@@ -55,9 +60,11 @@ resource-below w e = ⊎-elim (λ u. omega (arith, eqb-true (w / 2 ^ 30) 0 (and-
 pub record Words (t : Triple) : Type 0 where
   pub subject-below : t .subject < 2 ^ 31
   pub subject-plain : isLiteral (t .subject) ≡ false
+  pub property-term : 1 ≤ t .property
   pub property-small : t .property < 2 ^ 32
   pub object-small : t .object < 2 ^ 32
   pub object-below : isLiteral (t .object) ≡ false → t .object < 2 ^ 31
+  pub object-literal : 2 ^ 31 ≤ t .object → isLiteral (t .object) ≡ true
 
 -- A triple has such words.
 pub triple-words : (t : Triple) → isTriple t ≡ true → Words t
@@ -69,10 +76,20 @@ triple-words t e =
     record {
       subject-below = s;
       subject-plain = plain-below (t .subject) s;
+      property-term = uri-term (t .property) (and-right (isResource (t .subject)) _ h);
       property-small = uri-small (t .property) (and-right (isResource (t .subject)) _ h);
       object-small = ⊎-elim (λ r. omega (arith, resource-below (t .object) r)) (literal-small (t .object)) o;
       object-below = λ n. ⊎-elim (resource-below (t .object)) (λ l. absurd (true-not-false (sym l ∙ n))) o;
+      object-literal = λ n. ⊎-elim (λ r. absurd (omega (arith, resource-below (t .object) r))) (λ l. l) o;
     }
+
+-- No word of a triple is 0.
+pub object-term : (t : Triple) → isTriple t ≡ true → 1 ≤ t .object
+unfolding isTriple isUri isBlank isLiteral
+object-term t e =
+    by-cases (ℕ-discrete (t .object) 0)
+    (λ z. absurd (true-not-false (sym (and-right (isResource (t .subject) && isUri (t .property)) _ e) ∙ (rw z refl))))
+    (λ n. omega arith)
 
 -- An allowed statement is a triple, and its property is 2 to 5.
 pub statement-triple : (t : Triple) → isAllowedStatement t ≡ true → isTriple t ≡ true

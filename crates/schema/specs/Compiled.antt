@@ -27,11 +27,12 @@ pub record Compiled (st : List ℕ) (m : ℕ) (col : List ℕ) (ns nc : ℕ) (d 
 
 -- The terms of the columns: of the classes, which come first, and of the properties, none of them rdf:type.
 pub record Keyed (col : List ℕ) (ns nc : ℕ) (key : List ℕ) : Type 0 where
+  pub small : (c : ℕ) → c < ns → getD key c 0 < 2 ^ 32
   pub class-term : (c : ℕ) → c < nc → getD key c 0 ≡ getD col c 0
   pub property-term : (c : ℕ) → nc ≤ c → c < ns → getD col c 0 ≡ propertyNode (getD key c 0)
   pub classes-rise : (c e : ℕ) → c < e → e < nc → getD key c 0 < getD key e 0
   pub properties-rise : (c e : ℕ) → nc ≤ c → c < e → e < ns → getD key c 0 < getD key e 0
-  pub not-type : (c : ℕ) → nc ≤ c → c < ns → ¬ (getD key c 0 ≡ 1)
+  pub not-type : (c : ℕ) → nc ≤ c → c < ns → 2 ≤ getD key c 0
 
 -- The subject of fact y,
 abbrev pub subjectAt : List ℕ → ℕ → ℕ
