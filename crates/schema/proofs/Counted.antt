@@ -28,13 +28,13 @@ use Rattle.rdfs.proofs.Saturation.{among}
 use Rattle.schema.specs.Walks.{Edge, Plus}
 use Rattle.schema.specs.Nodes.{propertyNode, subjectNode, objectNode, edges, none, Columns}
 use Rattle.schema.specs.Squares.{at, Marks}
-use Rattle.schema.specs.Sums.{sumTo}
+use Rattle.schema.specs.Sums.{sumTo, sumAt}
 use Rattle.schema.specs.Compiled.{Compiled, subjectAt, propertyAt, objectAt, nodeBit, startNode, either, explicitAt, ownBit, subjectAdds, objectAdds, propertyAdds}
 use Rattle.schema.proofs.Walks.{plus-ends, plus-starts}
 use Rattle.schema.proofs.Closing.{edges-of, subject-class-node, subject-property-node}
 use Rattle.schema.proofs.Meaning.{key, key-type, key-other, not-type, Carry, carry, by-class, by-property, by-object}
 use Rattle.schema.proofs.Bits.{bit-is, Own, bit-own, bit-other, Led, bit-property}
-use Rattle.schema.proofs.Sums.{sum-ext, sum-add, sum-zero, sum-le, sum-first}
+use Rattle.schema.proofs.Sums.{sum-ext, sum-add, sum-zero, sum-le, sum-first, sum-range, sumAt-is}
 use Rattle.schema.proofs.Tables.{fact-words, row-subject, row-property, row-object, row-member, statements-are, statements-small, statements-plain, edges-are}
 
 -- ---- the bit of a node
@@ -155,15 +155,10 @@ pub explicit-other : (f : List ℕ) (x p o y : ℕ) → ¬ (subjectAt f y ≡ x)
 unfolding explicitAt
 explicit-other f x p o y n = rw (ne-eqb (subjectAt f y) x n)
 
--- A fact of the subject x and the property p is x p o where its object is o.
-pub explicit-object : (f : List ℕ) (x p o y : ℕ) → subjectAt f y ≡ x → propertyAt f y ≡ p → explicitAt f x p o y ≡ cond (eqb (objectAt f y) o) 1 0
+-- A fact of the subject x is x p o where its property is p and its object o.
+pub explicit-own : (f : List ℕ) (x p o y : ℕ) → subjectAt f y ≡ x → explicitAt f x p o y ≡ cond (eqb (propertyAt f y) p) (cond (eqb (objectAt f y) o) 1 0) 0
 unfolding explicitAt
-explicit-object f x p o y a b = rw (eq-eqb (subjectAt f y) x a, eq-eqb (propertyAt f y) p b)
-
--- A fact of the subject x and another property is not x p o.
-pub explicit-property : (f : List ℕ) (x p o y : ℕ) → subjectAt f y ≡ x → ¬ (propertyAt f y ≡ p) → explicitAt f x p o y ≡ 0
-unfolding explicitAt
-explicit-property f x p o y a n = rw (eq-eqb (subjectAt f y) x a, ne-eqb (propertyAt f y) p n)
+explicit-own f x p o y a = rw (eq-eqb (subjectAt f y) x a)
 
 module _ (st : List ℕ) (m nc : ℕ) (d r f : List ℕ) (x c y : ℕ) where
   -- What a fact of the subject x adds: the bit of its node in the square of domains,
@@ -208,14 +203,24 @@ module _ (st : List ℕ) (m nc : ℕ) (d r f : List ℕ) (x c y : ℕ) where
   unfolding objectAdds
   object-adds-own e = cond-elim (λ (k : ℕ). k ≡ 0) (eqb (objectAt f y) x) (λ _. rw (eq-eqb (subjectAt f y) x e)) (λ _. refl)
 
-  -- A fact of the object x and another subject adds the bit of its property in the square of ranges.
+  -- A fact of the object x adds the bit of its property in the square of ranges, where its subject is another,
+  pub object-adds-here : objectAt f y ≡ x → objectAdds st m r f x c y ≡ cond (eqb (subjectAt f y) x) 0 (nodeBit st m r (propertyNode (propertyAt f y)) c)
+  unfolding objectAdds
+  object-adds-here e = rw (eq-eqb (objectAt f y) x e)
+
+  -- and so that bit where it is.
   pub object-adds : objectAt f y ≡ x → ¬ (subjectAt f y ≡ x) → objectAdds st m r f x c y ≡ nodeBit st m r (propertyNode (propertyAt f y)) c
   unfolding objectAdds
   object-adds e n = rw (eq-eqb (objectAt f y) x e, ne-eqb (subjectAt f y) x n)
 
--- What a fact of the subject x adds to a row of a property.
+-- What a fact adds to a row of a property.
 module _ (st : List ℕ) (m : ℕ) (d f : List ℕ) (x o c y : ℕ) where
-  -- The bit of its property in the square of domains, where its object is o;
+  -- A fact of the subject x adds the bit of its property in the square of domains where its object is o,
+  pub property-adds-own : subjectAt f y ≡ x → propertyAdds st m d f x o c y ≡ cond (eqb (objectAt f y) o) (nodeBit st m d (propertyNode (propertyAt f y)) c) 0
+  unfolding propertyAdds
+  property-adds-own a = rw (eq-eqb (subjectAt f y) x a)
+
+  -- and so that bit where it is,
   pub property-adds : subjectAt f y ≡ x → objectAt f y ≡ o → propertyAdds st m d f x o c y ≡ nodeBit st m d (propertyNode (propertyAt f y)) c
   unfolding propertyAdds
   property-adds a b = rw (eq-eqb (subjectAt f y) x a, eq-eqb (objectAt f y) o b)
@@ -229,6 +234,48 @@ module _ (st : List ℕ) (m : ℕ) (d f : List ℕ) (x o c y : ℕ) where
   pub property-adds-object : ¬ (objectAt f y ≡ o) → propertyAdds st m d f x o c y ≡ 0
   unfolding propertyAdds
   property-adds-object n = cond-elim (λ (k : ℕ). k ≡ 0) (eqb (subjectAt f y) x) (λ _. rw (ne-eqb (objectAt f y) o n)) (λ _. refl)
+
+-- ---- the sums over the facts of one subject, or of one object
+
+-- The facts i .. e are those of the subject x, among n.
+pub record SubjectRange (f : List ℕ) (n x i e : ℕ) : Type 0 where
+  pub low : i ≤ e
+  pub high : e ≤ n
+  pub before : (y : ℕ) → y < i → ¬ (subjectAt f y ≡ x)
+  pub within : (y : ℕ) → i ≤ y → y < e → subjectAt f y ≡ x
+  pub after : (y : ℕ) → e ≤ y → y < n → ¬ (subjectAt f y ≡ x)
+
+module _ (f : List ℕ) (n x i e : ℕ) (b : SubjectRange f n x i e) where
+  -- What the facts of the subject x add to column c is added by the facts i .. e.
+  pub subject-sum : (st : List ℕ) (m nc : ℕ) (d r : List ℕ) (c : ℕ) → sumTo (subjectAdds st m nc d r f x c) n + sumTo (ownBit st m nc d r f x c) i ≡ sumTo (ownBit st m nc d r f x c) e
+  subject-sum st m nc d r c =
+      sum-range (subjectAdds st m nc d r f x c) (ownBit st m nc d r f x c) i e n (b .low) (b .high)
+      (λ y l. subject-adds-not st m nc d r f x c y (b .before y l)) (λ y l h. subject-adds st m nc d r f x c y (b .within y l h)) (λ y l h. subject-adds-not st m nc d r f x c y (b .after y l h))
+
+  -- Whether x p o is explicit is said by the facts i .. e: a function g that says it there says it for all.
+  pub explicit-sum : (p o : ℕ) (g : ℕ → ℕ) → ((y : ℕ) → i ≤ y → y < e → explicitAt f x p o y ≡ g y) → sumTo (explicitAt f x p o) n + sumTo g i ≡ sumTo g e
+  explicit-sum p o g h =
+      sum-range (explicitAt f x p o) g i e n (b .low) (b .high)
+      (λ y l. explicit-other f x p o y (b .before y l)) h (λ y l k. explicit-other f x p o y (b .after y l k))
+
+  -- So is what the facts x p o add whose property leads to column c.
+  pub property-sum : (st : List ℕ) (m : ℕ) (d : List ℕ) (o c : ℕ) (g : ℕ → ℕ) → ((y : ℕ) → i ≤ y → y < e → propertyAdds st m d f x o c y ≡ g y) → sumTo (propertyAdds st m d f x o c) n + sumTo g i ≡ sumTo g e
+  property-sum st m d o c g h =
+      sum-range (propertyAdds st m d f x o c) g i e n (b .low) (b .high)
+      (λ y l. property-adds-subject st m d f x o c y (b .before y l)) h (λ y l k. property-adds-subject st m d f x o c y (b .after y l k))
+
+-- What the facts of the object x add to column c is added by the places i .. e of an index where these stand.
+pub object-sum : (st : List ℕ) (m : ℕ) (r f ix : List ℕ) (n x c i e : ℕ) (g : ℕ → ℕ) → ((h : ℕ → ℕ) → sumAt h ix n ≡ sumTo h n) → i ≤ e → e ≤ n
+    → ((a : ℕ) → a < i → ¬ (objectAt f (getD ix a 0) ≡ x)) → ((a : ℕ) → i ≤ a → a < e → objectAdds st m r f x c (getD ix a 0) ≡ g a) → ((a : ℕ) → e ≤ a → a < n → ¬ (objectAt f (getD ix a 0) ≡ x))
+    → sumTo (objectAdds st m r f x c) n + sumTo g i ≡ sumTo g e
+object-sum st m r f ix n x c i e g p low high before within after =
+    omega (
+      arith,
+      p (objectAdds st m r f x c),
+      sumAt-is (objectAdds st m r f x c) ix n,
+      sum-range (λ a. objectAdds st m r f x c (getD ix a 0)) g i e n low high
+          (λ a l. object-adds-not st m 0 r r f x c (getD ix a 0) (before a l)) within (λ a l h. object-adds-not st m 0 r r f x c (getD ix a 0) (after a l h)),
+    )
 
 -- One bit or another.
 either-iff : (a b : ℕ) → (either a b ≡ 1) ↔ ((a ≡ 1) ⊎ (b ≡ 1))
