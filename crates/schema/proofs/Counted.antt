@@ -1,13 +1,13 @@
 -- The supports as sums over the facts, in the shape in which the run over the subjects counts them. Assumes nothing.
 use mathlib.Core.Path.{_≡_, refl, sym, ap, _∙_, subst}
 use mathlib.Core.Bool.{Bool, true, false, cond}
-use mathlib.Core.List.{List, [], _∷_, List·Memᴰ}
+use mathlib.Core.List.{List}
 use mathlib.Core.Logic.{_↔_, _⊎_, inl, inr, ⊎-elim, by-cases}
 use Prim.Native.Nat.{ℕ, zero, suc, _+_, _*_, _^_, _≤_, _<_}
 use native.Mathlib.Omega.{arith}
 use native.Mathlib.Decide.{ℕ-discrete, decLt}
-use lib.ListN.{length, getD, drop}
-use lib.Dec.{eqb, ltb}
+use lib.ListN.{getD, drop}
+use lib.Dec.{eqb}
 use borrow.Author.Tests.{eqb-true, eqb-false, eq-eqb, ne-eqb, lt-ltb, le-ltb}
 use Rattle.rdf.specs.declared.Triple.{Triple}
 use Rattle.rdf.specs.Term.{isLiteral}
@@ -18,7 +18,7 @@ use Rattle.rdf.proofs.Lists.{cond-elim}
 use Rattle.table.specs.Table.{count, tripleFrom, rowAt, firstRows, rows, mostStatements, mostFacts}
 use Rattle.table.specs.Laid.{WellFormed}
 use Rattle.table.proofs.Rows.{tripleFrom-drop}
-use Rattle.rdfs.specs.Entailment.{Carries, NoVocabulary}
+use Rattle.rdfs.specs.Entailment.{Carries}
 use Rattle.rdfs.specs.Closure.{isIn, carried}
 use Rattle.rdfs.specs.Saturation.{support}
 use Rattle.rdfs.proofs.Entailment.{not-vocabulary}
@@ -26,16 +26,16 @@ use Rattle.rdfs.proofs.Carried.{carried-part, Part, as-property, as-subject, as
 use Rattle.rdfs.proofs.Kept.{one, one-yes, one-no}
 use Rattle.rdfs.proofs.Saturation.{among}
 use Rattle.schema.specs.Walks.{Edge, Plus}
-use Rattle.schema.specs.Nodes.{propertyNode, subjectNode, objectNode, edges, Found, found, none, word, Columns}
-use Rattle.schema.specs.Squares.{at, Marks, Closed}
-use Rattle.schema.specs.Sums.{sumTo}
+use Rattle.schema.specs.Nodes.{propertyNode, subjectNode, objectNode, edges, none, Columns}
+use Rattle.schema.specs.Squares.{at, Marks}
+use Rattle.schema.specs.Sums.{sumTo, sumAt}
 use Rattle.schema.specs.Compiled.{Compiled, subjectAt, propertyAt, objectAt, nodeBit, startNode, either, explicitAt, ownBit, subjectAdds, objectAdds, propertyAdds}
-use Rattle.schema.proofs.Walks.{Ends, plus-ends, Starts, plus-starts}
-use Rattle.schema.proofs.Closing.{Of, edges-of, subject-class-node, subject-property-node}
-use Rattle.schema.proofs.Meaning.{Edges, Small, key, key-type, key-other, not-type, Carry, carry, by-class, by-property, by-object}
-use Rattle.schema.proofs.Bits.{support-cons, bit-is, Own, bit-own, bit-other, Led, bit-property}
-use Rattle.schema.proofs.Sums.{sum-ext, sum-add, sum-zero, sum-le, sum-first}
-use Rattle.schema.proofs.Tables.{fact-words, row-subject, row-property, row-object, row-member, statements-small, statements-plain, edges-are}
+use Rattle.schema.proofs.Walks.{plus-ends, plus-starts}
+use Rattle.schema.proofs.Closing.{edges-of, subject-class-node, subject-property-node}
+use Rattle.schema.proofs.Meaning.{key, key-type, key-other, not-type, Carry, carry, by-class, by-property, by-object}
+use Rattle.schema.proofs.Bits.{bit-is, Own, bit-own, bit-other, Led, bit-property}
+use Rattle.schema.proofs.Sums.{sum-ext, sum-add, sum-zero, sum-le, sum-first, sum-range, sumAt-is}
+use Rattle.schema.proofs.Tables.{fact-words, row-subject, row-property, row-object, row-member, statements-are, statements-small, statements-plain, edges-are}
 
 -- ---- the bit of a node
 
@@ -92,52 +92,21 @@ module _ (st col sq : List ℕ) (ns c : ℕ) (P : ℕ → ℕ → Type 0) (lc : 
   pub node-bit-iff : (m x : ℕ) → Marks st m col ns sq P → (P x (getD col c 0) → Start st m x) → (nodeBit st m sq x c ≡ 1) ↔ P x (getD col c 0)
   node-bit-iff m x g s = (node-bit-says m x g, λ p. let i = s p in node-bit-has m x (i .number) (i .below) (i .is) g p)
 
-  -- It is the bit of any row of the node.
-  pub node-bit-found : (m x g : ℕ) → Marks st m col ns sq P → ((i : ℕ) → i < m → at sq i c ≤ 1) → Found (subjectNode st) m x g → g < m → nodeBit st m sq x c ≡ at sq g c
-  node-bit-found m x g w b (none e n) l = absurd (omega arith)
-  node-bit-found m x g w b (found h e) l =
-      by-cases (ℕ-discrete (at sq g c) 1)
-      (λ q. node-bit-has m x g l e w (subst (λ (z : ℕ). P z (getD col c 0)) e (w g c l lc .0 q)) ∙ sym q)
-      (λ n. by-cases (ℕ-discrete (nodeBit st m sq x c) 1)
-      (λ q. absurd (n (w g c l lc .1 (subst (λ (z : ℕ). P z (getD col c 0)) (sym e) (node-bit-says m x w q)))))
-      (λ z. omega (arith, b g l, node-bit-le m x b)))
-
--- A row of the node x that has column c.
-pub record Marked (st : List ℕ) (m : ℕ) (sq : List ℕ) (x c : ℕ) : Type 0 where
-  pub number : ℕ
-  pub below : number < m
-  pub node : subjectNode st number ≡ x
-  pub has : at sq number c ≡ 1
-
--- It is 1 exactly if some row of the node has the column.
-node-bit-row : (st sq : List ℕ) (c m x : ℕ) → nodeBit st m sq x c ≡ 1 → Marked st m sq x c
-unfolding nodeBit
-node-bit-row st sq c zero x h = absurd (omega arith)
-node-bit-row st sq c (suc m) x h =
-    cond-elim (λ (n : ℕ). n ≡ 1 → Marked st (suc m) sq x c) (eqb (subjectNode st m) x)
-    (λ e b. record { number = m; below = omega arith; node = eqb-true _ _ e; has = b })
-    (λ _ b. let g = node-bit-row st sq c m x b in record { number = g .number; below = omega (arith, g .below); node = g .node; has = g .has })
-    h
-
-pub node-bit-marked : (st col sq : List ℕ) (ns c : ℕ) (P : ℕ → ℕ → Type 0) → c < ns → (m x : ℕ) → Marks st m col ns sq P → (nodeBit st m sq x c ≡ 1) ↔ Marked st m sq x c
-node-bit-marked st col sq ns c P lc m x w = (
-  node-bit-row st sq c m x,
-  λ g. node-bit-has st col sq ns c P lc m x (g .number) (g .below) (g .node) w (subst (λ (z : ℕ). P z (getD col c 0)) (g .node) (w (g .number) c (g .below) lc .0 (g .has))),
-)
-
--- Rows of one node have the same columns.
-pub marks-even : (st col sq : List ℕ) (ns c m : ℕ) (P : ℕ → ℕ → Type 0) → c < ns → Marks st m col ns sq P → (i j : ℕ) → i < m → j < m → subjectNode st i ≡ subjectNode st j → at sq i c ≡ 1 → at sq j c ≡ 1
-marks-even st col sq ns c m P lc w i j li lj e h = w j c lj lc .1 (subst (λ (z : ℕ). P z (getD col c 0)) e (w i c li lc .0 h))
+-- Rows of one node have the same bits.
+pub marks-even : (st col sq : List ℕ) (m ns : ℕ) (P : ℕ → ℕ → Type 0) → Marks st m col ns sq P → ((i c : ℕ) → i < m → c < ns → at sq i c ≤ 1)
+    → (i j c : ℕ) → i < m → j < m → c < ns → subjectNode st i ≡ subjectNode st j → at sq i c ≡ at sq j c
+marks-even st col sq m ns P w b i j c li lj lc e =
+    let same : at sq i c ≡ 1 → at sq j c ≡ 1 = λ z. w j c lj lc .1 (subst (λ (x : ℕ). P x (getD col c 0)) e (w i c li lc .0 z)) in
+    let back : at sq j c ≡ 1 → at sq i c ≡ 1 = λ z. w i c li lc .1 (subst (λ (x : ℕ). P x (getD col c 0)) (sym e) (w j c lj lc .0 z)) in
+    by-cases (ℕ-discrete (at sq i c) 1)
+    (λ q. q ∙ sym (same q))
+    (λ n. by-cases (ℕ-discrete (at sq j c) 1) (λ q. absurd (n (back q))) (λ z. omega (arith, b i c li lc, b j c lj lc)))
 
 -- It is 0 where no statement starts at the node.
 absent-node : (st sq : List ℕ) (c m x : ℕ) → ((i : ℕ) → i < m → ¬ (subjectNode st i ≡ x)) → nodeBit st m sq x c ≡ 0
 unfolding nodeBit
 absent-node st sq c zero x h = refl
 absent-node st sq c (suc m) x h = rw (ne-eqb (subjectNode st m) x (h m (omega arith))) (absent-node st sq c m x (λ i l. h i (omega arith)))
-
-pub node-bit-none : (st sq : List ℕ) (c m x g : ℕ) → Found (subjectNode st) m x g → m ≤ g → nodeBit st m sq x c ≡ 0
-node-bit-none st sq c m x g (found l e) le = absurd (omega arith)
-node-bit-none st sq c m x g (none e n) le = absent-node st sq c m x n
 
 -- ---- the clauses as equations
 
@@ -146,6 +115,7 @@ pub start-type : (f : List ℕ) (y : ℕ) → propertyAt f y ≡ 1 → startNode
 unfolding startNode
 start-type f y e = rw (eq-eqb (propertyAt f y) 1 e)
 
+-- Any other fact starts at its property.
 pub start-other : (f : List ℕ) (y : ℕ) → ¬ (propertyAt f y ≡ 1) → startNode f y ≡ propertyNode (propertyAt f y)
 unfolding startNode
 start-other f y n = rw (ne-eqb (propertyAt f y) 1 n)
@@ -185,15 +155,10 @@ pub explicit-other : (f : List ℕ) (x p o y : ℕ) → ¬ (subjectAt f y ≡ x)
 unfolding explicitAt
 explicit-other f x p o y n = rw (ne-eqb (subjectAt f y) x n)
 
--- A fact of the subject x and the property p is x p o where its object is o.
-pub explicit-object : (f : List ℕ) (x p o y : ℕ) → subjectAt f y ≡ x → propertyAt f y ≡ p → explicitAt f x p o y ≡ cond (eqb (objectAt f y) o) 1 0
+-- A fact of the subject x is x p o where its property is p and its object o.
+pub explicit-own : (f : List ℕ) (x p o y : ℕ) → subjectAt f y ≡ x → explicitAt f x p o y ≡ cond (eqb (propertyAt f y) p) (cond (eqb (objectAt f y) o) 1 0) 0
 unfolding explicitAt
-explicit-object f x p o y a b = rw (eq-eqb (subjectAt f y) x a, eq-eqb (propertyAt f y) p b)
-
--- A fact of the subject x and another property is not x p o.
-pub explicit-property : (f : List ℕ) (x p o y : ℕ) → subjectAt f y ≡ x → ¬ (propertyAt f y ≡ p) → explicitAt f x p o y ≡ 0
-unfolding explicitAt
-explicit-property f x p o y a n = rw (eq-eqb (subjectAt f y) x a, ne-eqb (propertyAt f y) p n)
+explicit-own f x p o y a = rw (eq-eqb (subjectAt f y) x a)
 
 module _ (st : List ℕ) (m nc : ℕ) (d r f : List ℕ) (x c y : ℕ) where
   -- What a fact of the subject x adds: the bit of its node in the square of domains,
@@ -201,10 +166,12 @@ module _ (st : List ℕ) (m nc : ℕ) (d r f : List ℕ) (x c y : ℕ) where
   unfolding ownBit
   own-type e = rw (eq-eqb (propertyAt f y) 1 e)
 
+  -- also where its object is another,
   own-single : ¬ (objectAt f y ≡ x) → ownBit st m nc d r f x c y ≡ nodeBit st m d (startNode f y) c
   unfolding ownBit
   own-single n = cond-elim (λ (k : ℕ). k ≡ nodeBit st m d (startNode f y) c) (eqb (propertyAt f y) 1) (λ _. refl) (λ _. rw (ne-eqb (objectAt f y) x n))
 
+  -- also for the column of a property;
   own-property : nc ≤ c → ownBit st m nc d r f x c y ≡ nodeBit st m d (startNode f y) c
   unfolding ownBit
   own-property l =
@@ -216,6 +183,7 @@ module _ (st : List ℕ) (m nc : ℕ) (d r f : List ℕ) (x c y : ℕ) where
   unfolding ownBit
   own-both n e l = rw (ne-eqb (propertyAt f y) 1 n, eq-eqb (objectAt f y) x e, lt-ltb c nc l)
 
+  -- As a fact of the subject x it adds that.
   pub subject-adds : subjectAt f y ≡ x → subjectAdds st m nc d r f x c y ≡ ownBit st m nc d r f x c y
   unfolding subjectAdds
   subject-adds e = rw (eq-eqb (subjectAt f y) x e)
@@ -230,27 +198,84 @@ module _ (st : List ℕ) (m nc : ℕ) (d r f : List ℕ) (x c y : ℕ) where
   unfolding objectAdds
   object-adds-not n = rw (ne-eqb (objectAt f y) x n)
 
+  -- A fact of the subject x adds nothing as one of the object x.
   pub object-adds-own : subjectAt f y ≡ x → objectAdds st m r f x c y ≡ 0
   unfolding objectAdds
   object-adds-own e = cond-elim (λ (k : ℕ). k ≡ 0) (eqb (objectAt f y) x) (λ _. rw (eq-eqb (subjectAt f y) x e)) (λ _. refl)
 
+  -- A fact of the object x adds the bit of its property in the square of ranges, where its subject is another,
+  pub object-adds-here : objectAt f y ≡ x → objectAdds st m r f x c y ≡ cond (eqb (subjectAt f y) x) 0 (nodeBit st m r (propertyNode (propertyAt f y)) c)
+  unfolding objectAdds
+  object-adds-here e = rw (eq-eqb (objectAt f y) x e)
+
+  -- and so that bit where it is.
   pub object-adds : objectAt f y ≡ x → ¬ (subjectAt f y ≡ x) → objectAdds st m r f x c y ≡ nodeBit st m r (propertyNode (propertyAt f y)) c
   unfolding objectAdds
   object-adds e n = rw (eq-eqb (objectAt f y) x e, ne-eqb (subjectAt f y) x n)
 
--- What a fact of the subject x adds to a row of a property.
+-- What a fact adds to a row of a property.
 module _ (st : List ℕ) (m : ℕ) (d f : List ℕ) (x o c y : ℕ) where
+  -- A fact of the subject x adds the bit of its property in the square of domains where its object is o,
+  pub property-adds-own : subjectAt f y ≡ x → propertyAdds st m d f x o c y ≡ cond (eqb (objectAt f y) o) (nodeBit st m d (propertyNode (propertyAt f y)) c) 0
+  unfolding propertyAdds
+  property-adds-own a = rw (eq-eqb (subjectAt f y) x a)
+
+  -- and so that bit where it is,
   pub property-adds : subjectAt f y ≡ x → objectAt f y ≡ o → propertyAdds st m d f x o c y ≡ nodeBit st m d (propertyNode (propertyAt f y)) c
   unfolding propertyAdds
   property-adds a b = rw (eq-eqb (subjectAt f y) x a, eq-eqb (objectAt f y) o b)
 
+  -- nothing for another subject,
   pub property-adds-subject : ¬ (subjectAt f y ≡ x) → propertyAdds st m d f x o c y ≡ 0
   unfolding propertyAdds
   property-adds-subject n = rw (ne-eqb (subjectAt f y) x n)
 
+  -- and nothing for another object.
   pub property-adds-object : ¬ (objectAt f y ≡ o) → propertyAdds st m d f x o c y ≡ 0
   unfolding propertyAdds
   property-adds-object n = cond-elim (λ (k : ℕ). k ≡ 0) (eqb (subjectAt f y) x) (λ _. rw (ne-eqb (objectAt f y) o n)) (λ _. refl)
+
+-- ---- the sums over the facts of one subject, or of one object
+
+-- The facts i .. e are those of the subject x, among n.
+pub record SubjectRange (f : List ℕ) (n x i e : ℕ) : Type 0 where
+  pub low : i ≤ e
+  pub high : e ≤ n
+  pub before : (y : ℕ) → y < i → ¬ (subjectAt f y ≡ x)
+  pub within : (y : ℕ) → i ≤ y → y < e → subjectAt f y ≡ x
+  pub after : (y : ℕ) → e ≤ y → y < n → ¬ (subjectAt f y ≡ x)
+
+module _ (f : List ℕ) (n x i e : ℕ) (b : SubjectRange f n x i e) where
+  -- What the facts of the subject x add to column c is added by the facts i .. e.
+  pub subject-sum : (st : List ℕ) (m nc : ℕ) (d r : List ℕ) (c : ℕ) → sumTo (subjectAdds st m nc d r f x c) n + sumTo (ownBit st m nc d r f x c) i ≡ sumTo (ownBit st m nc d r f x c) e
+  subject-sum st m nc d r c =
+      sum-range (subjectAdds st m nc d r f x c) (ownBit st m nc d r f x c) i e n (b .low) (b .high)
+      (λ y l. subject-adds-not st m nc d r f x c y (b .before y l)) (λ y l h. subject-adds st m nc d r f x c y (b .within y l h)) (λ y l h. subject-adds-not st m nc d r f x c y (b .after y l h))
+
+  -- Whether x p o is explicit is said by the facts i .. e: a function g that says it there says it for all.
+  pub explicit-sum : (p o : ℕ) (g : ℕ → ℕ) → ((y : ℕ) → i ≤ y → y < e → explicitAt f x p o y ≡ g y) → sumTo (explicitAt f x p o) n + sumTo g i ≡ sumTo g e
+  explicit-sum p o g h =
+      sum-range (explicitAt f x p o) g i e n (b .low) (b .high)
+      (λ y l. explicit-other f x p o y (b .before y l)) h (λ y l k. explicit-other f x p o y (b .after y l k))
+
+  -- So is what the facts x p o add whose property leads to column c.
+  pub property-sum : (st : List ℕ) (m : ℕ) (d : List ℕ) (o c : ℕ) (g : ℕ → ℕ) → ((y : ℕ) → i ≤ y → y < e → propertyAdds st m d f x o c y ≡ g y) → sumTo (propertyAdds st m d f x o c) n + sumTo g i ≡ sumTo g e
+  property-sum st m d o c g h =
+      sum-range (propertyAdds st m d f x o c) g i e n (b .low) (b .high)
+      (λ y l. property-adds-subject st m d f x o c y (b .before y l)) h (λ y l k. property-adds-subject st m d f x o c y (b .after y l k))
+
+-- What the facts of the object x add to column c is added by the places i .. e of an index where these stand.
+pub object-sum : (st : List ℕ) (m : ℕ) (r f ix : List ℕ) (n x c i e : ℕ) (g : ℕ → ℕ) → ((h : ℕ → ℕ) → sumAt h ix n ≡ sumTo h n) → i ≤ e → e ≤ n
+    → ((a : ℕ) → a < i → ¬ (objectAt f (getD ix a 0) ≡ x)) → ((a : ℕ) → i ≤ a → a < e → objectAdds st m r f x c (getD ix a 0) ≡ g a) → ((a : ℕ) → e ≤ a → a < n → ¬ (objectAt f (getD ix a 0) ≡ x))
+    → sumTo (objectAdds st m r f x c) n + sumTo g i ≡ sumTo g e
+object-sum st m r f ix n x c i e g p low high before within after =
+    omega (
+      arith,
+      p (objectAdds st m r f x c),
+      sumAt-is (objectAdds st m r f x c) ix n,
+      sum-range (λ a. objectAdds st m r f x c (getD ix a 0)) g i e n low high
+          (λ a l. object-adds-not st m 0 r r f x c (getD ix a 0) (before a l)) within (λ a l h. object-adds-not st m 0 r r f x c (getD ix a 0) (after a l h)),
+    )
 
 -- One bit or another.
 either-iff : (a b : ℕ) → (either a b ≡ 1) ↔ ((a ≡ 1) ⊎ (b ≡ 1))
@@ -259,6 +284,7 @@ either-iff a b = (
   λ z. cond-elim (λ (k : ℕ). k ≡ 1) (eqb a 1) (λ _. refl) (λ n. ⊎-elim (λ e. absurd (eqb-false _ _ n e)) (λ q. q) z),
 )
 
+-- Either of two bits is a bit.
 either-le : (a b : ℕ) → b ≤ 1 → either a b ≤ 1
 either-le a b l = cond-elim (λ (k : ℕ). k ≤ 1) (eqb a 1) (λ _. omega arith) (λ _. l)
 
@@ -283,29 +309,33 @@ support-sum S f t =
 
 -- ---- what each fact adds
 
+-- No statement starts at the node of rdf:type.
+pub no-type : (st : List ℕ) → WellFormed isAllowedStatement mostStatements st → (i : ℕ) → i < count st → ¬ (subjectNode st i ≡ propertyNode 1)
+no-type st w i l e =
+    by-cases (ℕ-discrete (getD st (i * 3 + 2) 0) 2)
+    (λ q. omega (arith, subject-class-node st i q, statements-are st w .small i l))
+    (λ n. not-vocabulary (statements-plain st w (rowAt st i) (row-member isAllowedStatement mostStatements st w i l) .0)
+    (omega (arith, subject-property-node st i n, row-subject st i)) (omega (arith, subject-property-node st i n, row-subject st i)))
+
 -- The compiled statements, and a table of facts.
 module _ (st col d r f : List ℕ) (ns nc : ℕ) (w : WellFormed isAllowedStatement mostStatements st) (v : WellFormed isAllowedFact mostFacts f) (k : Compiled st (count st) col ns nc d r) where
-  -- No statement starts at the node of rdf:type.
-  no-type : (i : ℕ) → i < count st → ¬ (subjectNode st i ≡ propertyNode 1)
-  no-type i l e =
-      by-cases (ℕ-discrete (getD st (i * 3 + 2) 0) 2)
-      (λ q. omega (arith, subject-class-node st i q, k .statements .small i l))
-      (λ n. not-vocabulary (statements-plain st w (rowAt st i) (row-member isAllowedStatement mostStatements st w i l) .0)
-      (omega (arith, subject-property-node st i n, row-subject st i)) (omega (arith, subject-property-node st i n, row-subject st i)))
-
   -- The bits of nodes.
   domain-iff : (x c : ℕ) → c < ns → (nodeBit st (count st) d x c ≡ 1) ↔ (Plus (edges st 4 (count st)) x (getD col c 0) × (¬ (x ≡ getD col c 0)))
   domain-iff x c l = node-bit-iff st col d ns c (λ a b. Plus (edges st 4 (count st)) a b × (¬ (a ≡ b))) l (count st) x (k .domains) (λ p. walk-start st 4 (count st) x (getD col c 0) (p .0))
 
+  -- The same for the square of ranges.
   range-iff : (x c : ℕ) → c < ns → (nodeBit st (count st) r x c ≡ 1) ↔ Plus (edges st 5 (count st)) x (getD col c 0)
   range-iff x c l = node-bit-iff st col r ns c (Plus (edges st 5 (count st))) l (count st) x (k .ranges) (walk-start st 5 (count st) x (getD col c 0))
 
+  -- The bit of a node is 0 or 1,
   domain-le : (x c : ℕ) → c < ns → nodeBit st (count st) d x c ≤ 1
   domain-le x c l = node-bit-le st col d ns c (λ a b. ℕ) l (count st) x (λ i h. k .domain-bits i c h l)
 
+  -- in both squares.
   range-le : (x c : ℕ) → c < ns → nodeBit st (count st) r x c ≤ 1
   range-le x c l = node-bit-le st col r ns c (λ a b. ℕ) l (count st) x (λ i h. k .range-bits i c h l)
 
+  -- So is what a fact adds.
   own-le : (x c y : ℕ) → c < ns → ownBit st (count st) nc d r f x c y ≤ 1
   own-le x c y l =
       by-cases (ℕ-discrete (propertyAt f y) 1)
@@ -323,6 +353,7 @@ module _ (st col d r f : List ℕ) (ns nc : ℕ) (w : WellFormed isAllowedStatem
       (λ e. omega (arith, subject-adds st (count st) nc d r f x c y e, own-le x c y l))
       (λ n. omega (arith, subject-adds-not st (count st) nc d r f x c y n))
 
+  -- The same for the object,
   pub object-adds-le : (x c y : ℕ) → c < ns → objectAdds st (count st) r f x c y ≤ 1
   object-adds-le x c y l =
       by-cases (ℕ-discrete (subjectAt f y) x)
@@ -331,6 +362,7 @@ module _ (st col d r f : List ℕ) (ns nc : ℕ) (w : WellFormed isAllowedStatem
       (λ e. omega (arith, object-adds st (count st) nc d r f x c y e n, range-le (propertyNode (propertyAt f y)) c l))
       (λ z. omega (arith, object-adds-not st (count st) nc d r f x c y z)))
 
+  -- and for a property.
   pub property-adds-le : (x o c y : ℕ) → c < ns → propertyAdds st (count st) d f x o c y ≤ 1
   property-adds-le x o c y l =
       by-cases (ℕ-discrete (subjectAt f y) x)
@@ -346,7 +378,7 @@ module _ (st col d r f : List ℕ) (ns nc : ℕ) (w : WellFormed isAllowedStatem
       (λ e. by-cases (ℕ-discrete (objectAt f y) o)
       (λ q. by-cases (ℕ-discrete (propertyAt f y) 1)
       (λ p. let z : propertyNode (propertyAt f y) ≡ propertyNode 1 = ap propertyNode p in
-      omega (arith, property-adds st (count st) d f x o c y e q, ap (λ (n : ℕ). nodeBit st (count st) d n c) z, absent-node st d c (count st) (propertyNode 1) no-type))
+      omega (arith, property-adds st (count st) d f x o c y e q, ap (λ (n : ℕ). nodeBit st (count st) d n c) z, absent-node st d c (count st) (propertyNode 1) (no-type st w)))
       (λ p. omega (
         arith,
         property-adds st (count st) d f x o c y e q,
@@ -357,60 +389,13 @@ module _ (st col d r f : List ℕ) (ns nc : ℕ) (w : WellFormed isAllowedStatem
       (λ n. omega (arith, property-adds-object st (count st) d f x o c y n)))
       (λ n. omega (arith, property-adds-subject st (count st) d f x o c y n))
 
-  -- ---- for the loops: what is added is the bit of the row of the fact's group
-
-  domain-found : (n g c : ℕ) → c < ns → Found (subjectNode st) (count st) n g → g < count st → nodeBit st (count st) d n c ≡ at d g c
-  domain-found n g c l h q = node-bit-found st col d ns c (λ a b. Plus (edges st 4 (count st)) a b × (¬ (a ≡ b))) l (count st) n g (k .domains) (λ i z. k .domain-bits i c z l) h q
-
-  range-found : (n g c : ℕ) → c < ns → Found (subjectNode st) (count st) n g → g < count st → nodeBit st (count st) r n c ≡ at r g c
-  range-found n g c l h q = node-bit-found st col r ns c (Plus (edges st 5 (count st))) l (count st) n g (k .ranges) (λ i z. k .range-bits i c z l) h q
-
-  -- A typing of the subject x, or a fact of another object: row g of the square of domains.
-  pub subject-adds-type : (x y g c : ℕ) → c < ns → subjectAt f y ≡ x → propertyAt f y ≡ 1 → Found (subjectNode st) (count st) (objectAt f y) g → g < count st → subjectAdds st (count st) nc d r f x c y ≡ at d g c
-  subject-adds-type x y g c l s p h q =
-      subject-adds st (count st) nc d r f x c y s ∙ own-type st (count st) nc d r f x c y p ∙ ap (λ (n : ℕ). nodeBit st (count st) d n c) (start-type f y p) ∙ domain-found (objectAt f y) g c l h q
-
-  pub subject-adds-single : (x y g c : ℕ) → c < ns → subjectAt f y ≡ x → ¬ (propertyAt f y ≡ 1) → ¬ (objectAt f y ≡ x) → Found (subjectNode st) (count st) (propertyNode (propertyAt f y)) g → g < count st → subjectAdds st (count st) nc d r f x c y ≡ at d g c
-  subject-adds-single x y g c l s p o h q =
-      subject-adds st (count st) nc d r f x c y s ∙ own-single st (count st) nc d r f x c y o ∙ ap (λ (n : ℕ). nodeBit st (count st) d n c) (start-other f y p) ∙ domain-found (propertyNode (propertyAt f y)) g c l h q
-
-  -- A fact of the subject x and the object x: row g of either square for a class,
-  pub subject-adds-both : (x y g c : ℕ) → c < nc → subjectAt f y ≡ x → ¬ (propertyAt f y ≡ 1) → objectAt f y ≡ x → Found (subjectNode st) (count st) (propertyNode (propertyAt f y)) g → g < count st → subjectAdds st (count st) nc d r f x c y ≡ either (at d g c) (at r g c)
-  subject-adds-both x y g c l s p o h q =
-      let z : c < ns = omega (arith, k .few) in
-      subject-adds st (count st) nc d r f x c y s ∙ own-both st (count st) nc d r f x c y p o l
-      ∙ ap (λ (n : ℕ). either (nodeBit st (count st) d n c) (nodeBit st (count st) r n c)) (start-other f y p)
-      ∙ (rw (domain-found (propertyNode (propertyAt f y)) g c z h q, range-found (propertyNode (propertyAt f y)) g c z h q) refl)
-
-  -- and of the square of domains for a property.
-  pub subject-adds-property : (x y g c : ℕ) → nc ≤ c → c < ns → subjectAt f y ≡ x → ¬ (propertyAt f y ≡ 1) → Found (subjectNode st) (count st) (propertyNode (propertyAt f y)) g → g < count st → subjectAdds st (count st) nc d r f x c y ≡ at d g c
-  subject-adds-property x y g c b l s p h q =
-      subject-adds st (count st) nc d r f x c y s ∙ own-property st (count st) nc d r f x c y b ∙ ap (λ (n : ℕ). nodeBit st (count st) d n c) (start-other f y p) ∙ domain-found (propertyNode (propertyAt f y)) g c l h q
-
-  -- A fact whose node has no statement adds nothing.
-  pub subject-adds-none : (x y g c : ℕ) → c < ns → subjectAt f y ≡ x → Found (subjectNode st) (count st) (startNode f y) g → count st ≤ g → subjectAdds st (count st) nc d r f x c y ≡ 0
-  subject-adds-none x y g c l s h q =
-      let a : nodeBit st (count st) d (startNode f y) c ≡ 0 = node-bit-none st d c (count st) (startNode f y) g h q in
-      let b : nodeBit st (count st) r (startNode f y) c ≡ 0 = node-bit-none st r c (count st) (startNode f y) g h q in
-      subject-adds st (count st) nc d r f x c y s
-      ∙ by-cases (ℕ-discrete (propertyAt f y) 1)
-      (λ e. own-type st (count st) nc d r f x c y e ∙ a)
-      (λ n. by-cases (ℕ-discrete (objectAt f y) x)
-      (λ e. by-cases (decLt c nc) (λ z. own-both st (count st) nc d r f x c y n e z ∙ (rw (a, b) refl)) (λ z. own-property st (count st) nc d r f x c y (omega arith) ∙ a))
-      (λ z. own-single st (count st) nc d r f x c y z ∙ a))
-
-  -- A fact of the object x and another subject: row g of the square of ranges, or nothing.
-  pub object-adds-found : (x y g c : ℕ) → c < ns → objectAt f y ≡ x → ¬ (subjectAt f y ≡ x) → Found (subjectNode st) (count st) (propertyNode (propertyAt f y)) g → g < count st → objectAdds st (count st) r f x c y ≡ at r g c
-  object-adds-found x y g c l o s h q = object-adds st (count st) nc d r f x c y o s ∙ range-found (propertyNode (propertyAt f y)) g c l h q
-
-  pub object-adds-none : (x y g c : ℕ) → objectAt f y ≡ x → ¬ (subjectAt f y ≡ x) → Found (subjectNode st) (count st) (propertyNode (propertyAt f y)) g → count st ≤ g → objectAdds st (count st) r f x c y ≡ 0
-  object-adds-none x y g c o s h q = object-adds st (count st) nc d r f x c y o s ∙ node-bit-none st r c (count st) (propertyNode (propertyAt f y)) g h q
-
   -- ---- the bits are what the facts carry
 
+  -- What a fact leads to by domains,
   domain-own : (y c : ℕ) → c < ns → (nodeBit st (count st) d (startNode f y) c ≡ 1) ↔ (Plus (edges st 4 (count st)) (key (rowAt f y)) (getD col c 0) × (¬ (key (rowAt f y) ≡ getD col c 0)))
   domain-own y c l = rw (start-key f y) (domain-iff (key (rowAt f y)) c l)
 
+  -- and by ranges.
   range-own : (y c : ℕ) → c < ns → (nodeBit st (count st) r (propertyNode (propertyAt f y)) c ≡ 1) ↔ Plus (edges st 5 (count st)) (propertyNode (rowAt f y .property)) (getD col c 0)
   range-own y c l = rw (row-property f y) (range-iff (propertyNode (propertyAt f y)) c l)
 
@@ -418,13 +403,16 @@ module _ (st col d r f : List ℕ) (ns nc : ℕ) (w : WellFormed isAllowedStatem
   Ranged : ℕ → ℕ → ℕ → Type 0
   Ranged x c y = (isLiteral (rowAt f y .object) ≡ false) × (¬ (rowAt f y .property ≡ 1)) × (x ≡ rowAt f y .object) × Plus (edges st 5 (count st)) (propertyNode (rowAt f y .property)) (getD col c 0)
 
+  -- A fact that is no typing.
   not-typing : (y : ℕ) → ¬ (propertyAt f y ≡ 1) → ¬ (rowAt f y .property ≡ 1)
   not-typing y n e = n (sym (row-property f y) ∙ e)
 
+  -- The bit in the square of ranges says so.
   ranged : (x c y : ℕ) → c < ns → isLiteral x ≡ false → objectAt f y ≡ x → ¬ (propertyAt f y ≡ 1) → nodeBit st (count st) r (propertyNode (propertyAt f y)) c ≡ 1 → Ranged x c y
   unfolding Ranged
   ranged x c y l p o n b = let e : rowAt f y .object ≡ x = row-object f y ∙ o in (ap isLiteral e ∙ p, not-typing y n, sym e, range-own y c l .0 b)
 
+  -- What a fact of the subject x adds to the column of a class.
   own-iff : (x c y : ℕ) (l : y < count f) → c < nc → isLiteral x ≡ false
       → (ownBit st (count st) nc d r f x c y ≡ 1)
       ↔ Own (rows st) (rowAt f y) (statements-small st w) (statements-plain st w) (fact-words f v y l .object-small) (edges st 4 (count st)) (edges st 5 (count st)) (edges-are st w 4 (inl refl)) (edges-are st w 5 (inr refl)) x (getD col c 0)
@@ -463,6 +451,7 @@ module _ (st col d r f : List ℕ) (ns nc : ℕ) (w : WellFormed isAllowedStatem
       back (inl a) = left (domain-own y c lt .1 a)
       back (inr z) = right z
 
+  -- What a fact of another subject adds to it.
   other-iff : (x c y : ℕ) → c < ns → isLiteral x ≡ false → ¬ (subjectAt f y ≡ x) → (objectAdds st (count st) r f x c y ≡ 1) ↔ Ranged x c y
   unfolding Ranged
   other-iff x c y l p s = (fore, λ z. object-adds st (count st) nc d r f x c y (sym (row-object f y) ∙ sym (z .2)) s ∙ range-own y c l .1 (z .3))
@@ -472,9 +461,10 @@ module _ (st col d r f : List ℕ) (ns nc : ℕ) (w : WellFormed isAllowedStatem
           by-cases (ℕ-discrete (objectAt f y) x)
           (λ e.
           let h : nodeBit st (count st) r (propertyNode (propertyAt f y)) c ≡ 1 = sym (object-adds st (count st) nc d r f x c y e s) ∙ b in
-          ranged x c y l p e (λ q. omega (arith, absent-node st r c (count st) (propertyNode 1) no-type, ap (λ (z : ℕ). nodeBit st (count st) r (propertyNode z) c) q)) h)
+          ranged x c y l p e (λ q. omega (arith, absent-node st r c (count st) (propertyNode 1) (no-type st w), ap (λ (z : ℕ). nodeBit st (count st) r (propertyNode z) c) q)) h)
           (λ n. absurd (omega (arith, object-adds-not st (count st) nc d r f x c y n)))
 
+  -- What any fact adds to the support of x 1 c.
   class-bit : (x c y : ℕ) → c < nc → isLiteral x ≡ false → y < count f
       → among (triple x 1 (getD col c 0)) (carried (rows st) (rowAt f y)) ≡ explicitAt f x 1 (getD col c 0) y + (subjectAdds st (count st) nc d r f x c y + objectAdds st (count st) r f x c y)
   unfolding Ranged
@@ -507,6 +497,7 @@ module _ (st col d r f : List ℕ) (ns nc : ℕ) (w : WellFormed isAllowedStatem
       ∙ sum-add (λ y. among (triple x 1 (getD col c 0)) (carried (rows st) (rowAt f y))) (explicitAt f x 1 (getD col c 0)) (λ y. subjectAdds st (count st) nc d r f x c y + objectAdds st (count st) r f x c y) (count f) (λ y l. class-bit x c y lc p l)
       ∙ ap (λ (n : ℕ). sumTo (explicitAt f x 1 (getD col c 0)) (count f) + n) (sum-add (λ y. subjectAdds st (count st) nc d r f x c y + objectAdds st (count st) r f x c y) (subjectAdds st (count st) nc d r f x c) (objectAdds st (count st) r f x c) (count f) (λ y l. refl))
 
+  -- What a fact adds to a row of a property.
   led-iff : (x q o c y : ℕ) (l : y < count f) → c < ns → getD col c 0 ≡ propertyNode q
       → (propertyAdds st (count st) d f x o c y ≡ 1)
       ↔ Led (rows st) (rowAt f y) (statements-small st w) (statements-plain st w) (fact-words f v y l .object-small) (edges st 4 (count st)) (edges st 5 (count st)) (edges-are st w 4 (inl refl)) (edges-are st w 5 (inr refl)) x q o
@@ -518,7 +509,7 @@ module _ (st col d r f : List ℕ) (ns nc : ℕ) (w : WellFormed isAllowedStatem
           (λ s. by-cases (ℕ-discrete (objectAt f y) o)
           (λ h.
           let g : nodeBit st (count st) d (propertyNode (propertyAt f y)) c ≡ 1 = sym (property-adds st (count st) d f x o c y s h) ∙ b in
-          let n : ¬ (propertyAt f y ≡ 1) = λ z. omega (arith, absent-node st d c (count st) (propertyNode 1) no-type, ap (λ (j : ℕ). nodeBit st (count st) d (propertyNode j) c) z) in
+          let n : ¬ (propertyAt f y ≡ 1) = λ z. omega (arith, absent-node st d c (count st) (propertyNode 1) (no-type st w), ap (λ (j : ℕ). nodeBit st (count st) d (propertyNode j) c) z) in
           let p = domain-own y c lc .0 (ap (λ (j : ℕ). nodeBit st (count st) d j c) (start-other f y n) ∙ g) in
           (sym (row-subject f y ∙ s), sym (row-object f y ∙ h), rw e at (p .0), λ z. p .1 (z ∙ sym e)))
           (λ n. absurd (omega (arith, property-adds-object st (count st) d f x o c y n))))
@@ -532,6 +523,7 @@ module _ (st col d r f : List ℕ) (ns nc : ℕ) (w : WellFormed isAllowedStatem
           ∙ ap (λ (j : ℕ). nodeBit st (count st) d j c) (sym (start-other f y n))
           ∙ domain-own y c lc .1 (p, λ h. z .3 (h ∙ e))
 
+  -- What any fact adds to the support of x q o.
   property-bit : (x q o c y : ℕ) → ¬ (q ≡ 1) → c < ns → getD col c 0 ≡ propertyNode q → y < count f
       → among (triple x q o) (carried (rows st) (rowAt f y)) ≡ explicitAt f x q o y + propertyAdds st (count st) d f x o c y
   property-bit x q o c y n lc e l =
@@ -595,6 +587,7 @@ module _ (st col d r f : List ℕ) (ns nc : ℕ) (w : WellFormed isAllowedStatem
       support-sum (rows st) f (triple x 1 o)
       ∙ sum-ext (λ y. among (triple x 1 o) (carried (rows st) (rowAt f y))) (explicitAt f x 1 o) (count f) (λ y l. class-bit-none x o y n l)
 
+  -- A property that is no column is given by explicit facts alone.
   property-bit-none : (x q o y : ℕ) → ¬ (q ≡ 1) → ((c : ℕ) → nc ≤ c → c < ns → ¬ (getD col c 0 ≡ propertyNode q)) → y < count f → among (triple x q o) (carried (rows st) (rowAt f y)) ≡ explicitAt f x q o y
   property-bit-none x q o y k1 n l =
       omega (

@@ -1,14 +1,15 @@
 -- What the loops over a row of a square do. Assumes nothing.
-use mathlib.Core.Path.{_≡_, refl, sym, ap, _∙_}
-use mathlib.Core.List.{List, [], _∷_}
+use mathlib.Core.Path.{_≡_, refl, sym, _∙_}
+use mathlib.Core.List.{List}
 use mathlib.Core.Logic.{_↔_, _⊎_, inl, inr, ⊎-elim, by-cases}
 use Prim.Native.Nat.{ℕ, _+_, _*_, _≤_, _<_}
 use native.Mathlib.Omega.{arith}
 use native.Mathlib.Decide.{ℕ-discrete, decLt}
-use lib.ListN.{length, getD, set, length-set}
+use lib.ListN.{length, getD, set}
 use lib.Seq.{getD-set-same, getD-set-other}
 use Rattle.schema.specs.Squares.{at, Bits, United, Gained}
 
+-- No column was done yet.
 pub united-start : (sq gain : List ℕ) (a : ℕ) → United sq sq gain a 0
 united-start sq gain a = record { hit = λ c h g. absurd (omega arith); miss = λ c h n. refl; past = λ c h k. refl; other = λ i c h n. refl }
 
@@ -35,15 +36,17 @@ united-bits sq₀ sq gain a k u b i c l =
     (λ n. omega (arith, u .miss c l n, b a c l))))
     (λ n. omega (arith, u .other i c l n, b i c l))
 
--- in the rows below i that lead, gain was united; the rest is as before
+-- In the rows below i that lead, gain was united; the rest is as before.
 pub record Spread (sq₀ sq gain : List ℕ) (leads : ℕ → Type 0) (ns i : ℕ) : Type 0 where
   pub bits : Bits sq₀ → Bits sq
   pub done : (j c : ℕ) → j < i → c < ns → (at sq j c ≡ 1) ↔ ((at sq₀ j c ≡ 1) ⊎ (leads j × (getD gain c 0 ≡ 1)))
   pub rest : (j c : ℕ) → i ≤ j → c < 512 → at sq j c ≡ at sq₀ j c
 
+-- No row was done yet.
 pub spread-start : (sq gain : List ℕ) (leads : ℕ → Type 0) (ns : ℕ) → Spread sq sq gain leads ns 0
 spread-start sq gain leads ns = record { bits = λ b. b; done = λ j c h l. absurd (omega arith); rest = λ j c h l. refl }
 
+-- The next row leads there and was united with gain.
 pub spread-yes : (sq₀ sq sq' gain : List ℕ) (leads : ℕ → Type 0) (ns i : ℕ) → ns ≤ 512 → Spread sq₀ sq gain leads ns i → leads i → United sq sq' gain i ns → Spread sq₀ sq' gain leads ns (i + 1)
 spread-yes sq₀ sq sq' gain leads ns i le g yes' u =
     record {
@@ -59,6 +62,7 @@ spread-yes sq₀ sq sq' gain leads ns i le g yes' u =
           λ z. by-cases (ℕ-discrete (getD gain c 0) 1) (λ q. u .hit c l q) (λ n. ⊎-elim (λ o. u .miss c (omega arith) n ∙ old ∙ o) (λ w. absurd (n (w .1))) z),
         )
 
+-- The next row does not lead there.
 pub spread-no : (sq₀ sq gain : List ℕ) (leads : ℕ → Type 0) (ns i : ℕ) → ns ≤ 512 → Spread sq₀ sq gain leads ns i → ¬ leads i → Spread sq₀ sq gain leads ns (i + 1)
 spread-no sq₀ sq gain leads ns i le g none =
     record {
@@ -72,6 +76,7 @@ spread-no sq₀ sq gain leads ns i le g none =
         let old : at sq i c ≡ at sq₀ i c = g .rest i c (omega arith) (omega arith) in
         (λ h. inl (sym old ∙ h), λ z. ⊎-elim (λ o. old ∙ o) (λ w. absurd (none (w .0))) z)
 
+-- One column more.
 pub gained-more : (sq gain : List ℕ) (go m so k v : ℕ) → Gained sq gain go m so k → k < length gain → ((v ≡ 1) ↔ ((k ≡ so) ⊎ ((go < m) × (at sq go k ≡ 1)))) → Gained sq (set gain k v) go m so (k + 1)
 gained-more sq gain go m so k v g l h c lc =
     by-cases (ℕ-discrete c k)

@@ -1,5 +1,5 @@
 -- Laws of sums over places. Assumes nothing.
-use mathlib.Core.Path.{_≡_, refl, sym, ap, _∙_}
+use mathlib.Core.Path.{_≡_, refl}
 use mathlib.Core.List.{List}
 use mathlib.Core.Logic.{by-cases}
 use Prim.Native.Nat.{ℕ, zero, suc, _+_, _≤_, _<_}
@@ -89,6 +89,6 @@ unfolding sumTo sumAt
 sumAt-is h ix zero = refl
 sumAt-is h ix (suc n) = omega (arith, sumAt-is h ix n)
 
--- Terms that are 0 before i and from e on add only there.
-pub sum-block : (h : ℕ → ℕ) (i e n : ℕ) → e ≤ n → ((y : ℕ) → y < i → h y ≡ 0) → ((y : ℕ) → e ≤ y → y < n → h y ≡ 0) → (sumTo h i ≡ 0) × (sumTo h n ≡ sumTo h e)
-sum-block h i e n le a b = (sum-zero h i a, sum-rest h e n le b)
+-- Terms that are 0 before i and from e on, and between as those of g, add what those add there.
+pub sum-range : (h g : ℕ → ℕ) (i e n : ℕ) → i ≤ e → e ≤ n → ((y : ℕ) → y < i → h y ≡ 0) → ((y : ℕ) → i ≤ y → y < e → h y ≡ g y) → ((y : ℕ) → e ≤ y → y < n → h y ≡ 0) → sumTo h n + sumTo g i ≡ sumTo g e
+sum-range h g i e n l k a b c = omega (arith, sum-zero h i a, sum-between h g i e l b, sum-rest h e n k c)

@@ -1,17 +1,17 @@
 -- What well-formed tables of statements and of facts say of their words. Assumes nothing.
 use mathlib.Core.Path.{_≡_, refl, sym, ap, _∙_}
-use mathlib.Core.Bool.{Bool, true, false, _&&_, _||_}
-use mathlib.Core.List.{List, [], _∷_, List·Memᴰ, Memᴰ·cast}
-use mathlib.Core.Logic.{_⊎_, inl, inr, ⊎-elim, by-cases}
+use mathlib.Core.Bool.{Bool, true, false, _&&_}
+use mathlib.Core.List.{List, List·Memᴰ, Memᴰ·cast}
+use mathlib.Core.Logic.{_⊎_, ⊎-elim, by-cases}
 use Prim.Native.Nat.{ℕ, _+_, _*_, _/_, _^_, _≤_, _<_}
 use native.Mathlib.Omega.{arith}
 use native.Mathlib.Decide.{ℕ-discrete}
 use lib.ListN.{length, getD}
-use lib.Dec.{eqb, leb}
+use lib.Dec.{leb}
 use borrow.Author.Tests.{eqb-true, leb-true, eq-eqb, ne-eqb}
 use Rattle.rdf.specs.declared.Triple.{Triple}
 use Rattle.rdf.specs.Term.{isUri, isBlank, isLiteral}
-use Rattle.rdf.specs.Triple.{triple, isResource, isTriple, isStatement, areSidesAllowed, isAllowedStatement, isAllowedFact}
+use Rattle.rdf.specs.Triple.{triple, isResource, isTriple, isStatement, isAllowedStatement, isAllowedFact}
 use Rattle.rdf.specs.Order.{triple-eq, Less, by-subject, by-property, by-object}
 use Rattle.rdf.proofs.Order.{of-subject, of-property, of-object}
 use Rattle.rdf.proofs.Lists.{or-cases, true-not-false}
@@ -26,7 +26,7 @@ use Rattle.rdfs.proofs.Entailment.{allowed-no-vocabulary, allowed-fact}
 use Rattle.schema.specs.Walks.{Edge}
 use Rattle.schema.specs.Nodes.{propertyNode, subjectNode, objectNode, applies, edges}
 use Rattle.schema.specs.Groups.{rankAt, Statements}
-use Rattle.schema.proofs.Closing.{Of, edges-of, edges-in, applies-two, applies-three, applies-via, subject-class-node, subject-property-node, object-class-node, object-property-node}
+use Rattle.schema.proofs.Closing.{edges-of, edges-in, applies-two, applies-three, applies-via, subject-class-node, subject-property-node, object-class-node, object-property-node}
 use Rattle.schema.proofs.Meaning.{Link, sub-class, sub-property, typing, Edges, Small}
 
 -- ---- the words of triples
@@ -36,6 +36,12 @@ uri-small : (w : ℕ) → isUri w ≡ true → w < 2 ^ 32
 unfolding isUri
 uri-small w e = omega (arith, eqb-true (w / 2 ^ 30) 0 (and-left _ _ e))
 
+-- A URI is not 0.
+pub uri-term : (w : ℕ) → isUri w ≡ true → 1 ≤ w
+unfolding isUri
+uri-term w e = by-cases (ℕ-discrete w 0) (λ z. absurd (true-not-false (sym e ∙ (rw z refl)))) (λ n. omega arith)
+
+-- A literal too is a word below 2 ^ 32.
 literal-small : (w : ℕ) → isLiteral w ≡ true → w < 2 ^ 32
 unfolding isLiteral
 literal-small w e = omega (arith, eqb-true (w / 2 ^ 30) 2 (and-left _ _ e))
@@ -54,10 +60,13 @@ resource-below w e = ⊎-elim (λ u. omega (arith, eqb-true (w / 2 ^ 30) 0 (and-
 pub record Words (t : Triple) : Type 0 where
   pub subject-below : t .subject < 2 ^ 31
   pub subject-plain : isLiteral (t .subject) ≡ false
+  pub property-term : 1 ≤ t .property
   pub property-small : t .property < 2 ^ 32
   pub object-small : t .object < 2 ^ 32
   pub object-below : isLiteral (t .object) ≡ false → t .object < 2 ^ 31
+  pub object-literal : 2 ^ 31 ≤ t .object → isLiteral (t .object) ≡ true
 
+-- A triple has such words.
 pub triple-words : (t : Triple) → isTriple t ≡ true → Words t
 unfolding isTriple
 triple-words t e =
@@ -67,16 +76,27 @@ triple-words t e =
     record {
       subject-below = s;
       subject-plain = plain-below (t .subject) s;
+      property-term = uri-term (t .property) (and-right (isResource (t .subject)) _ h);
       property-small = uri-small (t .property) (and-right (isResource (t .subject)) _ h);
       object-small = ⊎-elim (λ r. omega (arith, resource-below (t .object) r)) (literal-small (t .object)) o;
       object-below = λ n. ⊎-elim (resource-below (t .object)) (λ l. absurd (true-not-false (sym l ∙ n))) o;
+      object-literal = λ n. ⊎-elim (λ r. absurd (omega (arith, resource-below (t .object) r))) (λ l. l) o;
     }
+
+-- No word of a triple is 0.
+pub object-term : (t : Triple) → isTriple t ≡ true → 1 ≤ t .object
+unfolding isTriple isUri isBlank isLiteral
+object-term t e =
+    by-cases (ℕ-discrete (t .object) 0)
+    (λ z. absurd (true-not-false (sym (and-right (isResource (t .subject) && isUri (t .property)) _ e) ∙ (rw z refl))))
+    (λ n. omega arith)
 
 -- An allowed statement is a triple, and its property is 2 to 5.
 pub statement-triple : (t : Triple) → isAllowedStatement t ≡ true → isTriple t ≡ true
 unfolding isAllowedStatement
 statement-triple t e = and-left _ _ e
 
+-- The property of an allowed statement.
 pub statement-kind : (t : Triple) → isAllowedStatement t ≡ true → (2 ≤ t .property) × (t .property ≤ 5)
 unfolding isAllowedStatement isStatement
 statement-kind t e =
@@ -85,15 +105,17 @@ statement-kind t e =
 
 -- ---- rows by number
 
--- The words of row i are its parts.
+-- The words of row i are its parts: its subject,
 pub row-subject : (ws : List ℕ) (i : ℕ) → rowAt ws i .subject ≡ getD ws (i * 3 + 1) 0
 unfolding rowAt
 row-subject ws i = refl
 
+-- its property,
 pub row-property : (ws : List ℕ) (i : ℕ) → rowAt ws i .property ≡ getD ws (i * 3 + 2) 0
 unfolding rowAt
 row-property ws i = let e : i * 3 + 1 + 1 ≡ i * 3 + 2 = omega arith in rw e
 
+-- and its object.
 pub row-object : (ws : List ℕ) (i : ℕ) → rowAt ws i .object ≡ getD ws (i * 3 + 3) 0
 unfolding rowAt
 row-object ws i = let e : i * 3 + 1 + 2 ≡ i * 3 + 3 = omega arith in rw e
@@ -128,6 +150,7 @@ record Stands (t u : Triple) : Type 0 where
   properties : t .subject ≡ u .subject → t .property ≤ u .property
   objects : t .subject ≡ u .subject → t .property ≡ u .property → t .object < u .object
 
+-- A lesser row stands so.
 stands : {t u : Triple} → Less t u → Stands t u
 stands (by-subject h) = record { subjects = omega arith; properties = λ e. absurd (omega arith); objects = λ e q. absurd (omega arith) }
 stands (by-property e h) = record { subjects = omega arith; properties = λ _. omega arith; objects = λ _ q. absurd (omega arith) }
@@ -159,18 +182,23 @@ fact-words f v y l = triple-words (rowAt f y) (allowed-fact (rowAt f y) (row-all
 -- ---- the statements
 
 module _ (st : List ℕ) (w : WellFormed isAllowedStatement mostStatements st) where
+  -- The words of a statement.
   words-of : (t : Triple) → List·Memᴰ t (rows st) → Words t
   words-of t m = triple-words t (statement-triple t (all-member isAllowedStatement (rows st) (w .each-allowed) m))
 
+  -- Their sides are words below 2 ^ 32,
   pub statements-small : Small (rows st)
   statements-small t m = let h = words-of t m in (omega (arith, h .subject-below), h .object-small)
 
+  -- and no vocabulary.
   pub statements-plain : NoVocabulary (rows st)
   statements-plain = allowed-no-vocabulary (rows st) (λ t m. all-member isAllowedStatement (rows st) (w .each-allowed) m)
 
+  -- Their properties, by number.
   kind-at : (i : ℕ) → i < count st → (2 ≤ getD st (i * 3 + 2) 0) × (getD st (i * 3 + 2) 0 ≤ 5)
   kind-at i l = rw (row-property st i) at (statement-kind (rowAt st i) (row-allowed isAllowedStatement mostStatements st w i l))
 
+  -- Lesser statements have no greater rank.
   rank-le : (i j : ℕ) → i < count st → Less (rowAt st i) (rowAt st j) → rankAt st i ≤ rankAt st j
   rank-le i j l (by-subject h) = omega (arith, row-subject st i, row-subject st j, kind-at i l .1)
   rank-le i j l (by-property e h) = omega (arith, row-subject st i, row-subject st j, row-property st i, row-property st j)
@@ -211,6 +239,7 @@ module _ (st : List ℕ) (w : WellFormed isAllowedStatement mostStatements st) w
     edge-at : (i s k o : ℕ) → i < count st → rowAt st i ≡ triple s k o → (getD st (i * 3 + 1) 0 ≡ s) × (getD st (i * 3 + 2) 0 ≡ k) × (getD st (i * 3 + 3) 0 ≡ o)
     edge-at i s k o l e = (sym (row-subject st i) ∙ of-subject e, sym (row-property st i) ∙ of-property e, sym (row-object st i) ∙ of-object e)
 
+    -- So each link is an edge.
     edge-of : {a b : ℕ} → Link (rows st) via a b → List·Memᴰ (a, b) (edges st via (count st))
     edge-of {a} {b} (sub-class c d m ea eb) =
         let r = member-row isAllowedStatement mostStatements st w m in
@@ -234,6 +263,7 @@ module _ (st : List ℕ) (w : WellFormed isAllowedStatement mostStatements st) w
         let y : b ≡ objectNode st (r .0) = eb ∙ sym (q .2) ∙ sym (object-class-node st (r .0) k) in
         rw (x, y) (edges-in st via (count st) (r .0) (r .1) (sym (applies-via st via (r .0) n k) ∙ eq-eqb _ _ (q .1)))
 
+    -- The edges are the links.
     pub edges-are : Edges (rows st) via (edges st via (count st))
     edges-are =
         record {

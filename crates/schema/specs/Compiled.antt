@@ -9,7 +9,7 @@ use lib.ListN.{getD}
 use lib.Dec.{eqb, ltb}
 use Rattle.schema.specs.Walks.{Plus}
 use Rattle.schema.specs.Nodes.{propertyNode, subjectNode, edges, Columns}
-use Rattle.schema.specs.Squares.{at, Bits, Marks, Closed}
+use Rattle.schema.specs.Squares.{at, Marks, Closed}
 use Rattle.schema.specs.Groups.{Statements}
 
 -- What the run over the subjects is given of the statements. The square of domains says what a subject leads to by 2, 3 and 4,
@@ -27,19 +27,22 @@ pub record Compiled (st : List ℕ) (m : ℕ) (col : List ℕ) (ns nc : ℕ) (d 
 
 -- The terms of the columns: of the classes, which come first, and of the properties, none of them rdf:type.
 pub record Keyed (col : List ℕ) (ns nc : ℕ) (key : List ℕ) : Type 0 where
+  pub small : (c : ℕ) → c < ns → getD key c 0 < 2 ^ 32
   pub class-term : (c : ℕ) → c < nc → getD key c 0 ≡ getD col c 0
   pub property-term : (c : ℕ) → nc ≤ c → c < ns → getD col c 0 ≡ propertyNode (getD key c 0)
   pub classes-rise : (c e : ℕ) → c < e → e < nc → getD key c 0 < getD key e 0
   pub properties-rise : (c e : ℕ) → nc ≤ c → c < e → e < ns → getD key c 0 < getD key e 0
-  pub not-type : (c : ℕ) → nc ≤ c → c < ns → ¬ (getD key c 0 ≡ 1)
+  pub not-type : (c : ℕ) → nc ≤ c → c < ns → 2 ≤ getD key c 0
 
--- The words of fact y.
+-- The subject of fact y,
 abbrev pub subjectAt : List ℕ → ℕ → ℕ
 subjectAt f y = getD f (y * 3 + 1) 0
 
+-- its property,
 abbrev pub propertyAt : List ℕ → ℕ → ℕ
 propertyAt f y = getD f (y * 3 + 2) 0
 
+-- and its object.
 abbrev pub objectAt : List ℕ → ℕ → ℕ
 objectAt f y = getD f (y * 3 + 3) 0
 

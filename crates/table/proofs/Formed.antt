@@ -93,6 +93,11 @@ isTable-wellFormed allowed most (n ∷ ws) e =
       within = rw long few;
     }
 
+-- A well-formed table is the layout of its rows.
+pub layout-rows : (allowed : Triple → Bool) (most : ℕ) (ws : List ℕ) → isTable allowed most ws ≡ true → ws ≡ layout (length ws) (rows ws)
+layout-rows allowed most ws e = isTable-wellFormed allowed most ws e .laid .is-layout
+
+-- Ascending, allowed rows within the limit, laid out with room for them, are a table.
 pub layout-isTable : (allowed : Triple → Bool) (most len : ℕ) (ts : List Triple) → length ts * 3 < len → length ts ≤ most → Ascending ts → all allowed ts ≡ true
     → isTable allowed most (layout len ts) ≡ true
 unfolding isTable layout

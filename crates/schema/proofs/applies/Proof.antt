@@ -1,3 +1,4 @@
+-- The word of the property decides.
 use borrow.Author.Needs.{needs}
 use Rattle.schema.proofs.Closing.{applies-two, applies-three, applies-via}
 use Rattle.schema.proofs.applies.Statement.{statement}
@@ -16,13 +17,15 @@ shared-slice-read-k : tie.Need-shared-slice-read-k
 shared-slice-read-k c = search needs
 
 returns : tie.Need-returns
-returns c = let s = c .before .before in applies-two (s .args .statements .now) _ _ (c .if1 .taken)
+returns c = let start = c .before .before in applies-two (start .args .statements .now) _ _ (c .if1 .taken)
 
 returns-2 : tie.Need-returns-2
-returns-2 c = let s = c .before .before .before in applies-three (s .args .statements .now) _ _ (c .before .if1 .left) (c .if2 .taken)
+returns-2 c =
+    let start = c .before .before .before in
+    applies-three (start .args .statements .now) _ _ (c .before .if1 .left) (c .if2 .taken)
 
 returns-3 : tie.Need-returns-3
-returns-3 c = let s = c .before .before .before in applies-via (s .args .statements .now) _ _ (c .before .if1 .left) (c .if2 .left)
+returns-3 c = let start = c .before .before .before in applies-via (start .args .statements .now) _ _ (c .before .if1 .left) (c .if2 .left)
 
 pub applies-spec : {M : Type 1} → statement M
 applies-spec =

@@ -1,3 +1,4 @@
+-- In the rows below i the bit of their own node is cleared.
 use borrow.Author.Needs.{needs}
 use mathlib.Core.Path.{_≡_, refl, _∙_}
 use Prim.Native.Nat.{_≤_, _-_, _+_, _*_}
@@ -16,7 +17,9 @@ abbrev μ-loop : tie.MeasureT-loop
 μ-loop st m col ns sq₀ i₀ sq i = m - i
 
 loop-holds : tie.Need-loop-holds Inv-loop μ-loop
-loop-holds c = let s = c .before .before .before in (search needs, refl, clear-start (s .args .statements .now) (s .args .columns .now) _ (s .args .square .now))
+loop-holds c =
+    let start = c .before .before .before in
+    (search needs, refl, clear-start (start .args .statements .now) (start .args .columns .now) _ (start .args .square .now))
 
 add-i : tie.Need-add-i Inv-loop μ-loop
 add-i c = search needs
@@ -40,19 +43,29 @@ loop-less : tie.Need-loop-less Inv-loop μ-loop
 loop-less c = search needs
 
 loop-again : tie.Need-loop-again Inv-loop μ-loop
-loop-again c = let l = c .before .before .before .before in let s = c .before .before .before .before .before .before .before .before in (omega arith, length-set (l .loop .square) (l .loop .i * 512 + c .before .column .result) 0 ∙ l .loop .inv .1, clear-set (s .args .statements .now) (s .args .columns .now) _ _ (l .loop .square) _ _ (s .pre .1) (omega arith) (l .loop .inv .2) (rw (← c .before .before .subject-node .ensures) (c .before .column .ensures)) (c .if1 .taken) (omega (arith, l .loop .inv .1)))
+loop-again c =
+    let after-subject-node = c .before .before in
+    let at-loop = after-subject-node .before .before in
+    let start = at-loop .before .before .before .before in
+    (omega arith, length-set (at-loop .loop .square) (at-loop .loop .i * 512 + c .before .column .result) 0 ∙ at-loop .loop .inv .1, clear-set (start .args .statements .now) (start .args .columns .now) _ _ (at-loop .loop .square) _ _ (start .pre .1) (omega arith) (at-loop .loop .inv .2) (rw (← after-subject-node .subject-node .ensures) (c .before .column .ensures)) (c .if1 .taken) (omega (arith, at-loop .loop .inv .1)))
 
 loop-less-2 : tie.Need-loop-less-2 Inv-loop μ-loop
 loop-less-2 c = search needs
 
 loop-again-2 : tie.Need-loop-again-2 Inv-loop μ-loop
-loop-again-2 c = let l = c .before .before .before .before in let s = c .before .before .before .before .before .before .before .before in (omega arith, l .loop .inv .1, clear-pass (s .args .statements .now) (s .args .columns .now) _ _ _ _ _ (l .loop .inv .2) (rw (← c .before .before .subject-node .ensures) (c .before .column .ensures)) (c .if1 .left))
+loop-again-2 c =
+    let after-subject-node = c .before .before in
+    let at-loop = after-subject-node .before .before in
+    let start = at-loop .before .before .before .before in
+    (omega arith, at-loop .loop .inv .1, clear-pass (start .args .statements .now) (start .args .columns .now) _ _ _ _ _ (at-loop .loop .inv .2) (rw (← after-subject-node .subject-node .ensures) (c .before .column .ensures)) (c .if1 .left))
 
 same-length : tie.Need-same-length Inv-loop μ-loop
-same-length c = let l = c .before in let s = c .before .before .before .before .before in l .loop .inv .1
+same-length c = c .before .loop .inv .1
 
 returns : tie.Need-returns Inv-loop μ-loop
-returns c = let l = c .before in let s = c .before .before .before .before .before in let e : l .loop .i ≡ s .args .m = omega arith in rw e at (l .loop .inv .2)
+returns c =
+    let start = c .before .before .before .before .before in
+    let e : c .before .loop .i ≡ start .args .m = omega arith in rw e at (c .before .loop .inv .2)
 
 pub clear-own-spec : {M : Type 1} → statement M
 clear-own-spec =

@@ -1,3 +1,4 @@
+-- The rows below i that lead to the node have gain; the others are as before.
 use borrow.Author.Needs.{needs}
 use mathlib.Core.Path.{_≡_, refl, _∙_}
 use Prim.Native.Nat.{_≤_, _-_}
@@ -22,28 +23,35 @@ add-i : tie.Need-add-i Inv-loop μ-loop
 add-i c = search needs
 
 leads-requires : tie.Need-leads-requires Inv-loop μ-loop
-leads-requires c κs = let l = c .before .before in let s = c .before .before .before .before .before .before in omega (arith, l .loop .inv .1)
+leads-requires c κs = let at-loop = c .before .before in omega (arith, at-loop .loop .inv .1)
 
 unite-requires : tie.Need-unite-requires Inv-loop μ-loop
-unite-requires c κs = let l = c .before .before .before .before .before in let s = c .before .before .before .before .before .before .before .before .before in omega (arith, l .loop .inv .1)
+unite-requires c κs = let at-loop = c .before .before .before .before .before in omega (arith, at-loop .loop .inv .1)
 
 loop-less : tie.Need-loop-less Inv-loop μ-loop
 loop-less c = search needs
 
 loop-again : tie.Need-loop-again Inv-loop μ-loop
-loop-again c = let l = c .before .before .before .before .before .before .before .before in let s = c .before .before .before .before .before .before .before .before .before .before .before .before in let u = c .before .before .unite in (omega arith, u .kept .0 ∙ l .loop .inv .1, spread-yes _ _ _ _ _ _ _ (omega arith) (l .loop .inv .2) (leads-old _ _ _ _ _ _ _ _ (omega arith) (l .loop .inv .2) .0 (c .before .before .before .before .before .leads .ensures .0 (c .before .before .before .before .if1 .taken))) (u .ensures))
+loop-again c =
+    let after-unite = c .before .before in
+    let at-if1 = after-unite .before .before in
+    let after-leads = at-if1 .before in
+    let at-loop = after-leads .before .before .before in
+    (omega arith, after-unite .unite .kept .0 ∙ at-loop .loop .inv .1, spread-yes _ _ _ _ _ _ _ (omega arith) (at-loop .loop .inv .2) (leads-old _ _ _ _ _ _ _ _ (omega arith) (at-loop .loop .inv .2) .0 (after-leads .leads .ensures .0 (at-if1 .if1 .taken))) (after-unite .unite .ensures))
 
 loop-less-2 : tie.Need-loop-less-2 Inv-loop μ-loop
 loop-less-2 c = search needs
 
 loop-again-2 : tie.Need-loop-again-2 Inv-loop μ-loop
-loop-again-2 c = let l = c .before .before .before .before in let s = c .before .before .before .before .before .before .before .before in (omega arith, l .loop .inv .1, spread-no _ _ _ _ _ _ (omega arith) (l .loop .inv .2) (λ z. c .before .leads .ensures .1 (c .if1 .left) (leads-old _ _ _ _ _ _ _ _ (omega arith) (l .loop .inv .2) .1 z)))
+loop-again-2 c =
+    let at-loop = c .before .before .before .before in
+    (omega arith, at-loop .loop .inv .1, spread-no _ _ _ _ _ _ (omega arith) (at-loop .loop .inv .2) (λ z. c .before .leads .ensures .1 (c .if1 .left) (leads-old _ _ _ _ _ _ _ _ (omega arith) (at-loop .loop .inv .2) .1 z)))
 
 same-length : tie.Need-same-length Inv-loop μ-loop
-same-length c = let l = c .before in let s = c .before .before .before .before .before in l .loop .inv .1
+same-length c = c .before .loop .inv .1
 
 returns : tie.Need-returns Inv-loop μ-loop
-returns c = let l = c .before in let s = c .before .before .before .before .before in record { bits = l .loop .inv .2 .bits; done = λ i k h g. l .loop .inv .2 .done i k (omega arith) g }
+returns c = record { bits = c .before .loop .inv .2 .bits; done = λ i k h g. c .before .loop .inv .2 .done i k (omega arith) g }
 
 pub close-statement-spec : {M : Type 1} → statement M
 close-statement-spec =

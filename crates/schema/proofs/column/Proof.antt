@@ -1,3 +1,4 @@
+-- No column before c is the node.
 use borrow.Author.Needs.{needs}
 use mathlib.Core.Path.{_≡_}
 use Prim.Native.Nat.{ℕ, _≤_, _-_, _<_}
@@ -23,7 +24,7 @@ shared-slice-read-if1 : tie.Need-shared-slice-read-if1 Inv-loop μ-loop
 shared-slice-read-if1 c = search needs
 
 returns : tie.Need-returns Inv-loop μ-loop
-returns c = let l = c .before .before .before in let s = c .before .before .before .before in found (omega arith) (c .if1 .taken)
+returns c = found (omega arith) (c .if1 .taken)
 
 add-c : tie.Need-add-c Inv-loop μ-loop
 add-c c = search needs
@@ -32,10 +33,13 @@ loop-less : tie.Need-loop-less Inv-loop μ-loop
 loop-less c = search needs
 
 loop-again : tie.Need-loop-again Inv-loop μ-loop
-loop-again c = let l = c .before .before .before in let s = c .before .before .before .before in (omega arith, absent-more (word (s .args .columns .now)) _ _ (l .loop .inv .1) (c .if1 .left))
+loop-again c =
+    let at-loop = c .before .before .before in
+    let start = at-loop .before in
+    (omega arith, absent-more (word (start .args .columns .now)) _ _ (at-loop .loop .inv .1) (c .if1 .left))
 
 returns-2 : tie.Need-returns-2 Inv-loop μ-loop
-returns-2 c = let l = c .before in let s = c .before .before in none (omega arith) (λ k h. l .loop .inv .1 k (omega arith))
+returns-2 c = none (omega arith) (λ k h. c .before .loop .inv .1 k (omega arith))
 
 pub column-spec : {M : Type 1} → statement M
 column-spec =

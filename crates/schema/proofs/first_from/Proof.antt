@@ -1,3 +1,4 @@
+-- The ranks before lo are below t, and those from hi on are not.
 use borrow.Author.Needs.{needs}
 use mathlib.Core.Path.{_≡_}
 use Prim.Native.Nat.{_-_, _+_, _/_}
@@ -23,7 +24,7 @@ add-mid : tie.Need-add-mid Inv-loop μ-loop
 add-mid c = search needs
 
 rank-requires : tie.Need-rank-requires Inv-loop μ-loop
-rank-requires c κs = let l = c .before in let s = c .before .before .before in omega (arith, s .pre .fit, l .loop .inv .top)
+rank-requires c κs = let start = c .before .before .before in omega (arith, start .pre .fit, c .before .loop .inv .top)
 
 add-lo : tie.Need-add-lo Inv-loop μ-loop
 add-lo c = search needs
@@ -32,16 +33,22 @@ loop-less : tie.Need-loop-less Inv-loop μ-loop
 loop-less c = search needs
 
 loop-again : tie.Need-loop-again Inv-loop μ-loop
-loop-again c = let l = c .before .before .before in let s = c .before .before .before .before .before in cut-up (s .args .statements .now) _ _ _ _ (l .loop .lo + (l .loop .hi - l .loop .lo) / 2) (s .pre) (l .loop .inv) (omega arith) (omega arith) (rw (c .before .rank .ensures) at (c .if1 .taken))
+loop-again c =
+    let at-loop = c .before .before .before in
+    let start = at-loop .before .before in
+    cut-up (start .args .statements .now) _ _ _ _ (at-loop .loop .lo + (at-loop .loop .hi - at-loop .loop .lo) / 2) (start .pre) (at-loop .loop .inv) (omega arith) (omega arith) (rw (c .before .rank .ensures) at (c .if1 .taken))
 
 loop-less-2 : tie.Need-loop-less-2 Inv-loop μ-loop
 loop-less-2 c = search needs
 
 loop-again-2 : tie.Need-loop-again-2 Inv-loop μ-loop
-loop-again-2 c = let l = c .before .before .before in let s = c .before .before .before .before .before in cut-down (s .args .statements .now) _ _ _ _ (l .loop .lo + (l .loop .hi - l .loop .lo) / 2) (s .pre) (l .loop .inv) (omega arith) (omega arith) (rw (c .before .rank .ensures) at (c .if1 .left))
+loop-again-2 c =
+    let at-loop = c .before .before .before in
+    let start = at-loop .before .before in
+    cut-down (start .args .statements .now) _ _ _ _ (at-loop .loop .lo + (at-loop .loop .hi - at-loop .loop .lo) / 2) (start .pre) (at-loop .loop .inv) (omega arith) (omega arith) (rw (c .before .rank .ensures) at (c .if1 .left))
 
 returns : tie.Need-returns Inv-loop μ-loop
-returns c = let l = c .before in let s = c .before .before .before in let e : l .loop .hi ≡ l .loop .lo = omega (arith, l .loop .inv .le) in rw e at (l .loop .inv)
+returns c = let e : c .before .loop .hi ≡ c .before .loop .lo = omega (arith, c .before .loop .inv .le) in rw e at (c .before .loop .inv)
 
 pub first-from-spec : {M : Type 1} → statement M
 first-from-spec =

@@ -1,3 +1,4 @@
+-- No statement before i starts at the node.
 use borrow.Author.Needs.{needs}
 use mathlib.Core.Path.{_≡_, sym, _∙_}
 use Prim.Native.Nat.{ℕ, _≤_, _-_, _<_}
@@ -20,7 +21,7 @@ subject-node-requires : tie.Need-subject-node-requires Inv-loop μ-loop
 subject-node-requires c κs = search needs
 
 returns : tie.Need-returns Inv-loop μ-loop
-returns c = let l = c .before .before .before in let s = c .before .before .before .before .before in found (omega arith) (sym (c .before .subject-node .ensures) ∙ c .if1 .taken)
+returns c = found (omega arith) (sym (c .before .subject-node .ensures) ∙ c .if1 .taken)
 
 add-i : tie.Need-add-i Inv-loop μ-loop
 add-i c = search needs
@@ -29,10 +30,13 @@ loop-less : tie.Need-loop-less Inv-loop μ-loop
 loop-less c = search needs
 
 loop-again : tie.Need-loop-again Inv-loop μ-loop
-loop-again c = let l = c .before .before .before in let s = c .before .before .before .before .before in (omega arith, absent-more (subjectNode (s .args .statements .now)) _ _ (l .loop .inv .1) (λ e. c .if1 .left (c .before .subject-node .ensures ∙ e)))
+loop-again c =
+    let at-loop = c .before .before .before in
+    let start = at-loop .before .before in
+    (omega arith, absent-more (subjectNode (start .args .statements .now)) _ _ (at-loop .loop .inv .1) (λ e. c .if1 .left (c .before .subject-node .ensures ∙ e)))
 
 returns-2 : tie.Need-returns-2 Inv-loop μ-loop
-returns-2 c = let l = c .before in let s = c .before .before .before in none (omega arith) (λ k h. l .loop .inv .1 k (omega arith))
+returns-2 c = none (omega arith) (λ k h. c .before .loop .inv .1 k (omega arith))
 
 pub first-statement-spec : {M : Type 1} → statement M
 first-statement-spec =

@@ -1,3 +1,4 @@
+-- The column is the end, or row go has it, or neither.
 use borrow.Author.Needs.{needs}
 use Rattle.schema.proofs.Closing.{gain-so, gain-go, gain-none}
 use Rattle.schema.proofs.gain_bit.Statement.{statement}
@@ -16,10 +17,13 @@ shared-slice-read-result : tie.Need-shared-slice-read-result
 shared-slice-read-result c = search needs
 
 returns-2 : tie.Need-returns-2
-returns-2 c = let s = c .before .before .before in gain-go (s .args .square .now) _ _ _ _ (c .before .before .if1 .left) (c .before .if2 .taken)
+returns-2 c =
+    let at-if1 = c .before .before in
+    let start = at-if1 .before in
+    gain-go (start .args .square .now) _ _ _ _ (at-if1 .if1 .left) (c .before .if2 .taken)
 
 returns-3 : tie.Need-returns-3
-returns-3 c = let s = c .before .before in gain-none (s .args .square .now) _ _ _ _ (c .before .if1 .left) (c .if2 .left)
+returns-3 c = let start = c .before .before in gain-none (start .args .square .now) _ _ _ _ (c .before .if1 .left) (c .if2 .left)
 
 pub gain-bit-spec : {M : Type 1} → statement M
 gain-bit-spec =

@@ -1,3 +1,4 @@
+-- The columns below c are worked out.
 use borrow.Author.Needs.{needs}
 use mathlib.Core.Path.{_≡_, refl, _∙_}
 use Prim.Native.Nat.{_≤_, _-_}
@@ -31,13 +32,16 @@ loop-less : tie.Need-loop-less Inv-loop μ-loop
 loop-less c = search needs
 
 loop-again : tie.Need-loop-again Inv-loop μ-loop
-loop-again c = let l = c .before .before in let s = c .before .before .before .before .before in (omega arith, length-set (l .loop .gain) (l .loop .c) (c .gain-bit .result) ∙ l .loop .inv .1, gained-more (s .args .square .now) (l .loop .gain) _ _ _ _ _ (l .loop .inv .2) (omega (arith, l .loop .inv .1)) (c .gain-bit .ensures))
+loop-again c =
+    let at-loop = c .before .before in
+    let start = at-loop .before .before .before in
+    (omega arith, length-set (at-loop .loop .gain) (at-loop .loop .c) (c .gain-bit .result) ∙ at-loop .loop .inv .1, gained-more (start .args .square .now) (at-loop .loop .gain) _ _ _ _ _ (at-loop .loop .inv .2) (omega (arith, at-loop .loop .inv .1)) (c .gain-bit .ensures))
 
 same-length : tie.Need-same-length Inv-loop μ-loop
-same-length c = let l = c .before in let s = c .before .before .before .before in l .loop .inv .1
+same-length c = c .before .loop .inv .1
 
 returns : tie.Need-returns Inv-loop μ-loop
-returns c = let l = c .before in let s = c .before .before .before .before in λ k h. l .loop .inv .2 k (omega arith)
+returns c = λ k h. c .before .loop .inv .2 k (omega arith)
 
 pub gains-spec : {M : Type 1} → statement M
 gains-spec =

@@ -1,3 +1,4 @@
+-- The word of the property decides.
 use native.Mathlib.Omega.{arith}
 use borrow.Author.Needs.{needs}
 use mathlib.Core.Path.{sym, ap, _∙_}
@@ -37,10 +38,14 @@ add-result : tie.Need-add-result
 add-result c = search needs
 
 returns : tie.Need-returns
-returns c = (ap (λ (z : ℕ). z + 2 ^ 32) (c .before .before .wide .ensures .0) ∙ sym (object-property-node _ _ (c .if1 .taken)), omega (arith, c .before .before .wide .ensures .1))
+returns c =
+    let after-wide = c .before .before in
+    (ap (λ (z : ℕ). z + 2 ^ 32) (after-wide .wide .ensures .0) ∙ sym (object-property-node _ _ (c .if1 .taken)), omega (arith, after-wide .wide .ensures .1))
 
 returns-2 : tie.Need-returns-2
-returns-2 c = (c .before .before .wide .ensures .0 ∙ sym (object-class-node _ _ (c .if1 .left)), omega (arith, c .before .before .wide .ensures .1))
+returns-2 c =
+    let after-wide = c .before .before in
+    (after-wide .wide .ensures .0 ∙ sym (object-class-node _ _ (c .if1 .left)), omega (arith, after-wide .wide .ensures .1))
 
 pub object-node-spec : {M : Type 1} → statement M
 object-node-spec =

@@ -1,3 +1,4 @@
+-- What the search found is the group, or there is none: its rank decides.
 use borrow.Author.Needs.{needs}
 use mathlib.Core.Path.{refl}
 use native.Mathlib.Omega.{arith}
@@ -30,13 +31,27 @@ add-if2 : tie.Need-add-if2
 add-if2 c = search needs
 
 returns : tie.Need-returns
-returns c = let s = c .before .before .before .before .before .before .before in property-found (s .args .statements .now) _ (s .args .p) _ (s .pre) (rw (c .before .before .before .before .before .wide .ensures .0) at (c .before .before .before .before .first-from .ensures)) (c .before .before .before .if1 .taken) (omega (arith, c .before .before .rank .ensures, c .before .wide2 .ensures .0, c .if2 .taken))
+returns c =
+    let after-rank = c .before .before in
+    let at-if1 = after-rank .before in
+    let after-first-from = at-if1 .before in
+    let after-wide = after-first-from .before in
+    let start = after-wide .before .before in
+    property-found (start .args .statements .now) _ (start .args .p) _ (start .pre) (rw (after-wide .wide .ensures .0) at (after-first-from .first-from .ensures)) (at-if1 .if1 .taken) (omega (arith, after-rank .rank .ensures, c .before .wide2 .ensures .0, c .if2 .taken))
 
 returns-2 : tie.Need-returns-2
-returns-2 c = let s = c .before .before .before .before .before .before .before in property-none (s .args .statements .now) _ (s .args .p) _ _ (s .pre) (omega arith) (rw (c .before .before .before .before .before .wide .ensures .0) at (c .before .before .before .before .first-from .ensures)) refl (λ h. omega (arith, c .before .before .rank .ensures, c .before .wide2 .ensures .0, c .if2 .left))
+returns-2 c =
+    let after-rank = c .before .before in
+    let after-first-from = after-rank .before .before in
+    let after-wide = after-first-from .before in
+    let start = after-wide .before .before in
+    property-none (start .args .statements .now) _ (start .args .p) _ _ (start .pre) (omega arith) (rw (after-wide .wide .ensures .0) at (after-first-from .first-from .ensures)) refl (λ h. omega (arith, after-rank .rank .ensures, c .before .wide2 .ensures .0, c .if2 .left))
 
 returns-3 : tie.Need-returns-3
-returns-3 c = let s = c .before .before .before .before in property-none (s .args .statements .now) _ (s .args .p) _ _ (s .pre) (omega arith) (rw (c .before .before .wide .ensures .0) at (c .before .first-from .ensures)) refl (λ h. absurd (omega (arith, c .if1 .left)))
+returns-3 c =
+    let after-wide = c .before .before in
+    let start = after-wide .before .before in
+    property-none (start .args .statements .now) _ (start .args .p) _ _ (start .pre) (omega arith) (rw (after-wide .wide .ensures .0) at (c .before .first-from .ensures)) refl (λ h. absurd (omega (arith, c .if1 .left)))
 
 pub property-group-spec : {M : Type 1} → statement M
 property-group-spec =

@@ -1,3 +1,4 @@
+-- The word of the property decides.
 use borrow.Author.Needs.{needs}
 use mathlib.Core.Path.{sym, ap, _∙_}
 use Prim.Native.Nat.{ℕ, _^_, _+_}
@@ -36,10 +37,12 @@ add-result : tie.Need-add-result
 add-result c = search needs
 
 returns : tie.Need-returns
-returns c = c .before .before .wide .ensures .0 ∙ sym (subject-class-node _ _ (c .if1 .taken))
+returns c = let after-wide = c .before .before in after-wide .wide .ensures .0 ∙ sym (subject-class-node _ _ (c .if1 .taken))
 
 returns-2 : tie.Need-returns-2
-returns-2 c = ap (λ (z : ℕ). z + 2 ^ 32) (c .before .before .wide .ensures .0) ∙ sym (subject-property-node _ _ (c .if1 .left))
+returns-2 c =
+    let after-wide = c .before .before in
+    ap (λ (z : ℕ). z + 2 ^ 32) (after-wide .wide .ensures .0) ∙ sym (subject-property-node _ _ (c .if1 .left))
 
 pub subject-node-spec : {M : Type 1} → statement M
 subject-node-spec =

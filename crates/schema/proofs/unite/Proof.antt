@@ -1,3 +1,4 @@
+-- The columns below c of row a have what gain has.
 use borrow.Author.Needs.{needs}
 use mathlib.Core.Path.{_≡_, refl, _∙_}
 use Prim.Native.Nat.{_≤_, _-_, _+_, _*_}
@@ -48,13 +49,18 @@ loop-less : tie.Need-loop-less Inv-loop μ-loop
 loop-less c = search needs
 
 loop-again : tie.Need-loop-again Inv-loop μ-loop
-loop-again c = (omega arith, length-set (c .before .before .before .before .loop .square) (c .before .before .before .before .before .before .before .args .a * 512 + c .before .before .before .before .loop .c) (c .joined .result) ∙ c .before .before .before .before .loop .inv .1, united-more _ (c .before .before .before .before .loop .square) (c .before .before .before .before .before .before .before .args .gain .now) _ _ _ (c .before .before .before .before .loop .inv .2) (omega arith) (omega arith) (c .joined .ensures .0) (c .joined .ensures .1))
+loop-again c =
+    let at-loop = c .before .before .before .before in
+    let start = at-loop .before .before .before in
+    (omega arith, length-set (at-loop .loop .square) (start .args .a * 512 + at-loop .loop .c) (c .joined .result) ∙ at-loop .loop .inv .1, united-more _ (at-loop .loop .square) (start .args .gain .now) _ _ _ (at-loop .loop .inv .2) (omega arith) (omega arith) (c .joined .ensures .0) (c .joined .ensures .1))
 
 same-length : tie.Need-same-length Inv-loop μ-loop
 same-length c = c .before .loop .inv .1
 
 returns : tie.Need-returns Inv-loop μ-loop
-returns c = let e : c .before .loop .c ≡ c .before .before .before .before .args .ns = omega arith in rw (← e) (c .before .loop .inv .2)
+returns c =
+    let start = c .before .before .before .before in
+    let e : c .before .loop .c ≡ start .args .ns = omega arith in rw (← e) (c .before .loop .inv .2)
 
 pub unite-spec : {M : Type 1} → statement M
 unite-spec =

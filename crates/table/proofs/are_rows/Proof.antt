@@ -35,13 +35,26 @@ is-allowed-requires : tie.Need-is-allowed-requires Inv-words μ-words Inv-rows �
 is-allowed-requires c κs = search needs
 
 returns : tie.Need-returns Inv-words μ-words Inv-rows μ-rows
-returns c = let r = c .before .before .before .before in let s = c .before .before .before .before .before .before in sym (r .rows .inv .1 ∙ refused (allowedIn (s .args .statements)) (s .args .t .now) (s .args .n) (r .rows .i) (c .before .before .before .rows-test .taken) (answered (allowedIn (s .args .statements)) (c .before .before .row-at .ensures) (c .before .is-allowed .ensures) (not-true _ (c .if1 .taken))))
+returns c =
+    let a = c .before in
+    let x = a .before in
+    let i = x .before in
+    let r = i .before in
+    let s = r .before .before in
+    sym (r .rows .inv .1 ∙ refused (allowedIn (s .args .statements)) (s .args .t .now) (s .args .n) (r .rows .i) (i .rows-test .taken) (answered (allowedIn (s .args .statements)) (x .row-at .ensures) (a .is-allowed .ensures) (not-true _ (c .if1 .taken))))
 
 rows-less : tie.Need-rows-less Inv-words μ-words Inv-rows μ-rows
 rows-less c = search needs
 
 rows-again : tie.Need-rows-again Inv-words μ-words Inv-rows μ-rows
-rows-again c = let r = c .before .before .before .before .before in let s = c .before .before .before .before .before .before .before in (search needs, r .rows .inv .1 ∙ first (allowedIn (s .args .statements)) (s .args .t .now) (s .args .n) (r .rows .i) (c .if2 .taken) (c .before .before .before .before .rows-test .taken) (answered (allowedIn (s .args .statements)) (c .before .before .before .row-at .ensures) (c .before .before .is-allowed .ensures) (not-false _ (c .before .if1 .left))))
+rows-again c =
+    let y = c .before in
+    let a = y .before in
+    let x = a .before in
+    let i = x .before in
+    let r = i .before in
+    let s = r .before .before in
+    (search needs, r .rows .inv .1 ∙ first (allowedIn (s .args .statements)) (s .args .t .now) (s .args .n) (r .rows .i) (c .if2 .taken) (i .rows-test .taken) (answered (allowedIn (s .args .statements)) (x .row-at .ensures) (a .is-allowed .ensures) (not-false _ (y .if1 .left))))
 
 mul-at : tie.Need-mul-at Inv-words μ-words Inv-rows μ-rows
 mul-at c = search needs
@@ -77,10 +90,29 @@ rows-less-2 : tie.Need-rows-less-2 Inv-words μ-words Inv-rows μ-rows
 rows-less-2 c = search needs
 
 rows-again-2 : tie.Need-rows-again-2 Inv-words μ-words Inv-rows μ-rows
-rows-again-2 c = let w = c .before .before .before .before in let r = c .before .before .before .before .before .before .before .before .before .before in let s = c .before .before .before .before .before .before .before .before .before .before .before .before in (search needs, r .rows .inv .1 ∙ ascended (allowedIn (s .args .statements)) (s .args .t .now) (s .args .n) (r .rows .i) (omega (arith, c .before .before .before .before .before .if2 .left)) (c .before .before .before .before .before .before .before .before .before .rows-test .taken) (answered (allowedIn (s .args .statements)) (c .before .before .before .before .before .before .before .before .row-at .ensures) (c .before .before .before .before .before .before .before .is-allowed .ensures) (not-false _ (c .before .before .before .before .before .before .if1 .left))) (less-before (s .args .t .now) (r .rows .i) (omega (arith, c .before .before .before .before .before .if2 .left)) (w .words .k) (w .words .inv .1) (c .before .before .before .words-test .taken) (c .if3 .taken)))
+rows-again-2 c =
+    let n = c .before .before .before in
+    let w = n .before in
+    let e = w .before in
+    let y = e .before in
+    let a = y .before in
+    let x = a .before in
+    let i = x .before in
+    let r = i .before in
+    let s = r .before .before in
+    let l = less-before (s .args .t .now) (r .rows .i) (omega (arith, e .if2 .left)) (w .words .k) (w .words .inv .1) (n .words-test .taken) (c .if3 .taken) in
+    (search needs, r .rows .inv .1 ∙ ascended (allowedIn (s .args .statements)) (s .args .t .now) (s .args .n) (r .rows .i) (omega (arith, e .if2 .left)) (i .rows-test .taken) (answered (allowedIn (s .args .statements)) (x .row-at .ensures) (a .is-allowed .ensures) (not-false _ (y .if1 .left))) l)
 
 returns-2 : tie.Need-returns-2 Inv-words μ-words Inv-rows μ-rows
-returns-2 c = let w = c .before .before .before .before .before in let r = c .before .before .before .before .before .before .before .before .before .before .before in let s = c .before .before .before .before .before .before .before .before .before .before .before .before .before in sym (r .rows .inv .1 ∙ not-ascended (allowedIn (s .args .statements)) (s .args .t .now) (s .args .n) (r .rows .i) (omega (arith, c .before .before .before .before .before .before .if2 .left)) (c .before .before .before .before .before .before .before .before .before .before .rows-test .taken) (more-before (s .args .t .now) (r .rows .i) (omega (arith, c .before .before .before .before .before .before .if2 .left)) (w .words .k) (w .words .inv .1) (c .before .before .before .before .words-test .taken) (c .if4 .taken)))
+returns-2 c =
+    let n = c .before .before .before .before in
+    let w = n .before in
+    let e = w .before in
+    let i = e .before .before .before .before in
+    let r = i .before in
+    let s = r .before .before in
+    let l = more-before (s .args .t .now) (r .rows .i) (omega (arith, e .if2 .left)) (w .words .k) (w .words .inv .1) (n .words-test .taken) (c .if4 .taken) in
+    sym (r .rows .inv .1 ∙ not-ascended (allowedIn (s .args .statements)) (s .args .t .now) (s .args .n) (r .rows .i) (omega (arith, e .if2 .left)) (i .rows-test .taken) l)
 
 add-k : tie.Need-add-k Inv-words μ-words Inv-rows μ-rows
 add-k c = search needs
@@ -89,13 +121,26 @@ words-less : tie.Need-words-less Inv-words μ-words Inv-rows μ-rows
 words-less c = search needs
 
 words-again : tie.Need-words-again Inv-words μ-words Inv-rows μ-rows
-words-again c = (search needs, below-more _ _ (c .before .before .before .before .before .words .inv .1) (omega (arith, c .before .if3 .left, c .if4 .left)))
+words-again c =
+    let d = c .before in
+    let w = d .before .before .before .before in
+    (search needs, below-more _ _ (w .words .inv .1) (omega (arith, d .if3 .left, c .if4 .left)))
 
 returns-3 : tie.Need-returns-3 Inv-words μ-words Inv-rows μ-rows
-returns-3 c = let w = c .before in let r = c .before .before .before .before .before .before .before in let s = c .before .before .before .before .before .before .before .before .before in sym (r .rows .inv .1 ∙ not-ascended (allowedIn (s .args .statements)) (s .args .t .now) (s .args .n) (r .rows .i) (omega (arith, c .before .before .if2 .left)) (c .before .before .before .before .before .before .rows-test .taken) (same-before (s .args .t .now) (r .rows .i) (omega (arith, c .before .before .if2 .left)) (w .words .k) (w .words .inv .1) (c .words-test .left)))
+returns-3 c =
+    let w = c .before in
+    let e = w .before in
+    let i = e .before .before .before .before in
+    let r = i .before in
+    let s = r .before .before in
+    let l = same-before (s .args .t .now) (r .rows .i) (omega (arith, e .if2 .left)) (w .words .k) (w .words .inv .1) (c .words-test .left) in
+    sym (r .rows .inv .1 ∙ not-ascended (allowedIn (s .args .statements)) (s .args .t .now) (s .args .n) (r .rows .i) (omega (arith, e .if2 .left)) (i .rows-test .taken) l)
 
 returns-4 : tie.Need-returns-4 Inv-words μ-words Inv-rows μ-rows
-returns-4 c = let r = c .before in let s = c .before .before .before in sym (r .rows .inv .1 ∙ ended (allowedIn (s .args .statements)) (s .args .t .now) (s .args .n) (r .rows .i) (c .rows-test .left))
+returns-4 c =
+    let r = c .before in
+    let s = r .before .before in
+    sym (r .rows .inv .1 ∙ ended (allowedIn (s .args .statements)) (s .args .t .now) (s .args .n) (r .rows .i) (c .rows-test .left))
 
 pub are-rows-spec : {M : Type 1} → statement M
 are-rows-spec =

@@ -28,10 +28,16 @@ cast-support : tie.Need-cast-support Inv-loop μ-loop
 cast-support c = omega (arith, c .shared-slice-known .given (c .before .before .loop .i))
 
 returns : tie.Need-returns Inv-loop μ-loop
-returns c = let l = c .before .before .before in let s = c .before .before .before .before in sym (l .loop .inv .1 ∙ support-stop (s .args .facts) (s .args .n) (s .args .u .now) (s .pre) (l .loop .i) (search needs) (too-low _ _ (c .if1 .taken)))
+returns c =
+    let l = c .before .before .before in
+    let s = l .before in
+    sym (l .loop .inv .1 ∙ support-stop (s .args .facts) (s .args .n) (s .args .u .now) (s .pre) (l .loop .i) (search needs) (too-low _ _ (c .if1 .taken)))
 
 returns-2 : tie.Need-returns-2 Inv-loop μ-loop
-returns-2 c = let l = c .before .before .before .before in let s = c .before .before .before .before .before in sym (l .loop .inv .1 ∙ support-stop (s .args .facts) (s .args .n) (s .args .u .now) (s .pre) (l .loop .i) (search needs) (too-high _ _ (c .if2 .taken)))
+returns-2 c =
+    let l = c .before .before .before .before in
+    let s = l .before in
+    sym (l .loop .inv .1 ∙ support-stop (s .args .facts) (s .args .n) (s .args .u .now) (s .pre) (l .loop .i) (search needs) (too-high _ _ (c .if2 .taken)))
 
 add-i : tie.Need-add-i Inv-loop μ-loop
 add-i c = search needs
@@ -40,10 +46,16 @@ loop-less : tie.Need-loop-less Inv-loop μ-loop
 loop-less c = search needs
 
 loop-again : tie.Need-loop-again Inv-loop μ-loop
-loop-again c = let l = c .before .before .before .before in let s = c .before .before .before .before .before in (search needs, l .loop .inv .1 ∙ support-more (s .args .facts) (s .args .n) (s .args .u .now) (s .pre) (l .loop .i) (search needs) (c .before .if1 .left) (c .if2 .left))
+loop-again c =
+    let l = c .before .before .before .before in
+    let s = l .before in
+    (search needs, l .loop .inv .1 ∙ support-more (s .args .facts) (s .args .n) (s .args .u .now) (s .pre) (l .loop .i) (search needs) (c .before .if1 .left) (c .if2 .left))
 
 returns-3 : tie.Need-returns-3 Inv-loop μ-loop
-returns-3 c = let l = c .before in let s = c .before .before in sym (l .loop .inv .1 ∙ support-end (s .args .facts) (s .args .n) (s .args .u .now) (s .pre) (l .loop .i) (search needs))
+returns-3 c =
+    let l = c .before in
+    let s = l .before in
+    sym (l .loop .inv .1 ∙ support-end (s .args .facts) (s .args .n) (s .args .u .now) (s .pre) (l .loop .i) (search needs))
 
 pub are-supports-spec : {M : Type 1} → statement M
 are-supports-spec =

@@ -24,7 +24,10 @@ shared-slice-read-if1 : tie.Need-shared-slice-read-if1 Inv-loop μ-loop
 shared-slice-read-if1 c = search needs
 
 returns : tie.Need-returns Inv-loop μ-loop
-returns c = let l = c .before .before .before in let s = c .before .before .before .before in sym (l .loop .inv ∙ zeros-stop (s .args .u .now) (l .loop .i) (search needs) (c .if1 .taken))
+returns c =
+    let l = c .before .before .before in
+    let s = l .before in
+    sym (l .loop .inv ∙ zeros-stop (s .args .u .now) (l .loop .i) (search needs) (c .if1 .taken))
 
 add-i : tie.Need-add-i Inv-loop μ-loop
 add-i c = search needs
@@ -33,10 +36,16 @@ loop-less : tie.Need-loop-less Inv-loop μ-loop
 loop-less c = search needs
 
 loop-again : tie.Need-loop-again Inv-loop μ-loop
-loop-again c = let l = c .before .before .before in let s = c .before .before .before .before in l .loop .inv ∙ zeros-more (s .args .u .now) (l .loop .i) (search needs) (c .if1 .left)
+loop-again c =
+    let l = c .before .before .before in
+    let s = l .before in
+    l .loop .inv ∙ zeros-more (s .args .u .now) (l .loop .i) (search needs) (c .if1 .left)
 
 returns-2 : tie.Need-returns-2 Inv-loop μ-loop
-returns-2 c = let l = c .before in let s = c .before .before in sym (l .loop .inv ∙ zeros-end (s .args .u .now) (l .loop .i) (c .loop-test .left))
+returns-2 c =
+    let l = c .before in
+    let s = l .before in
+    sym (l .loop .inv ∙ zeros-end (s .args .u .now) (l .loop .i) (c .loop-test .left))
 
 pub are-supports-zero-spec : {M : Type 1} → statement M
 are-supports-zero-spec =

@@ -61,7 +61,9 @@ same-length : tie.Need-same-length
 same-length c = search needs
 
 returns : tie.Need-returns
-returns c = let s = c .before .before .before .before .before .before in put-row _ _ _ (s .args .x) (s .pre .0 .laid) (s .pre .0 .room) (s .pre .1) (c .before .before .move-up .ensures)
+returns c =
+    let s = c .before .before .before .before .before .before in
+    put-row _ _ _ (s .args .x) (s .pre .0 .laid) (s .pre .0 .room) (s .pre .1) (c .before .before .move-up .ensures)
 
 pub insert-at-spec : {M : Type 1} → statement M
 insert-at-spec =

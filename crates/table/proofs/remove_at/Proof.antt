@@ -61,7 +61,9 @@ same-length : tie.Need-same-length
 same-length c = search needs
 
 returns : tie.Need-returns
-returns c = let s = c .before .before .before .before .before .before in drop-row _ _ _ (s .pre .0) (s .pre .1) (c .before .before .move-down .ensures)
+returns c =
+    let s = c .before .before .before .before .before .before in
+    drop-row _ _ _ (s .pre .0) (s .pre .1) (c .before .before .move-down .ensures)
 
 pub remove-at-spec : {M : Type 1} → statement M
 remove-at-spec =
