@@ -8,3 +8,5 @@ pub mod Properties
 pub mod Subjects
 pub mod Zeros
 pub mod Running
+pub mod Passes
+pub mod Known

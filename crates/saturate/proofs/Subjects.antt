@@ -18,7 +18,7 @@ use Rattle.rdfs.specs.Counts.{Counts}
 use Rattle.schema.specs.Nodes.{propertyNode, subjectNode}
 use Rattle.schema.specs.Sums.{sumTo, sumAt}
 use Rattle.schema.specs.Compiled.{subjectAt, propertyAt, objectAt, nodeBit, ownBit, explicitAt, subjectAdds, objectAdds, propertyAdds}
-use Rattle.schema.proofs.Sums.{sum-between, sum-block, sumAt-is, sum-term}
+use Rattle.schema.proofs.Sums.{sum-range, sumAt-is, sum-term}
 use Rattle.schema.proofs.Counted.{explicit-other, subject-adds, subject-adds-not, object-adds-not, property-adds-subject}
 use Rattle.merge.specs.Output.{Output, output, putAll}
 use Rattle.merge.specs.Between.{between}
@@ -47,8 +47,8 @@ module _ (st : List ℕ) (m nc ns : ℕ) (d r f ix : List ℕ) (n x i e j h : �
   -- Over all facts as over those of the subject.
   own-sum : (c : ℕ) → sumTo (subjectAdds st m nc d r f x c) n + sumTo (ownBit st m nc d r f x c) i ≡ sumTo (ownBit st m nc d r f x c) e
   own-sum c =
-      let b = sum-block (subjectAdds st m nc d r f x c) i e n (sr .high) (λ y l. subject-adds-not st m nc d r f x c y (sr .before y l)) (λ y l u. subject-adds-not st m nc d r f x c y (sr .after y l u)) in
-      omega (arith, b .0, b .1, sum-between (subjectAdds st m nc d r f x c) (ownBit st m nc d r f x c) i e (sr .low) (λ y l u. subject-adds st m nc d r f x c y (sr .all y l u)))
+      sum-range (subjectAdds st m nc d r f x c) (ownBit st m nc d r f x c) i e n (sr .low) (sr .high)
+      (λ y l. subject-adds-not st m nc d r f x c y (sr .before y l)) (λ y l u. subject-adds st m nc d r f x c y (sr .all y l u)) (λ y l u. subject-adds-not st m nc d r f x c y (sr .after y l u))
 
   object-is : (c y : ℕ) → objectAt f y ≡ x → objectAdds st m r f x c y ≡ otherBit st m r f x c y
   unfolding objectAdds otherBit
@@ -58,8 +58,10 @@ module _ (st : List ℕ) (m nc ns : ℕ) (d r f ix : List ℕ) (n x i e j h : �
   other-sum : (c : ℕ) → sumTo (objectAdds st m r f x c) n + sumTo (λ a. otherBit st m r f x c (getD ix a 0)) j ≡ sumTo (λ a. otherBit st m r f x c (getD ix a 0)) h
   other-sum c =
       let H : ℕ → ℕ = λ a. objectAdds st m r f x c (getD ix a 0) in
-      let b = sum-block H j h n (or .high) (λ y l. object-adds-not st m nc d r f x c (getD ix y 0) (or .before y l)) (λ y l u. object-adds-not st m nc d r f x c (getD ix y 0) (or .after y l u)) in
-      omega (arith, b .0, b .1, sum-between H (λ a. otherBit st m r f x c (getD ix a 0)) j h (or .low) (λ y l u. object-is c (getD ix y 0) (or .all y l u)), once (objectAdds st m r f x c), sumAt-is (objectAdds st m r f x c) ix n)
+      let b : sumTo H n + sumTo (λ a. otherBit st m r f x c (getD ix a 0)) j ≡ sumTo (λ a. otherBit st m r f x c (getD ix a 0)) h =
+        sum-range H (λ a. otherBit st m r f x c (getD ix a 0)) j h n (or .low) (or .high)
+        (λ y l. object-adds-not st m nc d r f x c (getD ix y 0) (or .before y l)) (λ y l u. object-is c (getD ix y 0) (or .all y l u)) (λ y l u. object-adds-not st m nc d r f x c (getD ix y 0) (or .after y l u)) in
+      omega (arith, once (objectAdds st m r f x c), sumAt-is (objectAdds st m r f x c) ix n)
 
   -- What was counted is what the facts add.
   pub counts-of : (counts₀ counts₁ counts : List ℕ) → nc ≤ ns → ((c : ℕ) → getD counts₀ c 0 ≡ 0) → Summed counts₀ counts₁ (λ c y. ownBit st m nc d r f x c y) ns i e → Summed counts₁ counts (λ c a. otherBit st m r f x c (getD ix a 0)) nc j h → CountsOf st m d r nc ns f n x counts

@@ -6,3 +6,4 @@ pub mod Blocks
 pub mod Rows
 pub mod Supported
 pub mod Run
+pub mod Saturated
