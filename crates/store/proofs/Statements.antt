@@ -26,7 +26,7 @@ use Rattle.table.proofs.Store.{formed-isStore}
 use Rattle.store.specs.declared.Answer.the-variants.{Applied, Idle, Refused}
 use Rattle.store.specs.Store.{Tables, tables, contentsOf, put}
 use Rattle.store.specs.Update.{withTriple, withoutTriple, isThere, isBelowCapacity, isKeptFitting, outcome, add, withdraw}
-use Rattle.store.specs.Saturated.{Result, result, written, saturated}
+use Rattle.saturate.specs.Saturated.{Result, result, written, saturated}
 use Rattle.store.proofs.Outcomes.{Passes, add-idle, add-full, add-unfit, add-applied, withdraw-idle, withdraw-unfit, withdraw-applied, there-yes, there-no}
 
 -- What `saturate` asks of the room, and the capacity of the kept facts gives.
@@ -38,7 +38,7 @@ kept-room {S} {F} {K} {U} W room e = (
 )
 
 -- What working out afresh says of the tables, by its answer.
-module _ {S F : List ℕ} {room : ℕ} {K U : List ℕ} {r : Bool} {K' U' : List ℕ} (Z : result r K' U' ≡ saturated S F room K U) where
+module _ (S F : List ℕ) (room : ℕ) (K U : List ℕ) {r : Bool} {K' U' : List ℕ} (Z : result r K' U' ≡ saturated S F room K U) where
   afresh-fits : r ≡ leb (length (saturation (rows S) (rows F))) room
   unfolding saturated written
   afresh-fits = ap (λ (z : Result). z .fits) Z
@@ -145,15 +145,15 @@ module _ {S F K U : List ℕ} (W : FormedStore S F K U) (t : Triple) (a : isAllo
       pub statement-added : r ≡ true → outcome Applied (tables S' F K' U') ≡ add (tables S F K U) t
       unfolding isKeptFitting withTriple contentsOf put
       statement-added y =
-          sym (add-applied passes (missing p) (below h) (rw (is-statement, ← with-rows, ← q) (sym (afresh-fits Z) ∙ y))
-          ∙ rw (is-statement, ← with-rows, ← length-with, ← (with-formed .laid .is-layout), ← (W .facts .laid .is-layout), ← afresh-kept Z y, ← afresh-supports Z y) refl)
+          sym (add-applied passes (missing p) (below h) (rw (is-statement, ← with-rows, ← q) (sym (afresh-fits S' F room K U Z) ∙ y))
+          ∙ rw (is-statement, ← with-rows, ← length-with, ← (with-formed .laid .is-layout), ← (W .facts .laid .is-layout), ← afresh-kept S' F room K U Z y, ← afresh-supports S' F room K U Z y) refl)
 
       -- The kept facts do not fit, and it was taken out again.
       pub statement-unfit : {S″ : List ℕ} → r ≡ false → S″ ≡ layout (length S') (removeAt i (rows S')) → outcome (Refused 5) (tables S″ F K' U') ≡ add (tables S F K U) t
       unfolding isKeptFitting withTriple contentsOf
       statement-unfit {S″} y f =
-          rw (same-statements, afresh-same-kept Z y, afresh-same-supports Z y)
-          (sym (add-unfit passes (missing p) (below h) (rw (is-statement, ← with-rows, ← q) (sym (afresh-fits Z) ∙ y))))
+          rw (same-statements, afresh-same-kept S' F room K U Z y, afresh-same-supports S' F room K U Z y)
+          (sym (add-unfit passes (missing p) (below h) (rw (is-statement, ← with-rows, ← q) (sym (afresh-fits S' F room K U Z) ∙ y))))
         where
           same-statements : S″ ≡ S
           same-statements = f ∙ rw (length-with, rows-of S' (length S) (insertAt i t (rows S)) e, inserted-removed i t (rows S) inside) (sym (W .statements .laid .is-layout))
@@ -194,15 +194,15 @@ module _ {S F K U : List ℕ} (W : FormedStore S F K U) (t : Triple) (a : isAllo
       pub statement-withdrawn : r ≡ true → outcome Applied (tables S' F K' U') ≡ withdraw (tables S F K U) t
       unfolding isKeptFitting withoutTriple contentsOf put
       statement-withdrawn y =
-          sym (withdraw-applied passes (present p) (rw (is-statement, ← without-rows, ← q) (sym (afresh-fits Z) ∙ y))
-          ∙ rw (is-statement, ← without-rows, ← length-without, ← (without-formed .laid .is-layout), ← (W .facts .laid .is-layout), ← afresh-kept Z y, ← afresh-supports Z y) refl)
+          sym (withdraw-applied passes (present p) (rw (is-statement, ← without-rows, ← q) (sym (afresh-fits S' F room K U Z) ∙ y))
+          ∙ rw (is-statement, ← without-rows, ← length-without, ← (without-formed .laid .is-layout), ← (W .facts .laid .is-layout), ← afresh-kept S' F room K U Z y, ← afresh-supports S' F room K U Z y) refl)
 
       -- The kept facts do not fit, and it was put in again.
       pub withdrawal-unfit : {S″ : List ℕ} → r ≡ false → S″ ≡ layout (length S') (insertAt i t (rows S')) → outcome (Refused 5) (tables S″ F K' U') ≡ withdraw (tables S F K U) t
       unfolding isKeptFitting withoutTriple contentsOf
       withdrawal-unfit {S″} y f =
-          rw (same-statements, afresh-same-kept Z y, afresh-same-supports Z y)
-          (sym (withdraw-unfit passes (present p) (rw (is-statement, ← without-rows, ← q) (sym (afresh-fits Z) ∙ y))))
+          rw (same-statements, afresh-same-kept S' F room K U Z y, afresh-same-supports S' F room K U Z y)
+          (sym (withdraw-unfit passes (present p) (rw (is-statement, ← without-rows, ← q) (sym (afresh-fits S' F room K U Z) ∙ y))))
         where
           same-statements : S″ ≡ S
           same-statements = f ∙ rw (length-without, rows-of S' (length S) (removeAt i (rows S)) e, removed-inserted i t (rows S) p) (sym (W .statements .laid .is-layout))

@@ -1,4 +1,3 @@
 pub mod Store
 pub mod Update
 pub mod Entries
-pub mod Saturated

@@ -9,11 +9,6 @@ use rdf::Triple;
 use statement_updates::add_statement;
 use statement_updates::withdraw_statement;
 ghost use mathlib.Core.Path.{_≡_};
-ghost use mathlib.Core.Bool.{true};
-ghost use Prim.Native.Nat.{_*_, _<_, _≤_};
-ghost use lib.ListN.{length};
-ghost use Rattle.table.specs.Table.{isStatementTable, isFactTable};
-ghost use Rattle.store.specs.Saturated.{result, saturated};
 ghost use Rattle.store.specs.Store.{tables};
 ghost use Rattle.store.specs.Update.{outcome, add, withdraw};
 
@@ -22,16 +17,6 @@ pub enum Answer {
     Applied,
     Idle,
     Refused(u32),
-}
-
-// stub
-pub fn saturate(statements: &[u32], facts: &[u32], kept: &mut [u32], supports: &mut [u16], room: usize) -> bool
-    requires { ⌜ isStatementTable (now statements) ≡ true ⌝ }
-    requires { ⌜ isFactTable (now facts) ≡ true ⌝ }
-    requires { ⌜ (room * 3 < length (now kept)) × (room ≤ length (now supports)) × (room ≤ 262143) ⌝ }
-    ensures { λ r. ⌜ result r (now (kept .exit)) (now (supports .exit)) ≡ saturated (now (statements .entry)) (now (facts .entry)) room (now (kept .entry)) (now (supports .entry)) ⌝ }
-{
-    false
 }
 
 // Adds a triple to a store: a statement or a fact. Questions 1 to 5 in their order; the first "no" refuses, and changes no word.

@@ -1,7 +1,6 @@
 // Additions and withdrawals of statements, once questions 1 to 3 are passed (document 01, "Tables").
 use crate::Answer;
 use crate::fact_updates::kept_capacity;
-use crate::saturate;
 use rdf::Triple;
 use table::Found;
 ghost use mathlib.Core.Path.{_≡_};
@@ -35,7 +34,7 @@ fn add_new_statement(
     }
     let room = kept_capacity(kept, supports);
     table::insert_at(statements, at, statement);
-    if saturate(statements, facts, kept, supports, room) {
+    if saturate::saturate(statements, facts, kept, supports, room) {
         return Answer::Applied;
     }
     table::remove_at(statements, at);
@@ -58,7 +57,7 @@ fn withdraw_old_statement(
 {
     let room = kept_capacity(kept, supports);
     table::remove_at(statements, at);
-    if saturate(statements, facts, kept, supports, room) {
+    if saturate::saturate(statements, facts, kept, supports, room) {
         return Answer::Applied;
     }
     table::insert_at(statements, at, statement);

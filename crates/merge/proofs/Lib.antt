@@ -1,0 +1,7 @@
+pub mod Output
+pub mod Between
+pub mod Streams
+pub mod Listing
+pub mod Merging
+pub mod Counting
+pub mod Whole

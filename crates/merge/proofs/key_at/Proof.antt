@@ -1,0 +1,34 @@
+use borrow.Author.Needs.{needs}
+use mathlib.Core.Path.{_≡_, refl, sym, ap, ap₂, _∙_}
+use mathlib.Core.List.{List, [], _∷_}
+use Prim.Native.Nat.{ℕ, _≤_, _-_, _<_, _^_, _+_, _*_}
+use native.Mathlib.Omega.{arith}
+use lib.ListN.{length, getD}
+use borrow.Author.Tests.{lt-ltb, le-ltb}
+use Rattle.merge.specs.Counted.{keyAt}
+use Rattle.merge.proofs.Counting.{keyAt-at}
+use Rattle.merge.proofs.key_at.Statement.{statement}
+use Rattle.merge.proofs.key_at.Tie as tie
+use Rattle.merge.proofs.key_at.Reads as reads
+use Rattle.merge.proofs.key_at.Lts as lts
+use Rattle.merge.proofs.wide.Reads as wide-reads
+
+mul-wide : tie.Need-mul-wide
+mul-wide c = search needs
+
+element-copy-out-wide : tie.Need-element-copy-out-wide
+element-copy-out-wide c = search needs
+
+wide-requires : tie.Need-wide-requires
+wide-requires c κs = search needs
+
+returns : tie.Need-returns
+returns c = c .wide .ensures ∙ sym (keyAt-at _ _ _ (c .before .before .if1 .taken))
+
+returns-2 : tie.Need-returns-2
+unfolding keyAt
+returns-2 c = simp (le-ltb _ _ (c .if1 .left))
+
+pub key-at-spec : {M : Type 1} → statement M
+key-at-spec =
+    tie.close (tie.spec mul-wide element-copy-out-wide wide-requires returns returns-2)

@@ -1,0 +1,4 @@
+pub mod Output
+pub mod Between
+pub mod Streams
+pub mod Counted

@@ -1,0 +1,77 @@
+use borrow.Author.Needs.{needs}
+use mathlib.Core.Path.{_≡_, refl, sym, ap, _∙_}
+use mathlib.Core.Bool.{true, false}
+use Prim.Native.Nat.{ℕ, _≤_, _-_, _<_, _^_, _+_, _*_}
+use native.Mathlib.Omega.{arith}
+use lib.ListN.{length, getD, length-set}
+use lib.Dec.{eqb}
+use borrow.Author.Tests.{eq-eqb, ne-eqb}
+use Rattle.schema.specs.Squares.{at}
+use Rattle.schema.specs.Nodes.{propertyNode}
+use Rattle.schema.specs.Compiled.{propertyAt, nodeBit}
+use Rattle.saturate.specs.Blocks.{Gathered}
+use Rattle.saturate.proofs.NodeBits.{node-found, node-none, node-bit}
+use Rattle.saturate.proofs.Gathering.{SameProperty, same-start, same-more, block-here, block-last, gather-start, gather-room, gather-yes, gather-no, facts-from, rows-rising, leads-yes, leads-no}
+use Rattle.saturate.proofs.gather.block_end.Statement.{statement}
+use Rattle.saturate.proofs.gather.block_end.Tie as tie
+use Rattle.saturate.proofs.gather.block_end.Reads as reads
+use Rattle.saturate.proofs.gather.block_end.Lts as lts
+use Rattle.saturate.proofs.words.property_at.Reads as property-at-reads
+
+abbrev Inv-loop : tie.InvT-loop
+Inv-loop f a e p z₀ z = (z ≤ e) × SameProperty f a z
+
+abbrev μ-loop : tie.MeasureT-loop
+μ-loop f a e p z₀ z = e - z
+
+-- src/gather.rt:34:9
+property-at-requires : tie.Need-property-at-requires Inv-loop μ-loop
+property-at-requires c κs = search needs
+
+-- src/gather.rt:35:17
+add-z : tie.Need-add-z Inv-loop μ-loop
+add-z c = search needs
+
+-- src/gather.rt:36:5
+loop-holds : tie.Need-loop-holds Inv-loop μ-loop
+loop-holds c = (omega arith, same-start (c .before .before .args .f .now) _)
+
+-- src/gather.rt:37:12
+property-at-requires-2 : tie.Need-property-at-requires-2 Inv-loop μ-loop
+property-at-requires-2 c κs = search needs
+
+-- src/gather.rt:38:13
+returns : tie.Need-returns Inv-loop μ-loop
+returns c = block-here (c .before .before .before .before .before .before .args .f .now) _ _ _ (c .before .before .before .before .before .before .pre .1) (c .before .before .before .loop .inv .1) (c .before .before .loop-test .taken) (λ q. c .if1 .taken (c .before .property-at2 .ensures ∙ q ∙ sym (c .before .before .before .before .property-at .ensures)))
+
+-- src/gather.rt:40:9
+add-z-2 : tie.Need-add-z-2 Inv-loop μ-loop
+add-z-2 c = search needs
+
+-- src/gather.rt:36:5
+loop-less : tie.Need-loop-less Inv-loop μ-loop
+loop-less c = search needs
+
+-- src/gather.rt:36:5
+loop-again : tie.Need-loop-again Inv-loop μ-loop
+loop-again c = (omega arith, same-more (c .before .before .before .before .before .before .args .f .now) _ _ (c .before .before .before .loop .inv .1) (sym (c .before .property-at2 .ensures) ∙ c .if1 .left ∙ c .before .before .before .before .property-at .ensures))
+
+-- src/gather.rt:29:1
+returns-2 : tie.Need-returns-2 Inv-loop μ-loop
+returns-2 c = block-last (c .before .before .before .before .args .f .now) _ _ _ (c .before .loop .inv .1) (omega arith)
+
+pub block-end-spec : {M : Type 1} → statement M
+block-end-spec =
+    tie.close
+    (tie.spec
+    Inv-loop
+    μ-loop
+    property-at-requires
+    add-z
+    loop-holds
+    property-at-requires-2
+    returns
+    add-z-2
+    loop-less
+    loop-again
+    returns-2)

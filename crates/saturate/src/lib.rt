@@ -1,0 +1,179 @@
+// The kept facts and their supports, worked out afresh from the statements and the facts. Each statement's subject is compiled into rows of
+// bits that say which classes and properties it leads to; then the rows of each subject are put in order, from its facts and from those of
+// which it is the object. The same run counts the rows and, where they fit, writes them. About linear in facts times columns.
+ghost use mathlib.Core.Path.{_≡_};
+ghost use mathlib.Core.Bool.{true};
+ghost use Prim.Native.Nat.{ℕ, _+_, _*_, _^_, _≤_, _<_};
+ghost use lib.ListN.{length, getD};
+ghost use Rattle.table.specs.Table.{isStatementTable, isFactTable, count};
+ghost use Rattle.rdfs.specs.Saturation.{Kept};
+ghost use Rattle.rdfs.specs.Counts.{Counts};
+ghost use Rattle.schema.specs.Nodes.{Columns};
+ghost use Rattle.schema.specs.Squares.{at};
+ghost use Rattle.schema.specs.Ascent.{termOf};
+ghost use Rattle.saturate.specs.Index.{Index, Once, Sorted};
+ghost use Rattle.saturate.specs.Prepared.{Prepared, Facts};
+ghost use Rattle.saturate.specs.Supported.{Supported, Small};
+ghost use Rattle.saturate.specs.Saturated.{result, written, saturated, Exists, zeroFrom, Domains, Ranges};
+
+mod words; // words.rt: the words of a table's rows
+mod index; // index.rt: the places of the facts, in the order of their objects
+mod gather; // gather.rt: the blocks of facts whose property leads to a column
+mod count; // count.rt: what the facts about a thing add to the counts of the columns
+mod rows; // rows.rt: the rows of one subject
+mod run; // run.rt: the run over the subjects
+
+use run::put_rows;
+
+// A square of bits of 0. Large arrays come out of functions of their own.
+fn no_bits() -> [u8; 262144]
+    ensures { λ r. ⌜ (length r ≡ 262144) × ((i c : ℕ) → at r i c ≡ 0) ⌝ }
+{
+    [0u8; 262144]
+}
+
+// Room for the places of the facts.
+fn no_places() -> [u32; 65536]
+    ensures { λ r. ⌜ length r ≡ 65536 ⌝ }
+{
+    [0u32; 65536]
+}
+
+// Room for the columns.
+fn no_columns() -> [u64; 512]
+    ensures { λ r. ⌜ length r ≡ 512 ⌝ }
+{
+    [0u64; 512]
+}
+
+// Room for the terms of the columns.
+fn no_keys() -> [u32; 512]
+    ensures { λ r. ⌜ length r ≡ 512 ⌝ }
+{
+    [0u32; 512]
+}
+
+// Room for what a row gains.
+fn no_gain() -> [u8; 512]
+    ensures { λ r. ⌜ length r ≡ 512 ⌝ }
+{
+    [0u8; 512]
+}
+
+// Room for where the streams of a column start, or end: one block of facts for each statement, and one more.
+fn no_ends() -> [usize; 513]
+    ensures { λ r. ⌜ length r ≡ 513 ⌝ }
+{
+    [0usize; 513]
+}
+
+// The square of what the statements lead to by subclasses, subproperties and via.
+fn square(statements: &[u32], m: usize, columns: &[u64], ns: usize, via: u32) -> [u8; 262144]
+    requires { ⌜ Columns (now statements) m (now columns) ns ⌝ }
+    requires { ⌜ (m * 3 < length (now statements)) × (ns ≤ length (now columns)) ⌝ }
+    ensures { λ r. ⌜ Ranges (now (statements .entry)) m (now (columns .entry)) ns via r ⌝ }
+{
+    let mut bits = no_bits();
+    let mut gain = no_gain();
+    schema::close(statements, m, columns, ns, via, &mut bits, &mut gain);
+    bits
+}
+
+// The square of domains: what the statements lead to by subclasses, subproperties and domains, themselves left out.
+fn domain_square(statements: &[u32], m: usize, columns: &[u64], ns: usize) -> [u8; 262144]
+    requires { ⌜ Columns (now statements) m (now columns) ns ⌝ }
+    requires { ⌜ (m * 3 < length (now statements)) × (ns ≤ length (now columns)) ⌝ }
+    ensures { λ r. ⌜ Domains (now (statements .entry)) m (now (columns .entry)) ns r ⌝ }
+{
+    let mut bits = square(statements, m, columns, ns, 4);
+    schema::clear_own(statements, m, columns, ns, &mut bits);
+    bits
+}
+
+// The terms of the columns.
+fn keys_of(columns: &[u64], ns: usize) -> [u32; 512]
+    requires { ⌜ (ns ≤ length (now columns)) × (ns ≤ 512) ⌝ }
+    requires { ⌜ ((c : ℕ) → c < ns → getD (now columns) c 0 < 2 ^ 33) ⌝ }
+    ensures { λ r. ⌜ ((c : ℕ) → c < ns → getD r c 0 ≡ termOf (getD (now (columns .entry)) c 0)) ⌝ }
+{
+    let mut keys = no_keys();
+    schema::terms(columns, ns, &mut keys);
+    keys
+}
+
+// The places of the facts, in the order of their objects.
+fn index_of(facts: &[u32]) -> [u32; 65536]
+    requires { ⌜ Facts (now facts) (count (now facts)) ⌝ }
+    ensures { λ r. ⌜ Index (now (facts .entry)) r (count (now (facts .entry))) × Once (count (now (facts .entry))) r × Sorted (now (facts .entry)) r (count (now (facts .entry))) ⌝ }
+{
+    let n = facts[0] as usize;
+    let mut ix = no_places();
+    index::by_object(facts, &mut ix, n);
+    ix
+}
+
+// Sets the words from index a on to 0.
+fn zero_words(t: &mut [u32], a: usize)
+    requires { ⌜ a ≤ length (now t) ⌝ }
+    ensures { λ _. ⌜ now (t .exit) ≡ zeroFrom a (now (t .entry)) ⌝ }
+{
+    let mut i = t.len();
+    while a < i {
+        i -= 1;
+        t[i] = 0;
+    }
+}
+
+// Sets the supports from index a on to 0.
+fn zero_supports(t: &mut [u16], a: usize)
+    requires { ⌜ a ≤ length (now t) ⌝ }
+    ensures { λ _. ⌜ now (t .exit) ≡ zeroFrom a (now (t .entry)) ⌝ }
+{
+    let mut i = t.len();
+    while a < i {
+        i -= 1;
+        t[i] = 0;
+    }
+}
+
+// Puts all rows in two passes: the first counts them and writes nothing; where they fit room, the second writes them, and then come the
+// count and the zeros. True where they fit.
+fn put_all(statements: &[u32], m: usize, domains: &[u8], ranges: &[u8], keys: &[u32; 512], nc: usize, ns: usize, facts: &[u32], ix: &[u32], kept: &mut [u32], supports: &mut [u16], room: usize) -> bool
+    requires { ⌜ Prepared (now statements) m (now keys) nc ns (now domains) (now ranges) ⌝ }
+    requires { ⌜ Facts (now facts) (count (now facts)) ⌝ }
+    requires { ⌜ Index (now facts) (now ix) (count (now facts)) × Once (count (now facts)) (now ix) × Sorted (now facts) (now ix) (count (now facts)) ⌝ }
+    requires { ⌜ Small (now statements) m (now domains) (now ranges) (now keys) nc (now facts) (count (now facts)) ⌝ }
+    requires { ⌜ Exists (now statements) m (now domains) (now ranges) (now keys) nc ns (now facts) (count (now facts)) ⌝ }
+    requires { ⌜ (room * 3 < length (now kept)) × (room ≤ length (now supports)) × (room ≤ 262143) ⌝ }
+    ensures { λ r. ⌜ ((K : Kept) → Counts K → Supported K (now (statements .entry)) m (now (domains .entry)) (now (ranges .entry)) (now (keys .entry)) nc ns (now (facts .entry)) (count (now (facts .entry))) → result r (now (kept .exit)) (now (supports .exit)) ≡ written K room (now (kept .entry)) (now (supports .entry))) ⌝ }
+{
+    let mut from = no_ends();
+    let mut to = no_ends();
+    let k = put_rows(statements, m, domains, ranges, keys, nc, ns, facts, ix, &mut from, &mut to, kept, supports, 0);
+    if room < k {
+        return false;
+    }
+    let n = put_rows(statements, m, domains, ranges, keys, nc, ns, facts, ix, &mut from, &mut to, kept, supports, room);
+    kept[0] = n as u32;
+    zero_words(kept, n * 3 + 1);
+    zero_supports(supports, n);
+    true
+}
+
+// Works the kept facts and their supports out afresh. True: they are in kept and supports. False: they do not fit room, and no word has changed.
+pub fn saturate(statements: &[u32], facts: &[u32], kept: &mut [u32], supports: &mut [u16], room: usize) -> bool
+    requires { ⌜ isStatementTable (now statements) ≡ true ⌝ }
+    requires { ⌜ isFactTable (now facts) ≡ true ⌝ }
+    requires { ⌜ (room * 3 < length (now kept)) × (room ≤ length (now supports)) × (room ≤ 262143) ⌝ }
+    ensures { λ r. ⌜ result r (now (kept .exit)) (now (supports .exit)) ≡ saturated (now (statements .entry)) (now (facts .entry)) room (now (kept .entry)) (now (supports .entry)) ⌝ }
+{
+    let m = statements[0] as usize;
+    let mut columns = no_columns();
+    let ns = schema::columns(statements, m, &mut columns);
+    let nc = schema::classes(&columns, ns);
+    let keys = keys_of(&columns, ns);
+    let domains = domain_square(statements, m, &columns, ns);
+    let ranges = square(statements, m, &columns, ns, 5);
+    let ix = index_of(facts);
+    put_all(statements, m, &domains, &ranges, &keys, nc, ns, facts, &ix, kept, supports, room)
+}

@@ -1,0 +1,11 @@
+pub mod Walks
+pub mod Squares
+pub mod Closing
+pub mod Groups
+pub mod Meaning
+pub mod Bits
+pub mod Sums
+pub mod Tables
+pub mod Counted
+pub mod Ascent
+pub mod Made
