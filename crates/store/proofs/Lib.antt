@@ -9,3 +9,4 @@ pub mod Facts
 pub mod Fitting
 pub mod Applied
 pub mod Laws
+pub mod Lent
