@@ -11,3 +11,4 @@ pub mod Passing
 pub mod Fitting
 pub mod Applied
 pub mod Laws
+pub mod Lent
