@@ -85,7 +85,12 @@ fn reply_number(reply: Reply, count: &mut u32) -> u32
 
 // Lists the statements in a column order.
 #[no_mangle]
-pub extern "C" fn families_list_statements(table: &[u32], order: u32, rows: &mut [u32], count: &mut u32) -> u32
+pub extern "C" fn families_list_statements(
+    table: &[u32],
+    order: u32,
+    rows: &mut [u32],
+    count: &mut u32,
+) -> u32
     ensures { λ r. ⌜ listed r (now (count .exit)) (now (rows .exit)) ≡ numberedReply (listing (isStatementTable (now (table .entry))) order (now (table .entry)) (length (now (rows .entry)))) ⌝ }
 {
     reply_number(listing::list_statements(table, order, rows), count)
@@ -93,7 +98,12 @@ pub extern "C" fn families_list_statements(table: &[u32], order: u32, rows: &mut
 
 // Lists the facts in a column order.
 #[no_mangle]
-pub extern "C" fn families_list_facts(table: &[u32], order: u32, rows: &mut [u32], count: &mut u32) -> u32
+pub extern "C" fn families_list_facts(
+    table: &[u32],
+    order: u32,
+    rows: &mut [u32],
+    count: &mut u32,
+) -> u32
     ensures { λ r. ⌜ listed r (now (count .exit)) (now (rows .exit)) ≡ numberedReply (listing (isFactTable (now (table .entry))) order (now (table .entry)) (length (now (rows .entry)))) ⌝ }
 {
     reply_number(listing::list_facts(table, order, rows), count)
@@ -101,7 +111,12 @@ pub extern "C" fn families_list_facts(table: &[u32], order: u32, rows: &mut [u32
 
 // Lists the kept facts in a column order.
 #[no_mangle]
-pub extern "C" fn families_list_kept(table: &[u32], order: u32, rows: &mut [u32], count: &mut u32) -> u32
+pub extern "C" fn families_list_kept(
+    table: &[u32],
+    order: u32,
+    rows: &mut [u32],
+    count: &mut u32,
+) -> u32
     ensures { λ r. ⌜ listed r (now (count .exit)) (now (rows .exit)) ≡ numberedReply (listing (isKeptTable (now (table .entry))) order (now (table .entry)) (length (now (rows .entry)))) ⌝ }
 {
     reply_number(listing::list_kept(table, order, rows), count)

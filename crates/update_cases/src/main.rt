@@ -6,7 +6,29 @@ ghost use Prim.Native.Nat.{_*_, _≤_};
 ghost use lib.ListN.{length, replicate};
 
 // The worked example's statements and facts, three words each.
-const EXAMPLE: [u32; 21] = [16, 2, 17, 17, 2, 18, 19, 3, 20, 20, 4, 17, 20, 5, 16, 32, 19, 33, 32, 1, 16];
+const EXAMPLE: [u32; 21] = [
+    16,
+    2,
+    17,
+    17,
+    2,
+    18,
+    19,
+    3,
+    20,
+    20,
+    4,
+    17,
+    20,
+    5,
+    16,
+    32,
+    19,
+    33,
+    32,
+    1,
+    16,
+];
 
 // A loop of two classes, and a thing in one of them.
 const LOOP: [u32; 9] = [16, 2, 17, 17, 2, 16, 32, 1, 16];
@@ -15,7 +37,26 @@ const LOOP: [u32; 9] = [16, 2, 17, 17, 2, 16, 32, 1, 16];
 const SELF_TYPED: [u32; 9] = [21, 4, 16, 21, 5, 16, 32, 21, 32];
 
 // The worked example's statements, and a fact about a literal.
-const LITERAL: [u32; 18] = [16, 2, 17, 17, 2, 18, 19, 3, 20, 20, 4, 17, 20, 5, 16, 32, 20, 0x80000001];
+const LITERAL: [u32; 18] = [
+    16,
+    2,
+    17,
+    17,
+    2,
+    18,
+    19,
+    3,
+    20,
+    20,
+    4,
+    17,
+    20,
+    5,
+    16,
+    32,
+    20,
+    0x80000001,
+];
 
 // What is refused: no triple, sides that are not allowed; and what is idle.
 const REFUSED: [u32; 12] = [0x80000001, 2, 16, 19, 3, 1, 16, 2, 17, 16, 2, 17];
@@ -64,9 +105,19 @@ fn example() {
     let mut facts = no_facts();
     let mut kept = no_kept();
     let mut supports = no_supports();
-    add_all(&mut statements, &mut facts, &mut kept, &mut supports, &EXAMPLE);
+    add_all(
+        &mut statements,
+        &mut facts,
+        &mut kept,
+        &mut supports,
+        &EXAMPLE,
+    );
     print_kept(&kept, &supports);
-    let fact = Triple { subject: 32, property: 1, object: 16 };
+    let fact = Triple {
+        subject: 32,
+        property: 1,
+        object: 16,
+    };
     print_answer(store::withdraw(&mut statements, &mut facts, &mut kept, &mut supports, fact));
     print_kept(&kept, &supports);
     print_answer(store::withdraw(&mut statements, &mut facts, &mut kept, &mut supports, fact));
@@ -79,7 +130,13 @@ fn case(name: &[u8], triples: &[u32]) {
     let mut facts = no_facts();
     let mut kept = no_kept();
     let mut supports = no_supports();
-    add_all(&mut statements, &mut facts, &mut kept, &mut supports, triples);
+    add_all(
+        &mut statements,
+        &mut facts,
+        &mut kept,
+        &mut supports,
+        triples,
+    );
     print_kept(&kept, &supports);
 }
 
@@ -94,20 +151,50 @@ fn full() {
     print_count(applied);
     let more = add_chain(&mut statements, &mut facts, &mut kept, &mut supports, 513);
     print_count(more);
-    print_answer(store::add(&mut statements, &mut facts, &mut kept, &mut supports, Triple { subject: 528, property: 2, object: 529 }));
-    print_answer(store::add(&mut statements, &mut facts, &mut kept, &mut supports, Triple { subject: 2000, property: 1, object: 16 }));
+    print_answer(store::add(
+        &mut statements,
+        &mut facts,
+        &mut kept,
+        &mut supports,
+        Triple {
+            subject: 528,
+            property: 2,
+            object: 529,
+        },
+    ));
+    print_answer(store::add(
+        &mut statements,
+        &mut facts,
+        &mut kept,
+        &mut supports,
+        Triple {
+            subject: 2000,
+            property: 1,
+            object: 16,
+        },
+    ));
     print_count(kept[0] as usize);
 }
 
 // Adds the statements 16 2 17, 17 2 18, .. of a chain of n steps; how many were applied.
-fn add_chain(statements: &mut [u32], facts: &mut [u32], kept: &mut [u32], supports: &mut [u16], n: u32) -> usize
+fn add_chain(
+    statements: &mut [u32],
+    facts: &mut [u32],
+    kept: &mut [u32],
+    supports: &mut [u16],
+    n: u32,
+) -> usize
     requires { ⌜ n ≤ 513 ⌝ }
     ensures { λ r. ⌜ r ≤ n ⌝ }
 {
     let mut applied: usize = 0;
     let mut i: u32 = 0;
     while i < n {
-        let statement = Triple { subject: 16 + i, property: 2, object: 17 + i };
+        let statement = Triple {
+            subject: 16 + i,
+            property: 2,
+            object: 17 + i,
+        };
         i += 1;
         match store::add(statements, facts, kept, supports, statement) {
             Answer::Applied => applied += 1,
@@ -119,10 +206,20 @@ fn add_chain(statements: &mut [u32], facts: &mut [u32], kept: &mut [u32], suppor
 }
 
 // Adds each triple of some, three words each, and prints the answers.
-fn add_all(statements: &mut [u32], facts: &mut [u32], kept: &mut [u32], supports: &mut [u16], triples: &[u32]) {
+fn add_all(
+    statements: &mut [u32],
+    facts: &mut [u32],
+    kept: &mut [u32],
+    supports: &mut [u16],
+    triples: &[u32],
+) {
     let mut at = 0;
     while at < triples.len() && 2 < triples.len() - at {
-        let triple = Triple { subject: triples[at], property: triples[at + 1], object: triples[at + 2] };
+        let triple = Triple {
+            subject: triples[at],
+            property: triples[at + 1],
+            object: triples[at + 2],
+        };
         print_answer(store::add(statements, facts, kept, supports, triple));
         at += 3;
     }
