@@ -1,0 +1,77 @@
+//! The exported library, as include/families.h declares it, behind safe functions.
+
+mod raw {
+    extern "C" {
+        pub fn families_add(s: *mut u32, sn: usize, f: *mut u32, fnn: usize, k: *mut u32, kn: usize, u: *mut u16, un: usize, subject: u32, property: u32, object: u32) -> u32;
+        pub fn families_withdraw(s: *mut u32, sn: usize, f: *mut u32, fnn: usize, k: *mut u32, kn: usize, u: *mut u16, un: usize, subject: u32, property: u32, object: u32) -> u32;
+        pub fn families_list_statements(t: *const u32, n: usize, order: u32, rows: *mut u32, rn: usize, count: *mut u32) -> u32;
+        pub fn families_list_facts(t: *const u32, n: usize, order: u32, rows: *mut u32, rn: usize, count: *mut u32) -> u32;
+        pub fn families_list_kept(t: *const u32, n: usize, order: u32, rows: *mut u32, rn: usize, count: *mut u32) -> u32;
+    }
+}
+
+/// A triple as three words.
+pub type Triple = [u32; 3];
+
+/// A store in tables of its own.
+#[derive(Clone)]
+pub struct Store {
+    pub statements: Vec<u32>,
+    pub facts: Vec<u32>,
+    pub kept: Vec<u32>,
+    pub supports: Vec<u16>,
+}
+
+/// Which table a listing is of.
+#[derive(Clone, Copy)]
+pub enum Table {
+    Statements,
+    Facts,
+    Kept,
+}
+
+impl Store {
+    /// An empty store with room for so many rows.
+    pub fn empty(statements: usize, facts: usize, kept: usize) -> Store {
+        Store {
+            statements: vec![0; statements * 3 + 1],
+            facts: vec![0; facts * 3 + 1],
+            kept: vec![0; kept * 3 + 1],
+            supports: vec![0; kept],
+        }
+    }
+
+    /// Adds a triple: 0 applied, 100 idle, or the number that refused.
+    pub fn add(&mut self, t: Triple) -> u32 {
+        unsafe {
+            raw::families_add(
+                self.statements.as_mut_ptr(), self.statements.len(), self.facts.as_mut_ptr(), self.facts.len(),
+                self.kept.as_mut_ptr(), self.kept.len(), self.supports.as_mut_ptr(), self.supports.len(), t[0], t[1], t[2],
+            )
+        }
+    }
+
+    /// Withdraws a triple, with the same answers.
+    pub fn withdraw(&mut self, t: Triple) -> u32 {
+        unsafe {
+            raw::families_withdraw(
+                self.statements.as_mut_ptr(), self.statements.len(), self.facts.as_mut_ptr(), self.facts.len(),
+                self.kept.as_mut_ptr(), self.kept.len(), self.supports.as_mut_ptr(), self.supports.len(), t[0], t[1], t[2],
+            )
+        }
+    }
+
+    /// Lists a table in a column order: the number that refused, and the row count.
+    pub fn list(&self, table: Table, order: u32, rows: &mut [u32]) -> (u32, u32) {
+        let mut count = 0;
+        let n = unsafe {
+            let (f, t): (unsafe extern "C" fn(*const u32, usize, u32, *mut u32, usize, *mut u32) -> u32, &Vec<u32>) = match table {
+                Table::Statements => (raw::families_list_statements, &self.statements),
+                Table::Facts => (raw::families_list_facts, &self.facts),
+                Table::Kept => (raw::families_list_kept, &self.kept),
+            };
+            f(t.as_ptr(), t.len(), order, rows.as_mut_ptr(), rows.len(), &mut count)
+        };
+        (n, count)
+    }
+}

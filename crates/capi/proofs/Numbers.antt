@@ -1,0 +1,62 @@
+-- Answers and replies as numbers. Assumes nothing.
+use Prim.Native.Nat.{ℕ, zero, suc, _^_, _≤_, _<_}
+use mathlib.Core.Path.{_≡_, refl, ap}
+use mathlib.Core.Bool.{Bool, true, false}
+use mathlib.Core.List.{List, map}
+use native.Mathlib.Omega.{arith}
+use lib.ListN.{length, length-map}
+use Rattle.rdf.specs.declared.Triple.{Triple}
+use Rattle.rdf.specs.Refusal.{firstNo}
+use Rattle.rdf.proofs.Lists.{by-test}
+use Rattle.table.specs.Table.{rows, isTable}
+use Rattle.table.proofs.Formed.{isTable-wellFormed, capacity-most}
+use Rattle.sort.proofs.Ordered.{ordered-length}
+use Rattle.output.specs.declared.Reply.{Reply}
+use Rattle.output.specs.declared.Reply.the-variants.{Rows, Refused}
+use Rattle.output.specs.Output.{Replied, replied, give, replyNumber, replyCount}
+use Rattle.listing.specs.Listing.{arranged, listingRows, listingQuestions, listing}
+use Rattle.store.specs.declared.Answer.{Answer}
+use Rattle.store.specs.Store.{Tables}
+use Rattle.store.specs.Update.{Outcome, outcome, answerNumber}
+use Rattle.capi.specs.Numbered.{updated, numberedOutcome, listed, numberedReply}
+
+-- An update's number and tables are those of its outcome.
+pub update-numbered : (a : Answer) (n : ℕ) (T : Tables) (o : Outcome) → n ≡ answerNumber a → outcome a T ≡ o → updated n T ≡ numberedOutcome o
+update-numbered a n T o e h = rw e (ap numberedOutcome h)
+
+-- A reply's number, count and words are those of what was replied.
+pub reply-numbered : (p : Reply) (n c : ℕ) (ws : List ℕ) (o : Replied) → n ≡ replyNumber p → c ≡ replyCount p → replied p ws ≡ o → listed n c ws ≡ numberedReply o
+reply-numbered p n c ws o e f h = rw (e, f) (ap numberedReply h)
+
+-- The count of rows that were given.
+pub rows-below : (p : Reply) (n : ℕ) → p ≡ Rows n → replyCount p < 2 ^ 32 → n < 2 ^ 32
+rows-below p n e h = rw e at h
+
+-- No more rows are counted than there are.
+give-count : (n : ℕ) (R : List (List ℕ)) (len : ℕ) → replyCount (give n R len .reply) ≤ length R
+unfolding give
+give-count zero R len = omega arith
+give-count (suc n) R len = omega arith
+
+-- A table that is malformed is refused, and no row is counted.
+malformed-count : (formed : Bool) (order : ℕ) (ws : List ℕ) (len : ℕ) → formed ≡ false → replyCount (listing formed order ws len .reply) ≡ 0
+unfolding listing firstNo give
+malformed-count formed order ws len e = rw e refl
+
+listing-few : (formed : Bool) (order : ℕ) (ws : List ℕ) (len : ℕ) → replyCount (listing formed order ws len .reply) ≤ length (rows ws)
+unfolding listing listingRows
+listing-few formed order ws len =
+    omega (
+      arith,
+      give-count (firstNo (listingQuestions formed order ws len)) (listingRows order (rows ws)) len,
+      ordered-length (map (arranged order) (rows ws)),
+      length-map (rows ws) (arranged order),
+    )
+
+-- The count of a listing fits 32 bits.
+pub listing-count : (allowed : Triple → Bool) (most order : ℕ) (ws : List ℕ) (len : ℕ) → most < 2 ^ 32 → (p : Reply) (us : List ℕ) → replied p us ≡ listing (isTable allowed most ws) order ws len → replyCount p < 2 ^ 32
+listing-count allowed most order ws len l p us h =
+    let e : replyCount p ≡ replyCount (listing (isTable allowed most ws) order ws len .reply) = ap (λ (z : Replied). replyCount (z .reply)) h in
+    by-test (isTable allowed most ws)
+    (λ t. omega (arith, listing-few (isTable allowed most ws) order ws len, isTable-wellFormed allowed most ws t .within, capacity-most most ws))
+    (λ f. omega (arith, malformed-count (isTable allowed most ws) order ws len f))
