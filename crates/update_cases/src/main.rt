@@ -173,7 +173,7 @@ fn full() {
             object: 16,
         },
     ));
-    print_count(kept[0] as usize);
+    print_word(kept[0]);
 }
 
 // Adds the statements 16 2 17, 17 2 18, .. of a chain of n steps; how many were applied.
@@ -213,15 +213,17 @@ fn add_all(
     supports: &mut [u16],
     triples: &[u32],
 ) {
-    let mut at = 0;
-    while at < triples.len() && 2 < triples.len() - at {
+    let n = triples.len() / 3;
+    let mut i = 0;
+    while i < n {
+        let at = i * 3;
         let triple = Triple {
             subject: triples[at],
             property: triples[at + 1],
             object: triples[at + 2],
         };
         print_answer(store::add(statements, facts, kept, supports, triple));
-        at += 3;
+        i += 1;
     }
 }
 
@@ -248,15 +250,26 @@ fn print_count(n: usize) {
     io::write_all(1, b"\n");
 }
 
+// Prints a word on a line.
+fn print_word(w: u32) {
+    io::print_decimal(1, w as u64);
+    io::write_all(1, b"\n");
+}
+
 // Prints each kept row with its support on a line.
 fn print_kept(kept: &[u32], supports: &[u16]) {
     let mut i = 0;
-    while i < supports.len() && supports[i] != 0 {
-        let at = i * 3;
-        if kept.len() <= at + 3 {
+    let n = kept.len() / 3;
+    while i < supports.len() {
+        let support = supports[i];
+        if support == 0 {
             return;
         }
-        print_row(kept[at + 1], kept[at + 2], kept[at + 3], supports[i]);
+        if n <= i + 1 {
+            return;
+        }
+        let at = i * 3;
+        print_row(kept[at + 1], kept[at + 2], kept[at + 3], support);
         i += 1;
     }
 }
