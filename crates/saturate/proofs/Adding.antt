@@ -30,9 +30,10 @@ added-more counts₀ counts bit k v g l' e' =
     rw e' record {
       same = length-set counts k (getD counts k 0 + bit k) ∙ g .same;
       below = λ c h. by-cases (ℕ-discrete c k)
-        (λ e. rw (e, getD-set-same counts k (getD counts k 0 + bit k) 0 l) (omega (arith, g .above k (omega arith))))
-        (λ n. getD-set-other counts k c (getD counts k 0 + bit k) 0 n ∙ g .below c (omega arith));
-      above = λ c h. getD-set-other counts k c (getD counts k 0 + bit k) 0 (λ e. omega arith) ∙ g .above c (omega arith) }
+          (λ e. rw (e, getD-set-same counts k (getD counts k 0 + bit k) 0 l) (omega (arith, g .above k (omega arith))))
+          (λ n. getD-set-other counts k c (getD counts k 0 + bit k) 0 n ∙ g .below c (omega arith));
+      above = λ c h. getD-set-other counts k c (getD counts k 0 + bit k) 0 (λ e. omega arith) ∙ g .above c (omega arith);
+    }
 
 pub added-ext : (counts₀ counts : List ℕ) (bit bit' : ℕ → ℕ) (end : ℕ) → Added counts₀ counts bit end → ((c : ℕ) → c < end → bit c ≡ bit' c) → Added counts₀ counts bit' end
 added-ext counts₀ counts bit bit' end g e = record { same = g .same; below = λ c l. omega (arith, g .below c l, e c l); above = g .above }
@@ -81,8 +82,8 @@ module _ (st : List ℕ) (m nc ns : ℕ) (d r f : List ℕ) (x y : ℕ) (dw : Sq
   property-none counts g n h l =
       added-zero counts (λ c. ownBit st m nc d r f x c y) ns
       (λ c lc. let zd : nodeBit st m d (propertyNode (propertyAt f y)) c ≡ 0 = node-none st m ns d dw (propertyNode (propertyAt f y)) c g h l in
-        let zr : nodeBit st m r (propertyNode (propertyAt f y)) c ≡ 0 = node-none st m ns r rw' (propertyNode (propertyAt f y)) c g h l in
-        by-cases (ℕ-discrete (objectAt f y) x) (λ e. own-self c n e ∙ rw (zd, zr) (nothing (ltb c nc))) (λ k. own-other c n k ∙ zd))
+      let zr : nodeBit st m r (propertyNode (propertyAt f y)) c ≡ 0 = node-none st m ns r rw' (propertyNode (propertyAt f y)) c g h l in
+      by-cases (ℕ-discrete (objectAt f y) x) (λ e. own-self c n e ∙ rw (zd, zr) (nothing (ltb c nc))) (λ k. own-other c n k ∙ zd))
     where
       nothing : (b : Bool) → cond b (either 0 0) 0 ≡ 0
       nothing true = refl
@@ -94,9 +95,9 @@ module _ (st : List ℕ) (m nc ns : ℕ) (d r f : List ℕ) (x y : ℕ) (dw : Sq
       by-cases (ℕ-discrete (propertyAt f y) 1)
       (λ e. omega (arith, own-type c e, node-bit st m ns d dw (objectAt f y) c lc))
       (λ n. by-cases (ℕ-discrete (objectAt f y) x)
-        (λ e. let p = propertyNode (propertyAt f y) in let bd = node-bit st m ns d dw p c lc in let br = node-bit st m ns r rw' p c lc in
-          rw (own-self c n e) (by-cases (decLt c nc) (λ h. rw (lt-ltb c nc h) (either-bit (nodeBit st m d p c) (nodeBit st m r p c) br)) (λ h. let k : nc ≤ c = omega arith in rw (le-ltb c nc k) bd)))
-        (λ k. omega (arith, own-other c n k, node-bit st m ns d dw (propertyNode (propertyAt f y)) c lc)))
+      (λ e. let p = propertyNode (propertyAt f y) in let bd = node-bit st m ns d dw p c lc in let br = node-bit st m ns r rw' p c lc in
+      rw (own-self c n e) (by-cases (decLt c nc) (λ h. rw (lt-ltb c nc h) (either-bit (nodeBit st m d p c) (nodeBit st m r p c) br)) (λ h. let k : nc ≤ c = omega arith in rw (le-ltb c nc k) bd)))
+      (λ k. omega (arith, own-other c n k, node-bit st m ns d dw (propertyNode (propertyAt f y)) c lc)))
 
   -- To a property another fact than a typing adds the bit of its own.
   pub own-property : (c : ℕ) → nc ≤ c → ¬ (propertyAt f y ≡ 1) → ownBit st m nc d r f x c y ≡ nodeBit st m d (propertyNode (propertyAt f y)) c
@@ -133,7 +134,8 @@ summed-more counts₀ counts counts' h end a b g s =
     record {
       same = s .same ∙ g .same;
       below = λ c l. omega (arith, s .below c l, g .below c l, sum-more (h c) b);
-      above = λ c l. s .above c l ∙ g .above c l }
+      above = λ c l. s .above c l ∙ g .above c l;
+    }
 
 -- The counts rise by at most 1 for each place.
 pub summed-few : (counts₀ counts : List ℕ) (h : ℕ → ℕ → ℕ) (end a b : ℕ) → Summed counts₀ counts h end a b → a ≤ b → ((c y : ℕ) → c < end → a ≤ y → y < b → h c y ≤ 1) → (c : ℕ) → c < end → getD counts c 0 ≤ getD counts₀ c 0 + (b - a)

@@ -104,7 +104,8 @@ module _ (st : List ℕ) (m : ℕ) (d : List ℕ) (c : ℕ) (f from₀ to₀ fro
         fewer = λ h. omega (arith, few-here, starts-strict st m (p + 2 ^ 32) (propertyAt f z + 2 ^ 32) (l .number) (l .below) (l .node) (omega (arith, w .next h)));
         fits = λ x h. by-cases (ℕ-discrete x k) (λ q. rw (q, getD-set-same to k z 0 lt) (omega (arith, w .ends))) (λ n. rw (getD-set-other to k x z 0 n) (g .fits x (omega arith)));
         rising = rw (streams-push f from to k y z lf lt) (rs, g .rising);
-        sums = λ o. rw (streams-push f from to k y z lf lt) (pushed o) }
+        sums = λ o. rw (streams-push f from to k y z lf lt) (pushed o);
+      }
     where
       pushed : (o : ℕ) → tally o (objects f y (z - y) ∷ streams f from to k) ≡ tally o (streams f from₀ to₀ k₀) + sumFrom (ledAt st m d f o c) i (z - i)
       pushed o = omega (arith, tally-cons o (objects f y (z - y)) (streams f from to k), g .sums o, sum-on o, block-led st m d f o c p y (z - y) (λ x h u. w .all x h (omega (arith, w .grows))) h)
@@ -120,7 +121,8 @@ module _ (st : List ℕ) (m : ℕ) (d : List ℕ) (c : ℕ) (f from₀ to₀ fro
         fewer = λ h. omega (arith, few-here, starts-mono st m (p + 2 ^ 32) (propertyAt f z + 2 ^ 32) (omega (arith, w .next h)));
         fits = g .fits;
         rising = g .rising;
-        sums = λ o. omega (arith, g .sums o, sum-on o, block-not st m d f o c p y (z - y) (λ x h u. w .all x h (omega (arith, w .grows))) n) }
+        sums = λ o. omega (arith, g .sums o, sum-on o, block-not st m d f o c p y (z - y) (λ x h u. w .all x h (omega (arith, w .grows))) n);
+      }
 
 pub gather-start : (st : List ℕ) (m : ℕ) (d : List ℕ) (c : ℕ) (f from to : List ℕ) (k i e : ℕ) → i ≤ e → AllRising (streams f from to k) → ((z : ℕ) → z < k → getD to z 0 * 3 < length f) → Gathered st m d c f from to from to k k i i e
 unfolding sumFrom

@@ -38,7 +38,8 @@ facts-are f v =
       property-term = λ y l. omega (arith, fact-words f v y l .property-term, row-property f y);
       subjects = λ y l. ap isLiteral (sym (row-subject f y)) ∙ fact-words f v y l .subject-plain;
       things = λ y l h. plain-below (objectAt f y) h;
-      literals = λ y l h. ap isLiteral (sym (row-object f y)) ∙ fact-words f v y l .object-literal (omega (arith, row-object f y)) }
+      literals = λ y l h. ap isLiteral (sym (row-object f y)) ∙ fact-words f v y l .object-literal (omega (arith, row-object f y));
+    }
 
 -- The statements of a well-formed table are at most 512.
 pub statement-count : (st : List ℕ) → WellFormed isAllowedStatement mostStatements st → (count st ≤ 512) × (count st * 3 < length st)
@@ -63,10 +64,12 @@ module _ (st f : List ℕ) (w : WellFormed isAllowedStatement mostStatements st)
           small = keyed .small;
           class-keys = keyed .classes-rise;
           property-keys = keyed .properties-rise;
-          not-type = keyed .not-type };
+          not-type = keyed .not-type;
+        };
         domains = record { long = omega (arith, statement-count st w .0, dw .long); even = marks-even st col d (count st) ns (λ a b. Plus (edges st 4 (count st)) a b × (¬ (a ≡ b))) (compiled .domains) (compiled .domain-bits); bits = compiled .domain-bits };
         ranges = record { long = omega (arith, statement-count st w .0, rw' .long); even = marks-even st col r (count st) ns (Plus (edges st 5 (count st))) (compiled .ranges) (compiled .range-bits); bits = compiled .range-bits };
-        no-type = no-type st w }
+        no-type = no-type st w;
+      }
 
   -- The saturation has the supports that are counted.
   pub saturation-supported : Supported (saturation (rows st) (rows f)) st (count st) d r keys nc ns f (count f)
@@ -76,7 +79,8 @@ module _ (st f : List ℕ) (w : WellFormed isAllowedStatement mostStatements st)
         other-class = λ x o n. saturation-support (rows st) (rows f) (triple x 1 o) ∙ class-support-none st col d r f ns nc w v compiled x o (λ c l e. n c l (keyed .class-term c l ∙ e));
         property = λ x o c l u. saturation-support (rows st) (rows f) (triple x (getD keys c 0) o) ∙ property-support st col d r f ns nc w v compiled x (getD keys c 0) o c (λ q. omega (arith, keyed .not-type c l u)) u (keyed .property-term c l u);
         other-property = λ x q o k n. saturation-support (rows st) (rows f) (triple x q o) ∙ property-support-none st col d r f ns nc w v compiled x q o k (λ c l u e. n c l u (omega (arith, keyed .property-term c l u)));
-        absent = λ x q o a b. saturation-support (rows st) (rows f) (triple x q o) ∙ absent-support (rows st) f x q o a b }
+        absent = λ x q o a b. saturation-support (rows st) (rows f) (triple x q o) ∙ absent-support (rows st) f x q o a b;
+      }
 
   pub exists : Exists st (count st) d r keys nc ns f (count f)
   exists = record { list = saturation (rows st) (rows f); counts = saturation-counts (rows st) (rows f); supported = saturation-supported }

@@ -105,7 +105,8 @@ second-pass K room (w ∷ ws) us ws' us' n l f h u e =
     record {
       count = c;
       kept = rw qw (words-laid K w n ws c (omega arith));
-      supports = rw (qs, c) (supports-laid K us (omega arith)) }
+      supports = rw (qs, c) (supports-laid K us (omega arith));
+    }
 
 pub written-all : (K : Kept) (room : ℕ) (ws us ws' us' ws″ us″ : List ℕ) (n : ℕ) → length K ≤ room → Put K ws us ws' us' n → ws″ ≡ zeroFrom (n * 3 + 1) (set ws' 0 n) → us″ ≡ zeroFrom n us' → result true ws″ us″ ≡ written K room ws us
 unfolding written

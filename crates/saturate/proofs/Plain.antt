@@ -35,7 +35,8 @@ one-subject f n x i e g le s =
     record {
       climb = λ y l u. property-order y (y + 1) (g .ascend y (y + 1) (omega arith) (omega arith)) (same y l u);
       rise = λ y l u q. object-order y (y + 1) (g .ascend y (y + 1) (omega arith) (omega arith)) (same y l u) (row-property f y ∙ q ∙ sym (row-property f (y + 1)));
-      small = λ y l u. g .object-small y (omega arith) }
+      small = λ y l u. g .object-small y (omega arith);
+    }
   where
     same : (y : ℕ) → i ≤ y → y + 1 < e → rowAt f y .subject ≡ rowAt f (y + 1) .subject
     same y l u = row-subject f y ∙ s y l (omega arith) ∙ sym (s (y + 1) (omega arith) u) ∙ sym (row-subject f (y + 1))
@@ -59,8 +60,12 @@ climb-to f i e g a (suc k) l u = let q : a + suc k ≡ a + k + 1 = omega arith i
 -- The search stops at a property that is not below w,
 pub split-here : (f : List ℕ) (q z e w : ℕ) → OneSubject f q e → q ≤ z → z < e → ((y : ℕ) → q ≤ y → y < z → propertyAt f y < w) → w ≤ propertyAt f z → Split f q z e w
 split-here f q z e w g l u b h =
-    record { low = l; high = omega arith; before = b;
-      after = λ y a k. let r : z + (y - z) ≡ y = omega arith in omega (arith, rw r at (climb-to f q e g z (y - z) l (omega arith))) }
+    record {
+      low = l;
+      high = omega arith;
+      before = b;
+      after = λ y a k. let r : z + (y - z) ≡ y = omega arith in omega (arith, rw r at (climb-to f q e g z (y - z) l (omega arith)));
+    }
 
 -- or at the end.
 pub split-end : (f : List ℕ) (q z e w : ℕ) → q ≤ z → z ≡ e → ((y : ℕ) → q ≤ y → y < z → propertyAt f y < w) → Split f q z e w
@@ -124,7 +129,7 @@ module _ (f : List ℕ) (n x : ℕ) (g : Facts f n) where
   ones-lookup p o a (suc k) le s =
       by-cases (equalTriples (triple x p o) (rowAt f a))
       (λ e. let z : sumFrom (sameAt f p o) (a + 1) k ≡ 0 = from-zero (sameAt f p o) (a + 1) k (λ y l u. same-no p o y (s y (omega arith) (omega arith)) (λ q. less-ne (g .ascend a y (omega arith) (omega arith)) (sym e ∙ q))) in
-        omega (arith, lookup-same (rowAt f a, 1) (ones f (a + 1) k) (triple x p o) e, same-yes p o a (sym (row-property f a) ∙ sym (of-property e)) (sym (row-object f a) ∙ sym (of-object e))))
+      omega (arith, lookup-same (rowAt f a, 1) (ones f (a + 1) k) (triple x p o) e, same-yes p o a (sym (row-property f a) ∙ sym (of-property e)) (sym (row-object f a) ∙ sym (of-object e))))
       (λ d. omega (arith, lookup-other (rowAt f a, 1) (ones f (a + 1) k) (triple x p o) d, same-no p o a (s a (omega arith) (omega arith)) d, ones-lookup p o (a + 1) k (omega arith) (λ y l u. s y (omega arith) (omega arith))))
 
   ones-absent : (u : Triple) (a k : ℕ) → ((y : ℕ) → a ≤ y → y < a + k → ¬ (u ≡ rowAt f y)) → lookup (ones f a k) u ≡ 0
@@ -154,9 +159,9 @@ pub plain-part : (K : Kept) → Counts K → (f : List ℕ) (n x v w q z : ℕ) 
 plain-part K a f n x v w q z g qz zn s lo hi t =
     kept-ext (between (triple x v 0) (triple x w 0) K) (ones f q (z - q)) (between-counts (triple x v 0) (triple x w 0) K a) (ones-counts f n x g q (z - q) (omega arith))
     (λ u. by-cases (within (triple x v 0) (triple x w 0) u)
-      (λ h. let r = property-within x v w u (h .0) (h .1) in
-        inside (triple x v 0) (triple x w 0) K u h ∙ (ap (lookup K) (r .is) ∙ t (u .property) (u .object) (r .low) (r .high) ∙ sym (ones-lookup f n x g (u .property) (u .object) q (z - q) (omega arith) (λ y l h. s y l (omega arith)))) ∙ ap (lookup (ones f q (z - q))) (sym (r .is)))
-      (λ h. outside (triple x v 0) (triple x w 0) K u h ∙ sym (ones-absent f n x g u q (z - q) (λ y l k e. h (rw e (row-within y l (omega arith)))))))
+    (λ h. let r = property-within x v w u (h .0) (h .1) in
+    inside (triple x v 0) (triple x w 0) K u h ∙ (ap (lookup K) (r .is) ∙ t (u .property) (u .object) (r .low) (r .high) ∙ sym (ones-lookup f n x g (u .property) (u .object) q (z - q) (omega arith) (λ y l h. s y l (omega arith)))) ∙ ap (lookup (ones f q (z - q))) (sym (r .is)))
+    (λ h. outside (triple x v 0) (triple x w 0) K u h ∙ sym (ones-absent f n x g u q (z - q) (λ y l k e. h (rw e (row-within y l (omega arith)))))))
   where
     row-within : (y : ℕ) → q ≤ y → y < z → Within (triple x v 0) (triple x w 0) (rowAt f y)
     row-within y l u =

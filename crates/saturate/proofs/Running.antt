@@ -116,13 +116,13 @@ module _ (f ix : List ℕ) (n : ℕ) (fw : Facts f n) (once : Once n ix) (sorted
   next-is i j v e l =
       ⊎-elim
       (λ q. by-cases (decLt i n)
-        (λ h. a-subject h (sym (subject-some f n i h) ∙ sym q ∙ sym e))
-        (λ h. absurd (omega (arith, subject-none f n i (omega arith)))))
+      (λ h. a-subject h (sym (subject-some f n i h) ∙ sym q ∙ sym e))
+      (λ h. absurd (omega (arith, subject-none f n i (omega arith)))))
       (λ q. by-cases (decLt j n)
-        (λ h. by-cases (decLt (objectOf f ix j) (2 ^ 31))
-          (λ k. an-object h (sym (thing-some f ix n j h k) ∙ sym q ∙ sym e) (omega (arith, thing-some f ix n j h k)))
-          (λ k. absurd (omega (arith, thing-literal f ix n j h (omega arith)))))
-        (λ h. absurd (omega (arith, thing-none f ix n j (omega arith)))))
+      (λ h. by-cases (decLt (objectOf f ix j) (2 ^ 31))
+      (λ k. an-object h (sym (thing-some f ix n j h k) ∙ sym q ∙ sym e) (omega (arith, thing-some f ix n j h k)))
+      (λ k. absurd (omega (arith, thing-literal f ix n j h (omega arith)))))
+      (λ h. absurd (omega (arith, thing-none f ix n j (omega arith)))))
       (lesser-cases (subjectFrom f n i) (thingFrom f ix n j))
 
   -- An object that no place has no fact has.
@@ -180,17 +180,22 @@ module _ (f ix : List ℕ) (n : ℕ) (fw : Facts f n) (once : Once n ix) (sorted
             s .absent x p o
             (λ y k q. by-cases (decLt y i) (λ h. omega (arith, bs y h)) (λ h. omega (arith, next-subjects i j y (omega arith) k)))
             (λ y k t. no-object x (λ b h q. by-cases (decLt b j)
-              (λ z. omega (arith, bo b z))
-              (λ z. omega (arith, next-objects i j b (omega arith) h (thing-objects b h (below b h) (ap isLiteral q ∙ t))))) y k)
+            (λ z. omega (arith, bo b z))
+            (λ z. omega (arith, next-objects i j b (omega arith) h (thing-objects b h (below b h) (ap isLiteral q ∙ t))))) y k)
 
     pub run-start : (out : Output) (v : ℕ) → v ≡ nextSubject f ix n 0 0 → Running f ix n st m d r keys nc ns room out out 0 0 v
     unfolding putAll
     run-start out v e =
         record {
-          subjects = omega arith; objects = omega arith; next = e;
-          subject-before = λ y l. absurd (omega arith); object-before = λ y l. absurd (omega arith);
-          same-words = refl; same-supports = refl;
-          rows = λ K a s. let q : between (triple 0 0 0) (triple v 0 0) K ≡ [] = gap K a s 0 0 0 v (omega arith) e (λ y l. absurd (omega arith)) (λ y l. absurd (omega arith)) ∙ between-none (triple 0 0 0) K in rw q }
+          subjects = omega arith;
+          objects = omega arith;
+          next = e;
+          subject-before = λ y l. absurd (omega arith);
+          object-before = λ y l. absurd (omega arith);
+          same-words = refl;
+          same-supports = refl;
+          rows = λ K a s. let q : between (triple 0 0 0) (triple v 0 0) K ≡ [] = gap K a s 0 0 0 v (omega arith) e (λ y l. absurd (omega arith)) (λ y l. absurd (omega arith)) ∙ between-none (triple 0 0 0) K in rw q;
+        }
 
     module _ (out₀ out : Output) (i j v : ℕ) (g : Running f ix n st m d r keys nc ns room out₀ out i j v) (lv : v < 2 ^ 32) where
       -- The subject is no literal.
@@ -205,20 +210,26 @@ module _ (f ix : List ℕ) (n : ℕ) (fw : Facts f n) (once : Once n ix) (sorted
       pub run-subjects : (e : ℕ) → EndOf (subjectAt f) n v i e → Range (subjectAt f) n v i e
       run-subjects e w =
           record {
-            low = w .low; high = w .high; all = w .all;
+            low = w .low;
+            high = w .high;
+            all = w .all;
             before = λ y l q. omega (arith, g .subject-before y l);
-            after = λ y l u q. w .next (omega arith) (omega (arith, subjects-climb e y l u, next-subjects i j e (w .low) (omega arith), g .next)) }
+            after = λ y l u q. w .next (omega arith) (omega (arith, subjects-climb e y l u, next-subjects i j e (w .low) (omega arith), g .next));
+          }
 
       -- and so are those of which it is the object.
       pub run-objects : (h : ℕ) → EndOf (objectOf f ix) n v j h → Range (objectOf f ix) n v j h
       run-objects h w =
           record {
-            low = w .low; high = w .high; all = w .all;
+            low = w .low;
+            high = w .high;
+            all = w .all;
             before = λ a l q. omega (arith, g .object-before a l);
             after = λ a l u q.
-              let t : objectOf f ix a < 2 ^ 31 = thing-objects a u (below a u) (ap isLiteral q ∙ run-thing) in
-              let c : objectOf f ix h ≤ objectOf f ix a = objects-climb h a l u in
-              w .next (omega arith) (omega (arith, next-objects i j h (w .low) (omega arith) (omega arith), g .next)) }
+                let t : objectOf f ix a < 2 ^ 31 = thing-objects a u (below a u) (ap isLiteral q ∙ run-thing) in
+                let c : objectOf f ix h ≤ objectOf f ix a = objects-climb h a l u in
+                w .next (omega arith) (omega (arith, next-objects i j h (w .low) (omega arith) (omega arith), g .next));
+          }
 
       -- One of the two goes on.
       pub run-less : (e h : ℕ) → EndOf (subjectAt f) n v i e → EndOf (objectOf f ix) n v j h → (n - e) + (n - h) < (n - i) + (n - j)
@@ -240,17 +251,21 @@ module _ (f ix : List ℕ) (n : ℕ) (fw : Facts f n) (once : Once n ix) (sorted
           → length (out' .words) ≡ length (out .words) → length (out' .supports) ≡ length (out .supports) → Running f ix n st m d r keys nc ns room out₀ out' e h v'
       run-more e h v' out' w z q rows' lw ls =
           record {
-            subjects = w .high; objects = z .high; next = q;
+            subjects = w .high;
+            objects = z .high;
+            next = q;
             subject-before = λ y l. omega (arith, up-subject y l, later e h v' w z q);
             object-before = λ a l. omega (arith, up-object a l, later e h v' w z q);
-            same-words = lw ∙ g .same-words; same-supports = ls ∙ g .same-supports;
+            same-words = lw ∙ g .same-words;
+            same-supports = ls ∙ g .same-supports;
             rows = λ K a s.
-              let j₁ : between (triple 0 0 0) (triple (v + 1) 0 0) K ≡ between (triple 0 0 0) (triple v 0 0) K ++ between (triple v 0 0) (triple (v + 1) 0 0) K =
+                let j₁ : between (triple 0 0 0) (triple (v + 1) 0 0) K ≡ between (triple 0 0 0) (triple v 0 0) K ++ between (triple v 0 0) (triple (v + 1) 0 0) K =
                 between-join (triple 0 0 0) (triple v 0 0) (triple (v + 1) 0 0) K a (not-first (triple v 0 0)) (subject-order v (v + 1) (omega arith)) in
-              rows' K a s
-              ∙ ap (putAll room (between (triple v 0 0) (triple (v + 1) 0 0) K)) (g .rows K a s)
-              ∙ sym (put-append room (between (triple 0 0 0) (triple v 0 0) K) (between (triple v 0 0) (triple (v + 1) 0 0) K) out₀)
-              ∙ ap (λ (k : Kept). putAll room k out₀) (sym (gap K a s e h (v + 1) v' (omega (arith, later e h v' w z q)) q (λ y l. omega (arith, up-subject y l)) (λ y l. omega (arith, up-object y l)) ∙ j₁)) }
+                rows' K a s
+                ∙ ap (putAll room (between (triple v 0 0) (triple (v + 1) 0 0) K)) (g .rows K a s)
+                ∙ sym (put-append room (between (triple 0 0 0) (triple v 0 0) K) (between (triple v 0 0) (triple (v + 1) 0 0) K) out₀)
+                ∙ ap (λ (k : Kept). putAll room k out₀) (sym (gap K a s e h (v + 1) v' (omega (arith, later e h v' w z q)) q (λ y l. omega (arith, up-subject y l)) (λ y l. omega (arith, up-object y l)) ∙ j₁));
+          }
         where
           up-subject : (y : ℕ) → y < e → subjectAt f y ≤ v
           up-subject y l = by-cases (decLt y i) (λ k. omega (arith, g .subject-before y k)) (λ k. omega (arith, w .all y (omega arith) l))

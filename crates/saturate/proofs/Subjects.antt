@@ -59,8 +59,8 @@ module _ (st : List ℕ) (m nc ns : ℕ) (d r f ix : List ℕ) (n x i e j h : �
   other-sum c =
       let H : ℕ → ℕ = λ a. objectAdds st m r f x c (getD ix a 0) in
       let b : sumTo H n + sumTo (λ a. otherBit st m r f x c (getD ix a 0)) j ≡ sumTo (λ a. otherBit st m r f x c (getD ix a 0)) h =
-        sum-range H (λ a. otherBit st m r f x c (getD ix a 0)) j h n (or .low) (or .high)
-        (λ y l. object-adds-not st m nc d r f x c (getD ix y 0) (or .before y l)) (λ y l u. object-is c (getD ix y 0) (or .all y l u)) (λ y l u. object-adds-not st m nc d r f x c (getD ix y 0) (or .after y l u)) in
+      sum-range H (λ a. otherBit st m r f x c (getD ix a 0)) j h n (or .low) (or .high)
+      (λ y l. object-adds-not st m nc d r f x c (getD ix y 0) (or .before y l)) (λ y l u. object-is c (getD ix y 0) (or .all y l u)) (λ y l u. object-adds-not st m nc d r f x c (getD ix y 0) (or .after y l u)) in
       omega (arith, once (objectAdds st m r f x c), sumAt-is (objectAdds st m r f x c) ix n)
 
   -- What was counted is what the facts add.
@@ -68,7 +68,8 @@ module _ (st : List ℕ) (m nc ns : ℕ) (d r f ix : List ℕ) (n x i e j h : �
   counts-of counts₀ counts₁ counts le z a b =
       record {
         class = λ c l. omega (arith, z c, a .below c (omega arith), b .below c l, own-sum c, other-sum c);
-        property = λ c l u. omega (arith, z c, a .below c u, b .above c l, own-sum c) }
+        property = λ c l u. omega (arith, z c, a .below c u, b .above c l, own-sum c);
+      }
 
 -- ---- sums over the facts of the subject
 
@@ -189,7 +190,8 @@ module _ (f : List ℕ) (n x i t e : ℕ) (fw : Facts f n) (sr : Range (subjectA
       property-rows-of K s =
           record {
             column = λ c o l u. omega (arith, s .property x o c l u, explicit-others (getD keys c 0) o (kw .not-type c l u), led-sum o c);
-            other = λ q o l h. s .other-property x q o (λ z. omega arith) h ∙ explicit-others q o l }
+            other = λ q o l h. s .other-property x q o (λ z. omega arith) h ∙ explicit-others q o l;
+          }
 
       -- ---- all rows of the subject
 
@@ -204,11 +206,11 @@ module _ (f : List ℕ) (n x i t e : ℕ) (fw : Facts f n) (sr : Range (subjectA
           → (K : Kept) → Counts K → Supported K st m d r keys nc ns f n → out₂ ≡ putAll room (between (triple x 0 0) (triple (x + 1) 0 0) K) out₀
       subject-rows-of room out₀ out₁ out₂ e₁ e₂ K a s =
           let first : between (triple x 0 0) (triple x 1 0) K ≡ [] =
-            between-skip (triple x 0 0) (triple x 0 0) (triple x 1 0) K a (not-before x 0 1 0 (omega arith)) (λ u l k. zero-row u l k) ∙ between-none (triple x 0 0) K in
+          between-skip (triple x 0 0) (triple x 0 0) (triple x 1 0) K a (not-before x 0 1 0 (omega arith)) (λ u l k. zero-row u l k) ∙ between-none (triple x 0 0) K in
           let j₁ : between (triple x 0 0) (triple x 2 0) K ≡ between (triple x 0 0) (triple x 1 0) K ++ between (triple x 1 0) (triple x 2 0) K =
-            between-join (triple x 0 0) (triple x 1 0) (triple x 2 0) K a (not-before x 0 1 0 (omega arith)) (not-before x 1 2 0 (omega arith)) in
+          between-join (triple x 0 0) (triple x 1 0) (triple x 2 0) K a (not-before x 0 1 0 (omega arith)) (not-before x 1 2 0 (omega arith)) in
           let j₂ : between (triple x 0 0) (triple (x + 1) 0 0) K ≡ between (triple x 0 0) (triple x 2 0) K ++ between (triple x 2 0) (triple (x + 1) 0 0) K =
-            between-join (triple x 0 0) (triple x 2 0) (triple (x + 1) 0 0) K a (not-before x 0 2 0 (omega arith)) over in
+          between-join (triple x 0 0) (triple x 2 0) (triple (x + 1) 0 0) K a (not-before x 0 2 0 (omega arith)) over in
           let j₃ : between (triple x 0 0) (triple x 2 0) K ≡ between (triple x 1 0) (triple x 2 0) K = j₁ ∙ ap (λ (k : Kept). k ++ between (triple x 1 0) (triple x 2 0) K) first in
           e₂ K a (property-rows-of K s)
           ∙ ap (putAll room (between (triple x 2 0) (triple (x + 1) 0 0) K)) (e₁ K a (types-totalled K s) ∙ ap (λ (k : Kept). putAll room k out₀) (sym j₃))

@@ -26,11 +26,7 @@ fn wide(bit: u8) -> u32
 fn either_bit(a: u8, b: u8, class: bool) -> u8
     ensures { λ r. ⌜ r ≡ cond class (either a b) a ⌝ }
 {
-    if class {
-        if a == 1 { 1 } else { b }
-    } else {
-        a
-    }
+    if class { if a == 1 { 1 } else { b } } else { a }
 }
 
 // Adds row g of a square to the counts of the columns below end. No branch, so that many columns are done at once.
@@ -61,7 +57,18 @@ fn add_either(counts: &mut [u32], domains: &[u8], ranges: &[u8], g: usize, nc: u
 }
 
 // Adds what fact y, of the subject x, gives x and leads to.
-fn count_fact(statements: &[u32], m: usize, f: &[u32], y: usize, x: u32, domains: &[u8], ranges: &[u8], nc: usize, ns: usize, counts: &mut [u32])
+fn count_fact(
+    statements: &[u32],
+    m: usize,
+    f: &[u32],
+    y: usize,
+    x: u32,
+    domains: &[u8],
+    ranges: &[u8],
+    nc: usize,
+    ns: usize,
+    counts: &mut [u32],
+)
     requires { ⌜ Statements (now statements) m ⌝ }
     requires { ⌜ Square (now statements) m ns (now domains) ⌝ }
     requires { ⌜ Square (now statements) m ns (now ranges) ⌝ }
@@ -89,7 +96,19 @@ fn count_fact(statements: &[u32], m: usize, f: &[u32], y: usize, x: u32, domains
 }
 
 // Adds what the facts i .. e, of the subject x, give x and lead to.
-fn count_subject(statements: &[u32], m: usize, f: &[u32], i: usize, e: usize, x: u32, domains: &[u8], ranges: &[u8], nc: usize, ns: usize, counts: &mut [u32])
+fn count_subject(
+    statements: &[u32],
+    m: usize,
+    f: &[u32],
+    i: usize,
+    e: usize,
+    x: u32,
+    domains: &[u8],
+    ranges: &[u8],
+    nc: usize,
+    ns: usize,
+    counts: &mut [u32],
+)
     requires { ⌜ Statements (now statements) m ⌝ }
     requires { ⌜ Square (now statements) m ns (now domains) ⌝ }
     requires { ⌜ Square (now statements) m ns (now ranges) ⌝ }
@@ -105,7 +124,17 @@ fn count_subject(statements: &[u32], m: usize, f: &[u32], i: usize, e: usize, x:
 }
 
 // Adds what fact y, whose object is x, gives x by range, where its subject is another.
-fn count_other(statements: &[u32], m: usize, f: &[u32], y: usize, x: u32, ranges: &[u8], nc: usize, ns: usize, counts: &mut [u32])
+fn count_other(
+    statements: &[u32],
+    m: usize,
+    f: &[u32],
+    y: usize,
+    x: u32,
+    ranges: &[u8],
+    nc: usize,
+    ns: usize,
+    counts: &mut [u32],
+)
     requires { ⌜ Statements (now statements) m ⌝ }
     requires { ⌜ Square (now statements) m ns (now ranges) ⌝ }
     requires { ⌜ (y * 3 + 3 < length (now f)) × (nc ≤ ns) × (ns ≤ 512) × (ns ≤ length (now counts)) ⌝ }
@@ -122,7 +151,19 @@ fn count_other(statements: &[u32], m: usize, f: &[u32], y: usize, x: u32, ranges
 }
 
 // Adds what the facts at the places j .. h of the index, whose object is x, give x by range.
-fn count_object(statements: &[u32], m: usize, f: &[u32], ix: &[u32], j: usize, h: usize, x: u32, ranges: &[u8], nc: usize, ns: usize, counts: &mut [u32])
+fn count_object(
+    statements: &[u32],
+    m: usize,
+    f: &[u32],
+    ix: &[u32],
+    j: usize,
+    h: usize,
+    x: u32,
+    ranges: &[u8],
+    nc: usize,
+    ns: usize,
+    counts: &mut [u32],
+)
     requires { ⌜ Statements (now statements) m ⌝ }
     requires { ⌜ Square (now statements) m ns (now ranges) ⌝ }
     requires { ⌜ (j ≤ h) × (h ≤ length (now ix)) × (nc ≤ ns) × (ns ≤ 512) × (ns ≤ length (now counts)) ⌝ }
@@ -145,7 +186,21 @@ fn no_counts() -> [u32; 512]
 }
 
 // The counts of the columns for x, from the facts i .. e of the subject x and those at the places j .. h of the index, of the object x.
-pub fn counts_of(statements: &[u32], m: usize, domains: &[u8], ranges: &[u8], nc: usize, ns: usize, f: &[u32], ix: &[u32], i: usize, e: usize, j: usize, h: usize, x: u32) -> [u32; 512]
+pub fn counts_of(
+    statements: &[u32],
+    m: usize,
+    domains: &[u8],
+    ranges: &[u8],
+    nc: usize,
+    ns: usize,
+    f: &[u32],
+    ix: &[u32],
+    i: usize,
+    e: usize,
+    j: usize,
+    h: usize,
+    x: u32,
+) -> [u32; 512]
     requires { ⌜ Statements (now statements) m ⌝ }
     requires { ⌜ Square (now statements) m ns (now domains) ⌝ }
     requires { ⌜ Square (now statements) m ns (now ranges) ⌝ }
@@ -158,7 +213,19 @@ pub fn counts_of(statements: &[u32], m: usize, domains: &[u8], ranges: &[u8], nc
     ensures { λ r. ⌜ CountsOf (now (statements .entry)) m (now (domains .entry)) (now (ranges .entry)) nc ns (now (f .entry)) (count (now (f .entry))) x r ⌝ }
 {
     let mut counts = no_counts();
-    count_subject(statements, m, f, i, e, x, domains, ranges, nc, ns, &mut counts);
+    count_subject(
+        statements,
+        m,
+        f,
+        i,
+        e,
+        x,
+        domains,
+        ranges,
+        nc,
+        ns,
+        &mut counts,
+    );
     count_object(statements, m, f, ix, j, h, x, ranges, nc, ns, &mut counts);
     counts
 }

@@ -43,7 +43,19 @@ fn block_end(f: &[u32], a: usize, e: usize) -> usize
 }
 
 // Adds to the first k0 streams the blocks of the facts i .. e, of one subject, whose property leads to column c; how many streams there are then.
-pub fn gather(statements: &[u32], m: usize, domains: &[u8], c: usize, ns: usize, f: &[u32], i: usize, e: usize, from: &mut [usize], to: &mut [usize], k0: usize) -> usize
+pub fn gather(
+    statements: &[u32],
+    m: usize,
+    domains: &[u8],
+    c: usize,
+    ns: usize,
+    f: &[u32],
+    i: usize,
+    e: usize,
+    from: &mut [usize],
+    to: &mut [usize],
+    k0: usize,
+) -> usize
     requires { ⌜ Statements (now statements) m ⌝ }
     requires { ⌜ (c < ns) × (ns ≤ 512) × (i ≤ e) × (e * 3 < length (now f)) × (k0 + m ≤ length (now from)) × (k0 + m ≤ length (now to)) ⌝ }
     requires { ⌜ Square (now statements) m ns (now domains) ⌝ }

@@ -138,7 +138,20 @@ fn zero_supports(t: &mut [u16], a: usize)
 
 // Puts all rows in two passes: the first counts them and writes nothing; where they fit room, the second writes them, and then come the
 // count and the zeros. True where they fit.
-fn put_all(statements: &[u32], m: usize, domains: &[u8], ranges: &[u8], keys: &[u32; 512], nc: usize, ns: usize, facts: &[u32], ix: &[u32], kept: &mut [u32], supports: &mut [u16], room: usize) -> bool
+fn put_all(
+    statements: &[u32],
+    m: usize,
+    domains: &[u8],
+    ranges: &[u8],
+    keys: &[u32; 512],
+    nc: usize,
+    ns: usize,
+    facts: &[u32],
+    ix: &[u32],
+    kept: &mut [u32],
+    supports: &mut [u16],
+    room: usize,
+) -> bool
     requires { ⌜ Prepared (now statements) m (now keys) nc ns (now domains) (now ranges) ⌝ }
     requires { ⌜ Facts (now facts) (count (now facts)) ⌝ }
     requires { ⌜ Index (now facts) (now ix) (count (now facts)) × Once (count (now facts)) (now ix) × Sorted (now facts) (now ix) (count (now facts)) ⌝ }
@@ -149,11 +162,41 @@ fn put_all(statements: &[u32], m: usize, domains: &[u8], ranges: &[u8], keys: &[
 {
     let mut from = no_ends();
     let mut to = no_ends();
-    let k = put_rows(statements, m, domains, ranges, keys, nc, ns, facts, ix, &mut from, &mut to, kept, supports, 0);
+    let k = put_rows(
+        statements,
+        m,
+        domains,
+        ranges,
+        keys,
+        nc,
+        ns,
+        facts,
+        ix,
+        &mut from,
+        &mut to,
+        kept,
+        supports,
+        0,
+    );
     if room < k {
         return false;
     }
-    let n = put_rows(statements, m, domains, ranges, keys, nc, ns, facts, ix, &mut from, &mut to, kept, supports, room);
+    let n = put_rows(
+        statements,
+        m,
+        domains,
+        ranges,
+        keys,
+        nc,
+        ns,
+        facts,
+        ix,
+        &mut from,
+        &mut to,
+        kept,
+        supports,
+        room,
+    );
     kept[0] = n as u32;
     zero_words(kept, n * 3 + 1);
     zero_supports(supports, n);
@@ -161,7 +204,13 @@ fn put_all(statements: &[u32], m: usize, domains: &[u8], ranges: &[u8], keys: &[
 }
 
 // Works the kept facts and their supports out afresh. True: they are in kept and supports. False: they do not fit room, and no word has changed.
-pub fn saturate(statements: &[u32], facts: &[u32], kept: &mut [u32], supports: &mut [u16], room: usize) -> bool
+pub fn saturate(
+    statements: &[u32],
+    facts: &[u32],
+    kept: &mut [u32],
+    supports: &mut [u16],
+    room: usize,
+) -> bool
     requires { ⌜ isStatementTable (now statements) ≡ true ⌝ }
     requires { ⌜ isFactTable (now facts) ≡ true ⌝ }
     requires { ⌜ (room * 3 < length (now kept)) × (room ≤ length (now supports)) × (room ≤ 262143) ⌝ }
@@ -175,5 +224,18 @@ pub fn saturate(statements: &[u32], facts: &[u32], kept: &mut [u32], supports: &
     let domains = domain_square(statements, m, &columns, ns);
     let ranges = square(statements, m, &columns, ns, 5);
     let ix = index_of(facts);
-    put_all(statements, m, &domains, &ranges, &keys, nc, ns, facts, &ix, kept, supports, room)
+    put_all(
+        statements,
+        m,
+        &domains,
+        &ranges,
+        &keys,
+        nc,
+        ns,
+        facts,
+        &ix,
+        kept,
+        supports,
+        room,
+    )
 }

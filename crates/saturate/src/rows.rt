@@ -42,7 +42,15 @@ fn first_from(f: &[u32], q: usize, e: usize, w: u64) -> usize
 }
 
 // Puts the facts a .. b as they are, each with the support 1.
-fn put_facts(f: &[u32], a: usize, b: usize, kept: &mut [u32], supports: &mut [u16], room: usize, n0: usize) -> usize
+fn put_facts(
+    f: &[u32],
+    a: usize,
+    b: usize,
+    kept: &mut [u32],
+    supports: &mut [u16],
+    room: usize,
+    n0: usize,
+) -> usize
     requires { ⌜ b * 3 < length (now f) ⌝ }
     requires { ⌜ (room * 3 < length (now kept)) × (room ≤ length (now supports)) × (room ≤ 2 ^ 32) ⌝ }
     ensures { λ r. ⌜ output (now (kept .exit)) (now (supports .exit)) r ≡ putAll room (ones (now (f .entry)) a (b - a)) (output (now (kept .entry)) (now (supports .entry)) n0) ⌝ }
@@ -59,7 +67,26 @@ fn put_facts(f: &[u32], a: usize, b: usize, kept: &mut [u32], supports: &mut [u1
 
 // Puts the rows x w o: those of the facts z .. b, which are of the property w, merged with those of the facts t .. e whose property leads to
 // column c.
-fn column_rows(statements: &[u32], m: usize, domains: &[u8], c: usize, ns: usize, f: &[u32], t: usize, e: usize, z: usize, b: usize, x: u32, w: u32, from: &mut [usize], to: &mut [usize], kept: &mut [u32], supports: &mut [u16], room: usize, n0: usize) -> usize
+fn column_rows(
+    statements: &[u32],
+    m: usize,
+    domains: &[u8],
+    c: usize,
+    ns: usize,
+    f: &[u32],
+    t: usize,
+    e: usize,
+    z: usize,
+    b: usize,
+    x: u32,
+    w: u32,
+    from: &mut [usize],
+    to: &mut [usize],
+    kept: &mut [u32],
+    supports: &mut [u16],
+    room: usize,
+    n0: usize,
+) -> usize
     requires { ⌜ Statements (now statements) m ⌝ }
     requires { ⌜ (m ≤ 512) × (c < ns) × (ns ≤ 512) × (t ≤ e) × (e * 3 < length (now f)) × (513 ≤ length (now from)) × (513 ≤ length (now to)) ⌝ }
     requires { ⌜ Square (now statements) m ns (now domains) ⌝ }
@@ -75,7 +102,25 @@ fn column_rows(statements: &[u32], m: usize, domains: &[u8], c: usize, ns: usize
 }
 
 // Puts the rows of the subject x whose property is not rdf:type, from the facts t .. e.
-fn property_rows(statements: &[u32], m: usize, domains: &[u8], keys: &[u32; 512], nc: usize, ns: usize, counts: &[u32; 512], f: &[u32], t: usize, e: usize, x: u32, from: &mut [usize], to: &mut [usize], kept: &mut [u32], supports: &mut [u16], room: usize, n0: usize) -> usize
+fn property_rows(
+    statements: &[u32],
+    m: usize,
+    domains: &[u8],
+    keys: &[u32; 512],
+    nc: usize,
+    ns: usize,
+    counts: &[u32; 512],
+    f: &[u32],
+    t: usize,
+    e: usize,
+    x: u32,
+    from: &mut [usize],
+    to: &mut [usize],
+    kept: &mut [u32],
+    supports: &mut [u16],
+    room: usize,
+    n0: usize,
+) -> usize
     requires { ⌜ Statements (now statements) m ⌝ }
     requires { ⌜ Square (now statements) m ns (now domains) ⌝ }
     requires { ⌜ Keys (now keys) nc ns ⌝ }
@@ -98,14 +143,54 @@ fn property_rows(statements: &[u32], m: usize, domains: &[u8], keys: &[u32; 512]
             let z = first_from(f, q, e, wide(w));
             n = put_facts(f, q, z, kept, supports, room, n);
             q = first_from(f, z, e, wide(w) + 1);
-            n = column_rows(statements, m, domains, c, ns, f, t, e, z, q, x, w, from, to, kept, supports, room, n);
+            n = column_rows(
+                statements,
+                m,
+                domains,
+                c,
+                ns,
+                f,
+                t,
+                e,
+                z,
+                q,
+                x,
+                w,
+                from,
+                to,
+                kept,
+                supports,
+                room,
+                n,
+            );
         }
     }
     put_facts(f, q, e, kept, supports, room, n)
 }
 
 // Puts the rows of the subject x, from the facts i .. e of the subject x and those at the places j .. h of the index, of the object x.
-pub fn subject_rows(statements: &[u32], m: usize, domains: &[u8], ranges: &[u8], keys: &[u32; 512], nc: usize, ns: usize, f: &[u32], ix: &[u32], i: usize, e: usize, j: usize, h: usize, x: u32, from: &mut [usize], to: &mut [usize], kept: &mut [u32], supports: &mut [u16], room: usize, n0: usize) -> usize
+pub fn subject_rows(
+    statements: &[u32],
+    m: usize,
+    domains: &[u8],
+    ranges: &[u8],
+    keys: &[u32; 512],
+    nc: usize,
+    ns: usize,
+    f: &[u32],
+    ix: &[u32],
+    i: usize,
+    e: usize,
+    j: usize,
+    h: usize,
+    x: u32,
+    from: &mut [usize],
+    to: &mut [usize],
+    kept: &mut [u32],
+    supports: &mut [u16],
+    room: usize,
+    n0: usize,
+) -> usize
     requires { ⌜ Prepared (now statements) m (now keys) nc ns (now domains) (now ranges) ⌝ }
     requires { ⌜ Facts (now f) (count (now f)) ⌝ }
     requires { ⌜ Index (now f) (now ix) (count (now f)) ⌝ }
@@ -121,5 +206,23 @@ pub fn subject_rows(statements: &[u32], m: usize, domains: &[u8], ranges: &[u8],
     let counts = counts_of(statements, m, domains, ranges, nc, ns, f, ix, i, e, j, h, x);
     let t = first_from(f, i, e, 2);
     let n = merge_counted(f, i, t, x, 1, keys, nc, &counts, kept, supports, room, n0);
-    property_rows(statements, m, domains, keys, nc, ns, &counts, f, t, e, x, from, to, kept, supports, room, n)
+    property_rows(
+        statements,
+        m,
+        domains,
+        keys,
+        nc,
+        ns,
+        &counts,
+        f,
+        t,
+        e,
+        x,
+        from,
+        to,
+        kept,
+        supports,
+        room,
+        n,
+    )
 }

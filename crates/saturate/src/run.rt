@@ -62,7 +62,11 @@ fn subject_from(f: &[u32], n: usize, i: usize) -> u64
     requires { ⌜ n * 3 < length (now f) ⌝ }
     ensures { λ r. ⌜ r ≡ subjectFrom (now (f .entry)) n i ⌝ }
 {
-    if i < n { wide(subject_at(f, i)) } else { 4294967296 }
+    if i < n {
+        wide(subject_at(f, i))
+    } else {
+        4294967296
+    }
 }
 
 // The object at place j of the index, 2^32 where there is none or it is a literal.
@@ -88,7 +92,22 @@ fn next_subject(f: &[u32], ix: &[u32], n: usize, i: usize, j: usize) -> u64
 }
 
 // Puts all rows: the whole list of kept facts that has these supports. How many there are, counted up to 2^32.
-pub fn put_rows(statements: &[u32], m: usize, domains: &[u8], ranges: &[u8], keys: &[u32; 512], nc: usize, ns: usize, f: &[u32], ix: &[u32], from: &mut [usize], to: &mut [usize], kept: &mut [u32], supports: &mut [u16], room: usize) -> usize
+pub fn put_rows(
+    statements: &[u32],
+    m: usize,
+    domains: &[u8],
+    ranges: &[u8],
+    keys: &[u32; 512],
+    nc: usize,
+    ns: usize,
+    f: &[u32],
+    ix: &[u32],
+    from: &mut [usize],
+    to: &mut [usize],
+    kept: &mut [u32],
+    supports: &mut [u16],
+    room: usize,
+) -> usize
     requires { ⌜ Prepared (now statements) m (now keys) nc ns (now domains) (now ranges) ⌝ }
     requires { ⌜ Facts (now f) (count (now f)) ⌝ }
     requires { ⌜ Index (now f) (now ix) (count (now f)) ⌝ }
@@ -108,7 +127,28 @@ pub fn put_rows(statements: &[u32], m: usize, domains: &[u8], ranges: &[u8], key
         let x = v as u32;
         let e = subject_end(f, n, i, x);
         let h = object_end(f, ix, n, j, x);
-        out = subject_rows(statements, m, domains, ranges, keys, nc, ns, f, ix, i, e, j, h, x, from, to, kept, supports, room, out);
+        out = subject_rows(
+            statements,
+            m,
+            domains,
+            ranges,
+            keys,
+            nc,
+            ns,
+            f,
+            ix,
+            i,
+            e,
+            j,
+            h,
+            x,
+            from,
+            to,
+            kept,
+            supports,
+            room,
+            out,
+        );
         i = e;
         j = h;
         v = next_subject(f, ix, n, i, j);
