@@ -21,8 +21,8 @@ use Rattle.schema.specs.Compiled.{Compiled, Keyed, subjectAt, propertyAt, objec
 use Rattle.schema.proofs.Tables.{fact-words, rows-ascend, row-subject, row-property, row-object, plain-below}
 use Rattle.schema.proofs.Counted.{marks-even, no-type, class-support, class-support-none, property-support, property-support-none, absent-support}
 use Rattle.schema.proofs.Made.{compiled-made, keyed-made}
-use Rattle.saturate.specs.Prepared.{Square, Keys, Prepared, Facts}
-use Rattle.saturate.specs.Supported.{Supported, Small}
+use Rattle.subject.specs.Prepared.{Square, Keys, Prepared, Facts}
+use Rattle.subject.specs.Supported.{Supported, Small}
 use Rattle.saturate.specs.Saturated.{Exists, Domains, Ranges}
 
 -- The facts of a well-formed table.

@@ -28,9 +28,9 @@ use Rattle.merge.proofs.Output.{put-append}
 use Rattle.merge.proofs.Between.{between-none, between-skip}
 use Rattle.merge.proofs.Streams.{lesser-left, lesser-right, lesser-lt}
 use Rattle.merge.proofs.Whole.{between-join, between-all}
-use Rattle.saturate.specs.Index.{objectOf, Once, Sorted}
-use Rattle.saturate.specs.Prepared.{Facts}
-use Rattle.saturate.specs.Supported.{Supported, Range}
+use Rattle.subject.specs.Index.{objectOf, Once, Sorted}
+use Rattle.subject.specs.Prepared.{Facts}
+use Rattle.subject.specs.Supported.{Supported, Range}
 use Rattle.saturate.specs.Run.{EndOf, subjectFrom, thingFrom, nextSubject}
 
 -- ---- the search for an end

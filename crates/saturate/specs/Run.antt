@@ -7,7 +7,7 @@ use lib.ListN.{getD}
 use lib.Dec.{ltb}
 use Rattle.merge.specs.Streams.{lesserOf}
 use Rattle.schema.specs.Compiled.{subjectAt}
-use Rattle.saturate.specs.Index.{objectOf}
+use Rattle.subject.specs.Index.{objectOf}
 
 -- The places i .. e are those from i on, below n, where key is x, up to the first where it is not.
 pub record EndOf (key : ℕ → ℕ) (n x i e : ℕ) : Type 0 where

@@ -11,16 +11,11 @@ ghost use Rattle.rdfs.specs.Counts.{Counts};
 ghost use Rattle.schema.specs.Nodes.{Columns};
 ghost use Rattle.schema.specs.Squares.{at};
 ghost use Rattle.schema.specs.Ascent.{termOf};
-ghost use Rattle.saturate.specs.Index.{Index, Once, Sorted};
-ghost use Rattle.saturate.specs.Prepared.{Prepared, Facts};
-ghost use Rattle.saturate.specs.Supported.{Supported, Small};
+ghost use Rattle.subject.specs.Index.{Index, Once, Sorted};
+ghost use Rattle.subject.specs.Prepared.{Prepared, Facts};
+ghost use Rattle.subject.specs.Supported.{Supported, Small};
 ghost use Rattle.saturate.specs.Saturated.{result, written, saturated, Exists, zeroFrom, Domains, Ranges};
 
-mod words; // words.rt: the words of a table's rows
-mod index; // index.rt: the places of the facts, in the order of their objects
-mod gather; // gather.rt: the blocks of facts whose property leads to a column
-mod count; // count.rt: what the facts about a thing add to the counts of the columns
-mod rows; // rows.rt: the rows of one subject
 mod run; // run.rt: the run over the subjects
 
 use run::put_rows;
@@ -108,7 +103,7 @@ fn index_of(facts: &[u32]) -> [u32; 65536]
 {
     let n = facts[0] as usize;
     let mut ix = no_places();
-    index::by_object(facts, &mut ix, n);
+    subject::index::by_object(facts, &mut ix, n);
     ix
 }
 

@@ -5,9 +5,6 @@ use native.Mathlib.Omega.{arith}
 use Rattle.merge.proofs.Streams.{front-none, front-some}
 use Rattle.merge.proofs.front.Statement.{statement}
 use Rattle.merge.proofs.front.Tie as tie
-use Rattle.merge.proofs.front.Reads as reads
-use Rattle.merge.proofs.front.Lts as lts
-use Rattle.merge.proofs.object_at.Reads as object-at-reads
 
 object-at-requires : tie.Need-object-at-requires
 object-at-requires c κs = search needs

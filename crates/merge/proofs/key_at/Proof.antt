@@ -9,9 +9,6 @@ use Rattle.merge.specs.Counted.{keyAt}
 use Rattle.merge.proofs.Counting.{keyAt-at}
 use Rattle.merge.proofs.key_at.Statement.{statement}
 use Rattle.merge.proofs.key_at.Tie as tie
-use Rattle.merge.proofs.key_at.Reads as reads
-use Rattle.merge.proofs.key_at.Lts as lts
-use Rattle.merge.proofs.wide.Reads as wide-reads
 
 mul-wide : tie.Need-mul-wide
 mul-wide c = search needs

@@ -7,10 +7,6 @@ use Rattle.merge.proofs.Streams.{least-more, least-none}
 use Rattle.merge.proofs.Counting.{least}
 use Rattle.merge.proofs.least.Statement.{statement}
 use Rattle.merge.proofs.least.Tie as tie
-use Rattle.merge.proofs.least.Reads as reads
-use Rattle.merge.proofs.least.Lts as lts
-use Rattle.merge.proofs.front.Reads as front-reads
-use Rattle.merge.proofs.lesser.Reads as lesser-reads
 
 abbrev Inv-loop : tie.InvT-loop
 Inv-loop f from to k best₀ y₀ best y = (y ≤ k) × (best ≡ leastOf (streams f from to y))

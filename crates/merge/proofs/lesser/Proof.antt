@@ -2,8 +2,6 @@ use borrow.Author.Needs.{needs}
 use borrow.Author.Tests.{lt-ltb, le-ltb}
 use Rattle.merge.proofs.lesser.Statement.{statement}
 use Rattle.merge.proofs.lesser.Tie as tie
-use Rattle.merge.proofs.lesser.Reads as reads
-use Rattle.merge.proofs.lesser.Lts as lts
 
 returns : tie.Need-returns
 returns c = simp (lt-ltb _ _ (c .if1 .taken))

@@ -11,12 +11,6 @@ use Rattle.merge.proofs.Streams.{front-none, front-some}
 use Rattle.merge.proofs.Counting.{counting-start, keyAt-low, keyAt-at, At, at-left, at-right, at-pass, at-both, at-small, at-small-both, at-keys, at-end}
 use Rattle.merge.proofs.merge_counted.Statement.{statement}
 use Rattle.merge.proofs.merge_counted.Tie as tie
-use Rattle.merge.proofs.merge_counted.Reads as reads
-use Rattle.merge.proofs.merge_counted.Lts as lts
-use Rattle.merge.proofs.key_at.Reads as key-at-reads
-use Rattle.merge.proofs.object_at.Reads as object-at-reads
-use Rattle.merge.proofs.put.Reads as put-reads
-use Rattle.merge.proofs.wide.Reads as wide-reads
 
 abbrev Inv-loop : tie.InvT-loop
 Inv-loop f i e x p keys end counts kept₀ supports₀ room n0 n₀ q₀ r₀ kept supports n q r = (r ≤ end) × At x p room f keys counts e end (objects f i (e - i)) (counted keys counts 0 end) (output kept₀ supports₀ n0) (output kept supports n) q r

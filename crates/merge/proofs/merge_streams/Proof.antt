@@ -8,11 +8,6 @@ use Rattle.merge.proofs.Streams.{remaining}
 use Rattle.merge.proofs.Merging.{Turn, turn-start, turn-more, turn-less, turn-end}
 use Rattle.merge.proofs.merge_streams.Statement.{statement}
 use Rattle.merge.proofs.merge_streams.Tie as tie
-use Rattle.merge.proofs.merge_streams.Reads as reads
-use Rattle.merge.proofs.merge_streams.Lts as lts
-use Rattle.merge.proofs.least.Reads as least-reads
-use Rattle.merge.proofs.put.Reads as put-reads
-use Rattle.merge.proofs.step.Reads as step-reads
 
 abbrev Inv-loop : tie.InvT-loop
 Inv-loop f from₀ to k x q kept₀ supports₀ room n0 n₀ o₀ from kept supports n o = Turn f to from₀ from k x q room (output kept₀ supports₀ n0) (output kept supports n) o

@@ -6,8 +6,6 @@ use lib.ListN.{length-set}
 use Rattle.merge.proofs.Output.{put-here, put-past, put-full}
 use Rattle.merge.proofs.put.Statement.{statement}
 use Rattle.merge.proofs.put.Tie as tie
-use Rattle.merge.proofs.put.Reads as reads
-use Rattle.merge.proofs.put.Lts as lts
 
 mul-k : tie.Need-mul-k
 mul-k c = search needs

@@ -6,9 +6,6 @@ use Rattle.merge.specs.Counted.{counted}
 use Rattle.merge.proofs.Streams.{step-hit, Stepping, stepping-start, stepping-hit, stepping-miss, stepping-small}
 use Rattle.merge.proofs.step.Statement.{statement}
 use Rattle.merge.proofs.step.Tie as tie
-use Rattle.merge.proofs.step.Reads as reads
-use Rattle.merge.proofs.step.Lts as lts
-use Rattle.merge.proofs.front.Reads as front-reads
 
 abbrev Inv-loop : tie.InvT-loop
 Inv-loop f from₀ to k o c₀ y₀ from c y = Stepping f from₀ from to o k c y

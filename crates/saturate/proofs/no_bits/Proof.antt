@@ -3,14 +3,11 @@ use Prim.Native.Nat.{ℕ, _≤_, _-_, _<_, _^_, _+_, _*_}
 use native.Mathlib.Omega.{arith}
 use lib.ListN.{length, getD, length-set, length-replicate}
 use Rattle.saturate.specs.Saturated.{zeroFrom}
-use Rattle.saturate.proofs.Zeros.{zero-words}
+use Rattle.subject.proofs.Zeros.{zero-words}
 use Rattle.saturate.proofs.Passes.{zero-none, zero-more, zero-length}
 use Rattle.saturate.proofs.no_bits.Statement.{statement}
 use Rattle.saturate.proofs.no_bits.Tie as tie
-use Rattle.saturate.proofs.no_bits.Reads as reads
-use Rattle.saturate.proofs.no_bits.Lts as lts
 
--- src/lib.rt:29:1
 returns : tie.Need-returns
 returns c = (length-replicate {A = ℕ} 262144 0, λ i k. zero-words 262144 (i * 512 + k))
 

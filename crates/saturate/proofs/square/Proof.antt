@@ -3,38 +3,27 @@ use Prim.Native.Nat.{ℕ, _≤_, _-_, _<_, _^_, _+_, _*_}
 use native.Mathlib.Omega.{arith}
 use lib.ListN.{length, getD, length-set, length-replicate}
 use Rattle.saturate.specs.Saturated.{zeroFrom}
-use Rattle.saturate.proofs.Zeros.{zero-words}
+use Rattle.subject.proofs.Zeros.{zero-words}
 use Rattle.saturate.proofs.Passes.{zero-none, zero-more, zero-length}
 use borrow.Author.Needs.{needs}
 use Rattle.saturate.proofs.square.Statement.{statement}
 use Rattle.saturate.proofs.square.Tie as tie
-use Rattle.saturate.proofs.square.Reads as reads
-use Rattle.saturate.proofs.square.Lts as lts
-use Rattle.saturate.proofs.no_bits.Reads as no-bits-reads
-use Rattle.saturate.proofs.no_gain.Reads as no-gain-reads
-use Rattle.schema.proofs.close.Reads as close-reads
 
--- src/lib.rt:76:20
 no-bits-requires : tie.Need-no-bits-requires
 no-bits-requires c κs = search needs
 
--- src/lib.rt:77:20
 no-gain-requires : tie.Need-no-gain-requires
 no-gain-requires c κs = search needs
 
--- src/lib.rt:78:52
 slice-aggregate-close : tie.Need-slice-aggregate-close
 slice-aggregate-close c = search needs
 
--- src/lib.rt:78:63
 slice-aggregate-close-2 : tie.Need-slice-aggregate-close-2
 slice-aggregate-close-2 c = search needs
 
--- src/lib.rt:78:5
 close-requires : tie.Need-close-requires
 close-requires c κs = (c .before .before .before .before .before .before .pre .0, (omega (arith, c .before .before .before .before .before .before .pre .0 .few, c .before .before .before .before .before .before .pre .0 .rows, c .before .before .before .no-bits .ensures .0, c .before .before .no-gain .ensures), c .before .before .before .no-bits .ensures .1))
 
--- src/lib.rt:71:1
 returns : tie.Need-returns
 returns c = record { long = c .before .before .close .kept .1 .1 .1 .1 .1 .0 ∙ c .before .before .before .before .before .before .no-bits .ensures .0; closed = c .before .before .close .ensures .0; bits = c .before .before .close .ensures .1 }
 

@@ -4,12 +4,10 @@ use Prim.Native.Nat.{ℕ, _≤_, _-_, _<_, _^_, _+_, _*_}
 use native.Mathlib.Omega.{arith}
 use lib.ListN.{length, getD, length-set, length-replicate}
 use Rattle.saturate.specs.Saturated.{zeroFrom}
-use Rattle.saturate.proofs.Zeros.{zero-words}
+use Rattle.subject.proofs.Zeros.{zero-words}
 use Rattle.saturate.proofs.Passes.{zero-none, zero-more, zero-length}
 use Rattle.saturate.proofs.zero_words.Statement.{statement}
 use Rattle.saturate.proofs.zero_words.Tie as tie
-use Rattle.saturate.proofs.zero_words.Reads as reads
-use Rattle.saturate.proofs.zero_words.Lts as lts
 
 abbrev Inv-loop : tie.InvT-loop
 Inv-loop t₀ a i₀ t i = (a ≤ i) × (i ≤ length t₀) × (length t ≡ length t₀) × (t ≡ zeroFrom i t₀)
@@ -17,35 +15,27 @@ Inv-loop t₀ a i₀ t i = (a ≤ i) × (i ≤ length t₀) × (length t ≡ len
 abbrev μ-loop : tie.MeasureT-loop
 μ-loop t₀ a i₀ t i = i
 
--- src/lib.rt:121:5
 loop-holds : tie.Need-loop-holds Inv-loop μ-loop
 loop-holds c = (omega arith, omega arith, refl, zero-none _)
 
--- src/lib.rt:122:9
 sub-i : tie.Need-sub-i Inv-loop μ-loop
 sub-i c = search needs
 
--- src/lib.rt:123:9
 mul-t : tie.Need-mul-t Inv-loop μ-loop
 mul-t c = search needs
 
--- src/lib.rt:123:9
 slice-write-t : tie.Need-slice-write-t Inv-loop μ-loop
 slice-write-t c = omega (arith, c .before .loop .inv .2)
 
--- src/lib.rt:121:5
 loop-less : tie.Need-loop-less Inv-loop μ-loop
 loop-less c = search needs
 
--- src/lib.rt:121:5
 loop-again : tie.Need-loop-again Inv-loop μ-loop
 loop-again c = (omega arith, omega arith, simp length-set (c .before .loop .inv .2), zero-more _ _ _ (omega arith) (c .before .loop .inv .1) (c .before .loop .inv .3))
 
--- src/lib.rt:116:1
 same-length : tie.Need-same-length Inv-loop μ-loop
 same-length c = c .before .loop .inv .2
 
--- src/lib.rt:116:1
 returns : tie.Need-returns Inv-loop μ-loop
 returns c = let q : c .before .loop .i ≡ c .before .before .args .a = omega arith in c .before .loop .inv .3 ∙ ap (λ (k : ℕ). zeroFrom k (c .before .before .args .t .now)) q
 

@@ -7,13 +7,10 @@ use Rattle.table.specs.Table.{count}
 use Rattle.schema.specs.Compiled.{subjectAt}
 use Rattle.merge.specs.Output.{output}
 use Rattle.merge.specs.Streams.{lesserOf}
-use Rattle.saturate.specs.Index.{objectOf}
+use Rattle.subject.specs.Index.{objectOf}
 use Rattle.saturate.proofs.Running.{all-more, end-here, end-last, subject-some, subject-none, thing-some, thing-literal, thing-none, Running, run-start, run-thing, run-subjects, run-objects, run-less, run-more, run-end}
 use Rattle.saturate.proofs.run.object_end.Statement.{statement}
 use Rattle.saturate.proofs.run.object_end.Tie as tie
-use Rattle.saturate.proofs.run.object_end.Reads as reads
-use Rattle.saturate.proofs.run.object_end.Lts as lts
-use Rattle.saturate.proofs.run.object_of.Reads as object-of-reads
 
 abbrev Inv-loop : tie.InvT-loop
 Inv-loop f ix n j x h₀ h = (j ≤ h) × (h ≤ n) × ((y : ℕ) → j ≤ y → y < h → objectOf f ix y ≡ x)
@@ -21,31 +18,24 @@ Inv-loop f ix n j x h₀ h = (j ≤ h) × (h ≤ n) × ((y : ℕ) → j ≤ y �
 abbrev μ-loop : tie.MeasureT-loop
 μ-loop f ix n j x h₀ h = n - h
 
--- src/run.rt:51:5
 loop-holds : tie.Need-loop-holds Inv-loop μ-loop
 loop-holds c = (omega arith, omega arith, λ y l u. absurd (omega arith))
 
--- src/run.rt:52:12
 object-of-requires : tie.Need-object-of-requires Inv-loop μ-loop
 object-of-requires c κs = (omega (arith, c .before .before .before .before .pre .1 .long), omega (arith, c .before .before .before .before .pre .1 .fit, c .before .before .before .before .pre .1 .below (c .before .loop .h) (c .loop-test .taken)))
 
--- src/run.rt:53:13
 returns : tie.Need-returns Inv-loop μ-loop
 returns c = end-here (objectOf (c .before .before .before .before .before .before .args .f .now) (c .before .before .before .before .before .before .args .ix .now)) _ _ _ _ (c .before .before .before .loop .inv .0) (c .before .before .loop-test .taken) (c .before .before .before .loop .inv .2) (λ q. c .if1 .taken (c .before .object-of .ensures ∙ q))
 
--- src/run.rt:55:9
 add-h : tie.Need-add-h Inv-loop μ-loop
 add-h c = search needs
 
--- src/run.rt:51:5
 loop-less : tie.Need-loop-less Inv-loop μ-loop
 loop-less c = search needs
 
--- src/run.rt:51:5
 loop-again : tie.Need-loop-again Inv-loop μ-loop
 loop-again c = (omega arith, omega arith, all-more (objectOf (c .before .before .before .before .before .before .args .f .now) (c .before .before .before .before .before .before .args .ix .now)) _ _ _ (c .before .before .before .loop .inv .2) (sym (c .before .object-of .ensures) ∙ c .if1 .left))
 
--- src/run.rt:45:1
 returns-2 : tie.Need-returns-2 Inv-loop μ-loop
 returns-2 c = end-last (objectOf (c .before .before .before .before .args .f .now) (c .before .before .before .before .args .ix .now)) _ _ _ _ (c .before .loop .inv .0) (omega arith) (c .before .loop .inv .2)
 

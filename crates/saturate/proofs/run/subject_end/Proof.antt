@@ -7,13 +7,10 @@ use Rattle.table.specs.Table.{count}
 use Rattle.schema.specs.Compiled.{subjectAt}
 use Rattle.merge.specs.Output.{output}
 use Rattle.merge.specs.Streams.{lesserOf}
-use Rattle.saturate.specs.Index.{objectOf}
+use Rattle.subject.specs.Index.{objectOf}
 use Rattle.saturate.proofs.Running.{all-more, end-here, end-last, subject-some, subject-none, thing-some, thing-literal, thing-none, Running, run-start, run-thing, run-subjects, run-objects, run-less, run-more, run-end}
 use Rattle.saturate.proofs.run.subject_end.Statement.{statement}
 use Rattle.saturate.proofs.run.subject_end.Tie as tie
-use Rattle.saturate.proofs.run.subject_end.Reads as reads
-use Rattle.saturate.proofs.run.subject_end.Lts as lts
-use Rattle.saturate.proofs.words.subject_at.Reads as subject-at-reads
 
 abbrev Inv-loop : tie.InvT-loop
 Inv-loop f n i x e₀ e = (i ≤ e) × (e ≤ n) × ((y : ℕ) → i ≤ y → y < e → subjectAt f y ≡ x)
@@ -21,31 +18,24 @@ Inv-loop f n i x e₀ e = (i ≤ e) × (e ≤ n) × ((y : ℕ) → i ≤ y → y
 abbrev μ-loop : tie.MeasureT-loop
 μ-loop f n i x e₀ e = n - e
 
--- src/run.rt:26:5
 loop-holds : tie.Need-loop-holds Inv-loop μ-loop
 loop-holds c = (omega arith, omega arith, λ y l u. absurd (omega arith))
 
--- src/run.rt:27:12
 subject-at-requires : tie.Need-subject-at-requires Inv-loop μ-loop
 subject-at-requires c κs = search needs
 
--- src/run.rt:28:13
 returns : tie.Need-returns Inv-loop μ-loop
 returns c = end-here (subjectAt (c .before .before .before .before .before .args .f .now)) _ _ _ _ (c .before .before .before .loop .inv .0) (c .before .before .loop-test .taken) (c .before .before .before .loop .inv .2) (λ q. c .if1 .taken (c .before .subject-at .ensures ∙ q))
 
--- src/run.rt:30:9
 add-e : tie.Need-add-e Inv-loop μ-loop
 add-e c = search needs
 
--- src/run.rt:26:5
 loop-less : tie.Need-loop-less Inv-loop μ-loop
 loop-less c = search needs
 
--- src/run.rt:26:5
 loop-again : tie.Need-loop-again Inv-loop μ-loop
 loop-again c = (omega arith, omega arith, all-more (subjectAt (c .before .before .before .before .before .args .f .now)) _ _ _ (c .before .before .before .loop .inv .2) (sym (c .before .subject-at .ensures) ∙ c .if1 .left))
 
--- src/run.rt:21:1
 returns-2 : tie.Need-returns-2 Inv-loop μ-loop
 returns-2 c = end-last (subjectAt (c .before .before .before .args .f .now)) _ _ _ _ (c .before .loop .inv .0) (omega arith) (c .before .loop .inv .2)
 

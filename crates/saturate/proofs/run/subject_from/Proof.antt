@@ -6,29 +6,21 @@ use Rattle.table.specs.Table.{count}
 use Rattle.schema.specs.Compiled.{subjectAt}
 use Rattle.merge.specs.Output.{output}
 use Rattle.merge.specs.Streams.{lesserOf}
-use Rattle.saturate.specs.Index.{objectOf}
+use Rattle.subject.specs.Index.{objectOf}
 use Rattle.saturate.proofs.Running.{all-more, end-here, end-last, subject-some, subject-none, thing-some, thing-literal, thing-none, Running, run-start, run-thing, run-subjects, run-objects, run-less, run-more, run-end}
 use borrow.Author.Needs.{needs}
 use Rattle.saturate.proofs.run.subject_from.Statement.{statement}
 use Rattle.saturate.proofs.run.subject_from.Tie as tie
-use Rattle.saturate.proofs.run.subject_from.Reads as reads
-use Rattle.saturate.proofs.run.subject_from.Lts as lts
-use Rattle.merge.proofs.wide.Reads as wide-reads
-use Rattle.saturate.proofs.words.subject_at.Reads as subject-at-reads
 
--- src/run.rt:65:21
 subject-at-requires : tie.Need-subject-at-requires
 subject-at-requires c κs = search needs
 
--- src/run.rt:65:16
 wide-requires : tie.Need-wide-requires
 wide-requires c κs = search needs
 
--- src/run.rt:61:1
 returns : tie.Need-returns
 returns c = c .wide .ensures ∙ c .before .subject-at .ensures ∙ sym (subject-some (c .before .before .before .before .args .f .now) _ _ (c .before .before .if1 .taken))
 
--- src/run.rt:61:1
 returns-2 : tie.Need-returns-2
 returns-2 c = sym (subject-none (c .before .before .args .f .now) _ _ (c .if1 .left))
 

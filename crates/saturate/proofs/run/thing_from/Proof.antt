@@ -6,33 +6,24 @@ use Rattle.table.specs.Table.{count}
 use Rattle.schema.specs.Compiled.{subjectAt}
 use Rattle.merge.specs.Output.{output}
 use Rattle.merge.specs.Streams.{lesserOf}
-use Rattle.saturate.specs.Index.{objectOf}
+use Rattle.subject.specs.Index.{objectOf}
 use Rattle.saturate.proofs.Running.{all-more, end-here, end-last, subject-some, subject-none, thing-some, thing-literal, thing-none, Running, run-start, run-thing, run-subjects, run-objects, run-less, run-more, run-end}
 use borrow.Author.Needs.{needs}
 use Rattle.saturate.proofs.run.thing_from.Statement.{statement}
 use Rattle.saturate.proofs.run.thing_from.Tie as tie
-use Rattle.saturate.proofs.run.thing_from.Reads as reads
-use Rattle.saturate.proofs.run.thing_from.Lts as lts
-use Rattle.merge.proofs.wide.Reads as wide-reads
-use Rattle.saturate.proofs.run.object_of.Reads as object-of-reads
 
--- src/run.rt:74:22
 object-of-requires : tie.Need-object-of-requires
 object-of-requires c κs = (omega (arith, c .before .before .before .pre .long), omega (arith, c .before .before .before .pre .fit, c .before .before .before .pre .below (c .before .before .before .args .j) (c .if1 .taken)))
 
--- src/run.rt:74:13
 wide-requires : tie.Need-wide-requires
 wide-requires c κs = search needs
 
--- src/run.rt:76:13
 returns : tie.Need-returns
 returns c = c .before .wide .ensures ∙ c .before .before .object-of .ensures ∙ sym (thing-some (c .before .before .before .before .before .before .args .f .now) (c .before .before .before .before .before .before .args .ix .now) _ _ (c .before .before .before .if1 .taken) (omega (arith, c .if2 .taken, c .before .wide .ensures ∙ c .before .before .object-of .ensures)))
 
--- src/run.rt:69:1
 returns-2 : tie.Need-returns-2
 returns-2 c = sym (thing-literal (c .before .before .before .before .before .before .args .f .now) (c .before .before .before .before .before .before .args .ix .now) _ _ (c .before .before .before .if1 .taken) (omega (arith, c .if2 .left, c .before .wide .ensures ∙ c .before .before .object-of .ensures)))
 
--- src/run.rt:69:1
 returns-3 : tie.Need-returns-3
 returns-3 c = sym (thing-none (c .before .before .before .args .f .now) (c .before .before .before .args .ix .now) _ _ (c .if1 .left))
 
