@@ -36,8 +36,8 @@ collects-ext f C = record {
 }
 
 -- Rows A are put, and rows B after them.
-pub collects-then : {m : ℕ} (A B : List (List ℕ)) {R : List (List ℕ)} {out : List ℕ} {c : Collected} → Collects m (B ++ (A ++ R)) out c → Collects m ((A ++ B) ++ R) out c
-collects-then A B {R} C =
+pub collects-then : {m : ℕ} (A B R : List (List ℕ)) {out : List ℕ} {c : Collected} → Collects m (B ++ (A ++ R)) out c → Collects m ((A ++ B) ++ R) out c
+collects-then A B R C =
     collects-ext (λ r. (
       λ i. ⊎-elim (λ b. Memᴰ·append-left R (Memᴰ·append-right A b)) (λ k. ⊎-elim (λ a. Memᴰ·append-left R (Memᴰ·append-left B a)) (λ l. Memᴰ·append-right (A ++ B) l) (List·Memᴰ·append-cases A k)) (List·Memᴰ·append-cases B i),
       λ i. ⊎-elim (λ k. ⊎-elim (λ a. Memᴰ·append-right B (Memᴰ·append-left R a)) (λ b. Memᴰ·append-left (A ++ R) b) (List·Memᴰ·append-cases A k)) (λ l. Memᴰ·append-right B (Memᴰ·append-right A l)) (List·Memᴰ·append-cases (A ++ B) i),

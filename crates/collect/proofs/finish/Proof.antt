@@ -22,8 +22,9 @@ same-length-2 c = search needs
 
 returns-2 : tie.Need-returns-2
 returns-2 c =
+    let start = c .before .before .before .before .before .before in
     let settle = c .before .before .settle in
-    λ R C. gathers-rows _ R (c .before .before .before .before .before .before .args .out .now) _ _ (c .before .before .before .before .before .before .pre .0) (settle .ensures .1 .0 .0) (settle .ensures .1 .0 .1 ∙ c .before .before .before .before .if1 .left) (settle .kept .0) (settle .ensures .1 .1 R C)
+    λ R C. gathers-rows _ R (start .args .out .now) _ _ (start .pre .0) (settle .ensures .1 .0 .0) (settle .ensures .1 .0 .1 ∙ c .before .before .before .before .if1 .left) (settle .kept .0) (settle .ensures .1 .1 R C)
 
 pub finish-spec : {M : Type 1} → statement M
 finish-spec =

@@ -26,20 +26,22 @@ div-room c = search needs
 
 add-is-spare : tie.Need-add-is-spare
 add-is-spare c =
-    let x = c .before .before .before .before .before .before .before .args in
-    omega (arith, le-mul-of-pos-right (x .c .sorted + x .c .added) (c .before .before .before .before .before .before .before .pre .0))
+    let start = c .before .before .before .before .before .before .before in
+    let x = start .args in
+    omega (arith, le-mul-of-pos-right (x .c .sorted + x .c .added) (start .pre .0))
 
 sub-is-spare : tie.Need-sub-is-spare
-sub-is-spare c = le-div-iff-mul-le (c .before .before .before .before .before .before .before .pre .0) .1 (c .before .before .before .before .before .before .before .pre .2)
+sub-is-spare c = let start = c .before .before .before .before .before .before .before in le-div-iff-mul-le (start .pre .0) .1 (start .pre .2)
 
 is-spare-requires : tie.Need-is-spare-requires
 is-spare-requires c κs = search needs
 
 add-requires : tie.Need-add-requires
 add-requires c κs =
-    let x = c .before .before .before .before .before .before .before .before .before .before .args in
+    let start = c .before .before .before .before .before .before .before .before .before .before in
+    let x = start .args in
     let spare = c .before .before .is-spare .ensures (c .before .if3 .taken) in
-    (c .before .before .before .before .before .before .before .before .before .before .pre .0, c .before .before .before .before .before .before .before .before .before .before .pre .1, room-for-one (x .m) (x .c .sorted + x .c .added) (length (x .out .now)) (c .before .before .before .before .before .before .before .before .before .before .pre .0) (omega (arith, spare)))
+    (start .pre .0, start .pre .1, room-for-one (x .m) (x .c .sorted + x .c .added) (length (x .out .now)) (start .pre .0) (omega (arith, spare)))
 
 same-length-2 : tie.Need-same-length-2
 same-length-2 c = search needs
@@ -55,9 +57,10 @@ add-if4 c = search needs
 
 add-requires-2 : tie.Need-add-requires-2
 add-requires-2 c κs =
-    let x = c .before .before .before .before .before .before .before .before .before .before .before .before .before .before .before .before .args in
+    let start = c .before .before .before .before .before .before .before .before .before .before .before .before .before .before .before .before in
+    let x = start .args in
     let settle = c .before .before .before .before .before .settle in
-    (c .before .before .before .before .before .before .before .before .before .before .before .before .before .before .before .before .pre .0, c .before .before .before .before .before .before .before .before .before .before .before .before .before .before .before .before .pre .1, rw (settle .kept .0) (room-for-one (x .m) (settle .result .sorted + settle .result .added) (length (x .out .now)) (c .before .before .before .before .before .before .before .before .before .before .before .before .before .before .before .before .pre .0) (c .before .if4 .taken)))
+    (start .pre .0, start .pre .1, rw (settle .kept .0) (room-for-one (x .m) (settle .result .sorted + settle .result .added) (length (x .out .now)) (start .pre .0) (c .before .if4 .taken)))
 
 same-length-3 : tie.Need-same-length-3
 same-length-3 c = search needs

@@ -16,8 +16,9 @@ same-length c = search needs
 
 returns-2 : tie.Need-returns-2
 returns-2 c =
+    let start = c .before .before .before .before .before .before .before in
     let merge = c .before .before .merge-distinct in
-    (settled-within _ _ _ (c .before .before .before .before .before .before .before .args .out .now) (merge .last .0) (merge .ensures .0) (c .before .before .before .before .before .before .before .pre .1) (merge .kept .0), ((refl, refl), λ R C. collects-settled _ _ _ _ _ R _ _ (merge .ensures .1) (merge .kept .0) C))
+    (settled-within _ _ _ (start .args .out .now) (merge .last .0) (merge .ensures .0) (start .pre .1) (merge .kept .0), ((refl, refl), λ R C. collects-settled _ _ _ _ _ R _ _ (merge .ensures .1) (merge .kept .0) C))
 
 pub settle-spec : {M : Type 1} → statement M
 settle-spec = tie.close (tie.spec returns merge-distinct-requires same-length returns-2)

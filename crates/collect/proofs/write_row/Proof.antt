@@ -42,7 +42,7 @@ loop-less : tie.Need-loop-less Inv-loop μ-loop
 loop-less c = search needs
 
 loop-again : tie.Need-loop-again Inv-loop μ-loop
-loop-again c = (refl, omega arith, simp length-set (c .before .before .loop .inv .2), write-more _ _ _ _ _ (c .before .before .loop .inv .3) (omega arith))
+loop-again c = let turn = c .before .before .loop .inv in (refl, omega arith, simp length-set (turn .2), write-more _ _ _ _ _ (turn .3) (omega arith))
 
 same-length : tie.Need-same-length Inv-loop μ-loop
 same-length c = search needs
