@@ -127,7 +127,7 @@ fn is_spare(c: Collected, free: usize) -> bool
     c.added < free - 1
 }
 
-// Puts the row of the first m words of a slice: nothing happens where it is among the sorted rows; else it is added. The rows are settled before that where few more have room, and if none has room then, either the row is among them or there are more distinct rows than fit.
+// Puts the row of the first m words of a slice: nothing happens where it is among the sorted rows; else it is added. The rows are settled before that where few more have room. A row that is not among them then, and has no room, is one too many.
 pub fn put(out: &mut [u32], m: usize, row: &[u32], c: Collected) -> Collected
     requires { ⌜ (0 < m) × (m ≤ length (now row)) × Within m (now out) c ⌝ }
     ensures within { λ r. ⌜ Within m (now (out .exit)) r ⌝ }
@@ -144,17 +144,17 @@ pub fn put(out: &mut [u32], m: usize, row: &[u32], c: Collected) -> Collected
         return add(out, m, row, c);
     }
     let s = settle(out, m, c);
-    if s.sorted + s.added < room {
-        return add(out, m, row, s);
-    }
     if is_among(out, m, s.sorted, row) {
         return s;
     }
-    Collected {
-        sorted: s.sorted,
-        added: s.added,
-        exceeded: true,
+    if room - (s.sorted + s.added) == 0 {
+        return Collected {
+            sorted: s.sorted,
+            added: s.added,
+            exceeded: true,
+        };
     }
+    add(out, m, row, s)
 }
 
 // Gives the rows that were put, ascending, each once, or refuses by 8 where they do not fit.

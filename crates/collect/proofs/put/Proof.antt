@@ -52,40 +52,48 @@ returns-3 c = search needs
 settle-requires : tie.Need-settle-requires
 settle-requires c κs = search needs
 
-add-if4 : tie.Need-add-if4
-add-if4 c = search needs
-
-add-requires-2 : tie.Need-add-requires-2
-add-requires-2 c κs =
-    let start = c .before .before .before .before .before .before .before .before .before .before .before .before .before .before .before .before in
-    let x = start .args in
-    let settle = c .before .before .before .before .before .settle in
-    (start .pre .0, start .pre .1, rw (settle .kept .0) (room-for-one (x .m) (settle .result .sorted + settle .result .added) (length (x .out .now)) (start .pre .0) (c .before .if4 .taken)))
+is-among-requires-2 : tie.Need-is-among-requires-2
+is-among-requires-2 c κs = search needs
 
 same-length-3 : tie.Need-same-length-3
 same-length-3 c = search needs
 
 returns-4 : tie.Need-returns-4
-returns-4 c = (c .before .before .add2 .ensures .0, λ R C. c .before .before .add2 .ensures .1 R (c .before .before .before .before .before .before .before .before .settle .ensures .1 .1 R C))
+returns-4 c =
+    let settle = c .before .before .before .before .before .settle .ensures in
+    let left = c .before .before .before .before .before .before .before .before .before .before .before .before .before .if1 .left in
+    (settle .0, λ R C. collects-found _ R _ _ _ _ (c .before .is-among2 .ensures) (c .if4 .taken) (settle .1 .0 .1 ∙ left) (settle .1 .1 R C))
 
-is-among-requires-2 : tie.Need-is-among-requires-2
-is-among-requires-2 c κs = search needs
+add-if5 : tie.Need-add-if5
+add-if5 c = search needs
+
+sub-if5 : tie.Need-sub-if5
+sub-if5 c =
+    let start = c .before .before .before .before .before .before .before .before .before .before .before .before .before .before .before .before .before in
+    let settle = c .before .before .before .before .before .before .settle in
+    le-div-iff-mul-le (start .pre .0) .1 (rw (settle .kept .0) at (settle .ensures .0))
 
 same-length-4 : tie.Need-same-length-4
 same-length-4 c = search needs
 
 returns-5 : tie.Need-returns-5
 returns-5 c =
-    let settle = c .before .before .before .before .before .before .before .settle .ensures in
-    (settle .0, λ R C. collects-found _ R _ _ _ _ (c .before .is-among2 .ensures) (c .if5 .taken) (settle .1 .0 .1 ∙ c .before .before .before .before .before .before .before .before .before .before .before .before .before .before .before .if1 .left) (settle .1 .1 R C))
+    let settle = c .before .before .before .before .before .before .before .settle in
+    let left = c .before .before .before .before .before .before .before .before .before .before .before .before .before .before .before .if1 .left in
+    (settle .ensures .0, λ R C. collects-excess _ R _ _ _ _ (c .before .before .before .is-among2 .ensures) (c .before .before .if4 .left) (settle .ensures .1 .0 .0) (settle .ensures .1 .0 .1 ∙ left) (rw (settle .kept .0) (omega (arith, c .if5 .taken))) (settle .ensures .1 .1 R C))
+
+add-requires-2 : tie.Need-add-requires-2
+add-requires-2 c κs =
+    let start = c .before .before .before .before .before .before .before .before .before .before .before .before .before .before .before .before .before .before .before in
+    let x = start .args in
+    let settle = c .before .before .before .before .before .before .before .before .settle in
+    (start .pre .0, start .pre .1, rw (settle .kept .0) (room-for-one (x .m) (settle .result .sorted + settle .result .added) (length (x .out .now)) (start .pre .0) (omega (arith, c .before .if5 .left))))
 
 same-length-5 : tie.Need-same-length-5
 same-length-5 c = search needs
 
 returns-6 : tie.Need-returns-6
-returns-6 c =
-    let settle = c .before .before .before .before .before .before .before .settle in
-    (settle .ensures .0, λ R C. collects-excess _ R _ _ _ _ (c .before .is-among2 .ensures) (c .if5 .left) (settle .ensures .1 .0 .0) (settle .ensures .1 .0 .1 ∙ c .before .before .before .before .before .before .before .before .before .before .before .before .before .before .before .if1 .left) (rw (settle .kept .0) (c .before .before .before .if4 .left)) (settle .ensures .1 .1 R C))
+returns-6 c = (c .before .before .add2 .ensures .0, λ R C. c .before .before .add2 .ensures .1 R (c .before .before .before .before .before .before .before .before .before .before .before .settle .ensures .1 .1 R C))
 
 pub put-spec : {M : Type 1} → statement M
 put-spec =
@@ -103,12 +111,13 @@ put-spec =
     same-length-2
     returns-3
     settle-requires
-    add-if4
-    add-requires-2
+    is-among-requires-2
     same-length-3
     returns-4
-    is-among-requires-2
+    add-if5
+    sub-if5
     same-length-4
     returns-5
+    add-requires-2
     same-length-5
     returns-6)
