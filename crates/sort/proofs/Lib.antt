@@ -7,3 +7,4 @@ pub mod HeapLaws
 pub mod QuickLaws
 pub mod DistinctLaws
 pub mod HeldWords
+pub mod MergeLaws

@@ -1,0 +1,4 @@
+pub mod Search
+pub mod Writing
+pub mod Collecting
+pub mod Gathering
