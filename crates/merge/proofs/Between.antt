@@ -1,14 +1,12 @@
 -- Laws of the part of a list of kept facts between two rows. Assumes nothing.
 use mathlib.Core.Path.{_≡_, refl, sym, ap, _∙_}
-use mathlib.Core.List.{List, [], _∷_, _++_}
+use mathlib.Core.List.{[], _∷_, _++_}
 use mathlib.Core.Logic.{by-cases}
-use Prim.Native.Nat.{ℕ, _+_, _≤_, _<_}
-use native.Mathlib.Omega.{arith}
+use Prim.Native.Nat.{ℕ, _+_, _<_}
 use Rattle.rdf.specs.declared.Triple.{Triple}
-use Rattle.rdf.specs.Triple.{triple}
-use Rattle.rdf.specs.Order.{Less, by-subject, by-property, by-object, less-irrefl, triple-eq, Trichotomy, less, same, more, compareTriples, equalTriples, choose}
-use Rattle.rdf.proofs.Order.{less-ne, less-trans, choose-yes, choose-no, choose-elim}
-use Rattle.rdfs.specs.Saturation.{Kept, lookup, keptRows, keptSupports}
+use Rattle.rdf.specs.Order.{Less, less-irrefl, less, same, more, compareTriples, equalTriples}
+use Rattle.rdf.proofs.Order.{less-ne, less-trans, choose-yes, choose-elim}
+use Rattle.rdfs.specs.Saturation.{Kept, lookup}
 use Rattle.rdfs.specs.Counts.{KeptAbove, Counts}
 use Rattle.rdfs.proofs.Kept.{lookup-nil, lookup-same, lookup-other, kept-ext}
 use Rattle.merge.specs.Between.{lessThan, Within, within, between}

@@ -10,7 +10,7 @@ use lib.ListN.{length, getD}
 use lib.Dec.{eqb}
 use borrow.Author.Tests.{lt-ltb, le-ltb, eq-eqb, ne-eqb}
 use Rattle.rdf.specs.Triple.{triple}
-use Rattle.rdfs.specs.Saturation.{Kept, lookup}
+use Rattle.rdfs.specs.Saturation.{Kept}
 use Rattle.rdfs.specs.Counts.{Counts}
 use Rattle.merge.specs.Output.{Output, putOne, putAll}
 use Rattle.merge.specs.Between.{between}

@@ -7,11 +7,7 @@ use native.Mathlib.Omega.{arith}
 use borrow.Author.Tests.{lt-ltb, le-ltb}
 use Rattle.rdf.specs.declared.Triple.{Triple}
 use Rattle.rdf.specs.Triple.{triple}
-use Rattle.rdf.specs.Order.{Less, by-subject, by-property, by-object, less-irrefl, triple-eq, Trichotomy, less, same, more, compareTriples, equalTriples, choose}
-use Rattle.rdf.proofs.Order.{less-ne, less-trans, choose-yes, choose-no, choose-elim}
-use Rattle.rdfs.specs.Saturation.{Kept, lookup, keptRows, keptSupports}
-use Rattle.rdfs.specs.Counts.{KeptAbove, Counts}
-use Rattle.rdfs.proofs.Kept.{lookup-nil, lookup-same, lookup-other, kept-ext}
+use Rattle.rdfs.specs.Saturation.{Kept}
 use Rattle.merge.specs.Output.{Output, output, oneMore, setRow, putOne, putAll}
 
 pub put-append : (room : ℕ) (j k : Kept) (out : Output) → putAll room (j ++ k) out ≡ putAll room k (putAll room j out)

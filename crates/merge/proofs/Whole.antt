@@ -1,18 +1,15 @@
 -- Parts of a list of kept facts joined; the whole list put. Assumes nothing.
 use mathlib.Core.Path.{_≡_, refl, sym, ap, ap₂, _∙_}
-use mathlib.Core.Bool.{cond}
 use mathlib.Core.List.{List, [], _∷_, _++_, append-assoc}
 use mathlib.Core.Logic.{by-cases}
 use Prim.Native.Nat.{ℕ, zero, suc, _+_, _*_, _^_, _≤_, _<_}
 use native.Mathlib.Omega.{arith}
 use native.Mathlib.Decide.{decLt}
 use lib.ListN.{length, set, drop, length-append}
-use lib.Dec.{ltb}
 use borrow.Author.Tests.{lt-ltb, le-ltb}
 use Rattle.rdf.specs.declared.Triple.{Triple}
-use Rattle.rdf.specs.Triple.{triple}
-use Rattle.rdf.specs.Order.{Less, by-subject, by-property, by-object, less-irrefl, triple-eq, Trichotomy, less, same, more, compareTriples, equalTriples, choose}
-use Rattle.rdf.proofs.Order.{less-ne, less-trans, choose-yes, choose-no, choose-elim}
+use Rattle.rdf.specs.Order.{Less, less, same, more, compareTriples, equalTriples}
+use Rattle.rdf.proofs.Order.{less-trans, choose-elim}
 use Rattle.rdfs.specs.Saturation.{Kept, lookup, keptRows, keptSupports}
 use Rattle.rdfs.specs.Counts.{KeptAbove, Counts}
 use Rattle.rdfs.proofs.Kept.{lookup-nil, lookup-same, lookup-other, kept-ext}

@@ -1,27 +1,25 @@
 -- What is known of well-formed tables and of the compiled statements, as the run over the subjects asks for it. Assumes nothing.
-use mathlib.Core.Path.{_≡_, refl, sym, ap, _∙_}
-use mathlib.Core.Bool.{true, false}
+use mathlib.Core.Path.{_≡_, sym, ap, _∙_}
 use mathlib.Core.List.{List}
-use Prim.Native.Nat.{ℕ, _+_, _*_, _^_, _≤_, _<_}
+use Prim.Native.Nat.{ℕ, _*_, _^_, _≤_, _<_}
 use native.Mathlib.Omega.{arith}
 use lib.ListN.{length, getD}
 use Rattle.rdf.specs.Term.{isLiteral}
 use Rattle.rdf.specs.Triple.{triple, isAllowedStatement, isAllowedFact}
-use Rattle.table.specs.Table.{count, rows, rowAt, mostStatements, mostFacts}
+use Rattle.table.specs.Table.{count, rows, mostStatements, mostFacts}
 use Rattle.table.specs.Laid.{WellFormed}
 use Rattle.table.proofs.Formed.{capacity-most}
 use Rattle.table.proofs.Rows.{length-rows}
-use Rattle.rdfs.specs.Saturation.{Kept, lookup, support, saturation}
+use Rattle.rdfs.specs.Saturation.{saturation}
 use Rattle.rdfs.proofs.Saturation.{saturation-support, saturation-counts, support-bound}
-use Rattle.schema.specs.Nodes.{propertyNode, edges}
+use Rattle.schema.specs.Nodes.{edges}
 use Rattle.schema.specs.Walks.{Plus}
-use Rattle.schema.specs.Squares.{at, Marks}
 use Rattle.schema.specs.Ascent.{Placed, Ends, termOf}
-use Rattle.schema.specs.Compiled.{Compiled, Keyed, subjectAt, propertyAt, objectAt}
+use Rattle.schema.specs.Compiled.{Compiled, Keyed, objectAt}
 use Rattle.schema.proofs.Tables.{fact-words, rows-ascend, row-subject, row-property, row-object, plain-below}
 use Rattle.schema.proofs.Counted.{marks-even, no-type, class-support, class-support-none, property-support, property-support-none, absent-support}
 use Rattle.schema.proofs.Made.{compiled-made, keyed-made}
-use Rattle.subject.specs.Prepared.{Square, Keys, Prepared, Facts}
+use Rattle.subject.specs.Prepared.{Prepared, Facts}
 use Rattle.subject.specs.Supported.{Supported, Small}
 use Rattle.saturate.specs.Saturated.{Exists, Domains, Ranges}
 

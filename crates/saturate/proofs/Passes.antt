@@ -1,21 +1,20 @@
 -- The two passes: the rows counted without room, and then written. Assumes nothing.
 use mathlib.Core.Path.{_≡_, refl, sym, ap, ap₂, _∙_}
-use mathlib.Core.Bool.{Bool, true, false, cond}
-use mathlib.Core.List.{List, [], _∷_, _++_, map}
+use mathlib.Core.Bool.{true, false}
+use mathlib.Core.List.{List, [], _∷_, _++_}
 use mathlib.Core.Logic.{by-cases}
 use Prim.Native.Nat.{ℕ, zero, suc, _+_, _-_, _*_, _^_, _≤_, _<_}
 use native.Mathlib.Omega.{arith}
 use native.Mathlib.Decide.{decLt}
-use lib.ListN.{length, set, take, drop, replicate, length-set, length-append, length-replicate, length-drop}
+use lib.ListN.{length, set, take, drop, replicate, length-append, length-replicate, length-drop}
 use lib.Seq.{take-at}
-use lib.Dec.{leb}
 use borrow.Author.Tests.{le-leb, lt-leb}
 use Rattle.table.specs.Table.{flatten, layout, supportLayout}
 use Rattle.table.proofs.Rows.{length-flatten}
 use Rattle.rdfs.specs.Saturation.{Kept, keptRows, keptSupports}
 use Rattle.merge.specs.Output.{Output, output, putAll}
 use Rattle.merge.proofs.Whole.{count-all, put-fits}
-use Rattle.saturate.specs.Saturated.{Result, result, written, zeroFrom}
+use Rattle.saturate.specs.Saturated.{result, written, zeroFrom}
 
 -- ---- words set to 0, from the last on
 

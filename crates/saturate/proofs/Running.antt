@@ -1,23 +1,21 @@
 -- The run over the subjects: each has its rows put before the next. Assumes nothing.
 use mathlib.Core.Path.{_≡_, refl, sym, ap, _∙_}
-use mathlib.Core.Bool.{Bool, true, false, cond}
-use mathlib.Core.List.{List, [], _∷_, _++_}
+use mathlib.Core.Bool.{false, cond}
+use mathlib.Core.List.{List, [], _++_}
 use mathlib.Core.Logic.{_⊎_, inl, inr, ⊎-elim, by-cases}
-use Prim.Native.Nat.{ℕ, zero, suc, _+_, _-_, _*_, _^_, _≤_, _<_}
+use Prim.Native.Nat.{ℕ, _+_, _-_, _^_, _≤_, _<_}
 use native.Mathlib.Omega.{arith}
 use native.Mathlib.Decide.{decLt, ℕ-discrete}
 use lib.ListN.{length, getD}
-use lib.Dec.{ltb, eqb}
+use lib.Dec.{eqb}
 use borrow.Author.Tests.{lt-ltb, le-ltb, eq-eqb, ne-eqb}
 use Rattle.rdf.specs.declared.Triple.{Triple}
 use Rattle.rdf.specs.Term.{isLiteral}
 use Rattle.rdf.specs.Triple.{triple}
 use Rattle.rdf.specs.Order.{Less, by-subject, by-property, by-object, triple-eq}
 use Rattle.rdf.proofs.Lists.{true-not-false}
-use Rattle.table.specs.Table.{rowAt}
 use Rattle.rdfs.specs.Saturation.{Kept, lookup}
 use Rattle.rdfs.specs.Counts.{Counts}
-use Rattle.schema.specs.Sums.{sumTo, sumAt}
 use Rattle.schema.specs.Compiled.{subjectAt, objectAt}
 use Rattle.schema.proofs.Sums.{sumAt-is, sum-zero, sum-term}
 use Rattle.schema.proofs.Tables.{row-subject}
@@ -26,7 +24,7 @@ use Rattle.merge.specs.Between.{between, Within}
 use Rattle.merge.specs.Streams.{lesserOf}
 use Rattle.merge.proofs.Output.{put-append}
 use Rattle.merge.proofs.Between.{between-none, between-skip}
-use Rattle.merge.proofs.Streams.{lesser-left, lesser-right, lesser-lt}
+use Rattle.merge.proofs.Streams.{lesser-left, lesser-right}
 use Rattle.merge.proofs.Whole.{between-join, between-all}
 use Rattle.subject.specs.Index.{objectOf, Once, Sorted}
 use Rattle.subject.specs.Prepared.{Facts}

@@ -2,11 +2,11 @@
 use mathlib.Core.Path.{_≡_}
 use mathlib.Core.Bool.{Bool, cond}
 use mathlib.Core.List.{List, _++_}
-use Prim.Native.Nat.{ℕ, _+_, _-_, _*_, _^_, _≤_, _<_}
+use Prim.Native.Nat.{ℕ, _+_, _-_}
 use lib.ListN.{length, take, replicate}
 use lib.Dec.{leb}
 use Rattle.table.specs.Table.{rows, layout, supportLayout}
-use Rattle.rdfs.specs.Saturation.{Kept, lookup, saturation, keptRows, keptSupports}
+use Rattle.rdfs.specs.Saturation.{Kept, saturation, keptRows, keptSupports}
 use Rattle.rdfs.specs.Counts.{Counts}
 use Rattle.schema.specs.Nodes.{edges}
 use Rattle.schema.specs.Squares.{Bits, Closed, Cleared}

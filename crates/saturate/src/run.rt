@@ -5,7 +5,7 @@ use merge::wide;
 use subject::rows::subject_rows;
 use subject::words::subject_at;
 ghost use mathlib.Core.Path.{_≡_};
-ghost use Prim.Native.Nat.{ℕ, _+_, _*_, _^_, _≤_, _<_};
+ghost use Prim.Native.Nat.{_+_, _*_, _^_, _≤_, _<_};
 ghost use lib.ListN.{length, getD};
 ghost use Rattle.table.specs.Table.{count};
 ghost use Rattle.rdfs.specs.Saturation.{Kept};

@@ -1,18 +1,17 @@
 -- Laws of bits added to the counts of the columns. Assumes nothing.
-use mathlib.Core.Path.{_≡_, refl, sym, ap, _∙_}
+use mathlib.Core.Path.{_≡_, refl, sym, _∙_}
 use mathlib.Core.Bool.{Bool, true, false, cond}
 use mathlib.Core.List.{List}
 use mathlib.Core.Logic.{by-cases}
-use Prim.Native.Nat.{ℕ, _+_, _-_, _*_, _^_, _≤_, _<_}
+use Prim.Native.Nat.{ℕ, _+_, _-_, _≤_, _<_}
 use native.Mathlib.Omega.{arith}
 use native.Mathlib.Decide.{ℕ-discrete, decLt}
 use lib.ListN.{length, getD, set, length-set}
 use lib.Seq.{getD-set-same, getD-set-other}
-use lib.Dec.{eqb, ltb}
+use lib.Dec.{ltb}
 use borrow.Author.Tests.{lt-ltb, le-ltb, eq-eqb, ne-eqb}
 use Rattle.schema.specs.Nodes.{propertyNode, subjectNode, Found}
 use Rattle.schema.specs.Squares.{at}
-use Rattle.schema.specs.Sums.{sumTo}
 use Rattle.schema.specs.Compiled.{subjectAt, propertyAt, objectAt, nodeBit, startNode, either, ownBit}
 use Rattle.subject.specs.Prepared.{Square}
 use Rattle.subject.specs.Counting.{Added, eitherAt, otherBit, Summed}

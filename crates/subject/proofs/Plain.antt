@@ -1,24 +1,22 @@
 -- Facts put as they are: the part of the kept facts that only explicit facts support. Assumes nothing.
 use mathlib.Core.Path.{_≡_, refl, sym, ap, _∙_}
-use mathlib.Core.Bool.{cond}
 use mathlib.Core.List.{List, [], _∷_}
 use mathlib.Core.Logic.{by-cases}
-use Prim.Native.Nat.{ℕ, zero, suc, _+_, _-_, _*_, _^_, _≤_, _<_}
+use Prim.Native.Nat.{ℕ, zero, suc, _+_, _-_, _≤_, _<_}
 use native.Mathlib.Omega.{arith}
 use native.Mathlib.Decide.{decLt, ℕ-discrete}
-use lib.Dec.{eqb}
 use borrow.Author.Tests.{eq-eqb, ne-eqb}
 use Rattle.rdf.specs.declared.Triple.{Triple}
 use Rattle.rdf.specs.Triple.{triple}
 use Rattle.rdf.specs.Order.{Less, by-subject, by-property, by-object, triple-eq, equalTriples}
-use Rattle.rdf.proofs.Order.{less-ne, of-subject, of-property, of-object}
+use Rattle.rdf.proofs.Order.{less-ne, of-property, of-object}
 use Rattle.table.specs.Table.{rowAt}
 use Rattle.rdfs.specs.Saturation.{Kept, lookup}
 use Rattle.rdfs.specs.Counts.{KeptAbove, Counts}
 use Rattle.rdfs.proofs.Kept.{lookup-nil, lookup-same, lookup-other, kept-ext}
 use Rattle.schema.specs.Compiled.{subjectAt, propertyAt, objectAt}
 use Rattle.schema.proofs.Tables.{row-subject, row-property, row-object}
-use Rattle.merge.specs.Output.{Output, output, putOne, putAll}
+use Rattle.merge.specs.Output.{Output, putOne, putAll}
 use Rattle.merge.specs.Between.{Within, within, between}
 use Rattle.merge.proofs.Between.{between-counts, inside, outside}
 use Rattle.subject.specs.Sums.{sumFrom}

@@ -1,23 +1,19 @@
 -- The rows of one subject whose property is not rdf:type, put in the order of their properties. Assumes nothing.
 use mathlib.Core.Path.{_≡_, refl, sym, ap, _∙_}
-use mathlib.Core.Bool.{cond}
-use mathlib.Core.List.{List, [], _∷_, _++_}
+use mathlib.Core.List.{List, _++_}
 use mathlib.Core.Logic.{_⊎_, inl, inr, ⊎-elim, by-cases}
-use Prim.Native.Nat.{ℕ, zero, suc, _+_, _-_, _*_, _^_, _≤_, _<_}
+use Prim.Native.Nat.{ℕ, zero, suc, _+_, _-_, _^_, _≤_, _<_}
 use native.Mathlib.Omega.{arith}
 use native.Mathlib.Decide.{decLt, ℕ-discrete}
 use lib.ListN.{length, getD}
-use lib.Dec.{eqb}
 use borrow.Author.Tests.{eq-eqb}
 use Rattle.rdf.specs.declared.Triple.{Triple}
 use Rattle.rdf.specs.Triple.{triple}
 use Rattle.rdf.specs.Order.{Less, by-subject, by-property, by-object, triple-eq}
-use Rattle.table.specs.Table.{rowAt}
 use Rattle.rdfs.specs.Saturation.{Kept, lookup}
 use Rattle.rdfs.specs.Counts.{Counts}
-use Rattle.schema.specs.Nodes.{propertyNode}
-use Rattle.schema.specs.Compiled.{subjectAt, propertyAt, objectAt, nodeBit}
-use Rattle.merge.specs.Output.{Output, output, putOne, putAll}
+use Rattle.schema.specs.Compiled.{propertyAt}
+use Rattle.merge.specs.Output.{Output, putAll}
 use Rattle.merge.specs.Between.{between}
 use Rattle.merge.specs.Streams.{objects, often}
 use Rattle.merge.proofs.Output.{put-append}
@@ -27,7 +23,7 @@ use Rattle.subject.specs.Sums.{sumFrom}
 use Rattle.subject.specs.Blocks.{sameAt, ledAt}
 use Rattle.subject.specs.Prepared.{Keys, Facts}
 use Rattle.subject.specs.Rows.{ones, Split, Of, ColumnRows, PropertyRows, Uncounted}
-use Rattle.subject.proofs.Ranges.{from-zero, from-part, from-ext}
+use Rattle.subject.proofs.Ranges.{from-zero, from-part}
 use Rattle.subject.proofs.Gathering.{led-zero}
 use Rattle.subject.proofs.Plain.{same-property, plain-part, not-before}
 

@@ -1,12 +1,12 @@
 -- The rows of one subject: the supports that its facts and the counts of the columns give. Assumes nothing.
 use mathlib.Core.Path.{_≡_, refl, sym, ap, _∙_}
 use mathlib.Core.Bool.{Bool, true, false, cond}
-use mathlib.Core.List.{List, [], _∷_, _++_}
-use mathlib.Core.Logic.{_⊎_, inl, inr, ⊎-elim, by-cases}
-use Prim.Native.Nat.{ℕ, zero, suc, _+_, _-_, _*_, _^_, _≤_, _<_}
+use mathlib.Core.List.{List, [], _++_}
+use mathlib.Core.Logic.{_⊎_, ⊎-elim, by-cases}
+use Prim.Native.Nat.{ℕ, zero, suc, _+_, _-_, _^_, _≤_, _<_}
 use native.Mathlib.Omega.{arith}
-use native.Mathlib.Decide.{decLt, ℕ-discrete}
-use lib.ListN.{length, getD}
+use native.Mathlib.Decide.{ℕ-discrete}
+use lib.ListN.{getD}
 use lib.Dec.{eqb}
 use borrow.Author.Tests.{eq-eqb, ne-eqb}
 use Rattle.rdf.specs.declared.Triple.{Triple}
@@ -15,31 +15,31 @@ use Rattle.rdf.specs.Triple.{triple}
 use Rattle.rdf.specs.Order.{Less, by-subject, by-property, by-object, triple-eq}
 use Rattle.rdfs.specs.Saturation.{Kept, lookup}
 use Rattle.rdfs.specs.Counts.{Counts}
-use Rattle.schema.specs.Nodes.{propertyNode, subjectNode}
-use Rattle.schema.specs.Sums.{sumTo, sumAt}
+use Rattle.schema.specs.Nodes.{propertyNode}
+use Rattle.schema.specs.Sums.{sumTo}
 use Rattle.schema.specs.Compiled.{subjectAt, propertyAt, objectAt, nodeBit, ownBit, explicitAt, subjectAdds, objectAdds, propertyAdds}
 use Rattle.schema.proofs.Sums.{sum-range, sumAt-is, sum-term, sum-bound}
 use Rattle.schema.proofs.Counted.{explicit-other, explicit-own, subject-adds, subject-adds-not, object-adds-not, object-adds-here, property-adds-subject, property-adds-own}
-use Rattle.merge.specs.Output.{Output, output, putAll}
+use Rattle.merge.specs.Output.{Output, putAll}
 use Rattle.merge.specs.Between.{between}
 use Rattle.merge.specs.Streams.{objects, often, Rising}
-use Rattle.merge.specs.Counted.{Counted, keysWithCounts, counted, countOf, KeysOver, KeysRising, total, Totalled}
+use Rattle.merge.specs.Counted.{keysWithCounts, counted, countOf, KeysOver, KeysRising, total, Totalled}
 use Rattle.merge.proofs.Output.{put-append}
 use Rattle.merge.proofs.Between.{between-none, between-skip}
 use Rattle.merge.proofs.Whole.{between-join}
 use Rattle.subject.specs.Sums.{sumFrom}
 use Rattle.subject.specs.Index.{objectOf, Once}
 use Rattle.subject.specs.Counting.{Summed, otherBit}
-use Rattle.subject.specs.Blocks.{sameAt, ledAt, OneSubject}
-use Rattle.subject.specs.Prepared.{Square, Keys, Prepared, Facts}
-use Rattle.subject.specs.Rows.{Split, Of, PropertyRows, Uncounted}
+use Rattle.subject.specs.Blocks.{sameAt, ledAt}
+use Rattle.subject.specs.Prepared.{Keys, Prepared, Facts}
+use Rattle.subject.specs.Rows.{Split, PropertyRows, Uncounted}
 use Rattle.subject.specs.Supported.{classSum, Supported, Small, Range, CountsOf}
 use Rattle.subject.proofs.Ranges.{from-ext, from-zero, from-part, to-part}
 use Rattle.subject.proofs.NodeBits.{node-absent}
 use Rattle.subject.proofs.Adding.{own-property}
 use Rattle.subject.proofs.Gathering.{rows-rising, led-zero}
 use Rattle.subject.proofs.Plain.{same-property, one-subject, not-before}
-use Rattle.subject.proofs.Properties.{Column, column-of, block-often}
+use Rattle.subject.proofs.Properties.{column-of, block-often}
 
 -- ---- the counts
 

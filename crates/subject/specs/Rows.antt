@@ -2,14 +2,14 @@
 -- keys the terms of the ns columns, the first nc of them classes; d the square of domains; f the words of the facts. Definitions only.
 use mathlib.Core.Path.{_≡_}
 use mathlib.Core.List.{List, [], _∷_}
-use Prim.Native.Nat.{ℕ, zero, suc, _+_, _-_, _*_, _^_, _≤_, _<_}
+use Prim.Native.Nat.{ℕ, zero, suc, _+_, _-_, _≤_, _<_}
 use lib.ListN.{getD}
 use Rattle.rdf.specs.Triple.{triple}
 use Rattle.table.specs.Table.{rowAt}
 use Rattle.rdfs.specs.Saturation.{Kept, lookup}
 use Rattle.merge.specs.Streams.{often, objects}
 use Rattle.schema.specs.Nodes.{propertyNode}
-use Rattle.schema.specs.Compiled.{subjectAt, propertyAt, objectAt, nodeBit}
+use Rattle.schema.specs.Compiled.{subjectAt, propertyAt, nodeBit}
 use Rattle.subject.specs.Sums.{sumFrom}
 use Rattle.subject.specs.Blocks.{sameAt, ledAt}
 

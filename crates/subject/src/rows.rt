@@ -8,7 +8,7 @@ use merge::put;
 use merge::wide;
 ghost use mathlib.Core.Path.{_≡_};
 ghost use Prim.Native.Nat.{ℕ, _+_, _-_, _*_, _^_, _≤_, _<_};
-ghost use lib.ListN.{length, getD};
+ghost use lib.ListN.{length};
 ghost use Rattle.rdf.specs.Triple.{triple};
 ghost use Rattle.table.specs.Table.{count};
 ghost use Rattle.rdfs.specs.Saturation.{Kept};

@@ -1,7 +1,7 @@
+-- Rows a .. b with nothing in them have no front.
 use borrow.Author.Needs.{needs}
-use mathlib.Core.Path.{_≡_, refl, sym, ap, ap₂, _∙_}
-use Prim.Native.Nat.{ℕ, _≤_, _-_, _<_, _^_, _+_}
-use native.Mathlib.Omega.{arith}
+use mathlib.Core.Path.{sym, _∙_}
+use Prim.Native.Nat.{_-_}
 use Rattle.merge.proofs.Streams.{front-none, front-some}
 use Rattle.merge.proofs.front.Statement.{statement}
 use Rattle.merge.proofs.front.Tie as tie

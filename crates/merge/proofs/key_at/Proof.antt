@@ -1,10 +1,8 @@
+-- Past the end there is no key.
 use borrow.Author.Needs.{needs}
-use mathlib.Core.Path.{_≡_, refl, sym, ap, ap₂, _∙_}
-use mathlib.Core.List.{List, [], _∷_}
-use Prim.Native.Nat.{ℕ, _≤_, _-_, _<_, _^_, _+_, _*_}
-use native.Mathlib.Omega.{arith}
-use lib.ListN.{length, getD}
-use borrow.Author.Tests.{lt-ltb, le-ltb}
+use mathlib.Core.Path.{sym, _∙_}
+use Prim.Native.Nat.{_-_}
+use borrow.Author.Tests.{le-ltb}
 use Rattle.merge.specs.Counted.{keyAt}
 use Rattle.merge.proofs.Counting.{keyAt-at}
 use Rattle.merge.proofs.key_at.Statement.{statement}

@@ -1,10 +1,10 @@
+-- The best so far is the least of the first y streams.
 use borrow.Author.Needs.{needs}
-use mathlib.Core.Path.{_≡_, refl, sym, ap, ap₂, _∙_}
-use Prim.Native.Nat.{ℕ, _≤_, _-_, _<_, _^_, _+_}
+use mathlib.Core.Path.{_≡_, sym, ap₂, _∙_}
+use Prim.Native.Nat.{ℕ, _≤_, _-_}
 use native.Mathlib.Omega.{arith}
 use Rattle.merge.specs.Streams.{streams, leastOf, lesserOf}
 use Rattle.merge.proofs.Streams.{least-more, least-none}
-use Rattle.merge.proofs.Counting.{least}
 use Rattle.merge.proofs.least.Statement.{statement}
 use Rattle.merge.proofs.least.Tie as tie
 

@@ -1,4 +1,4 @@
-use borrow.Author.Needs.{needs}
+-- By the two cases of the test.
 use borrow.Author.Tests.{lt-ltb, le-ltb}
 use Rattle.merge.proofs.lesser.Statement.{statement}
 use Rattle.merge.proofs.lesser.Tie as tie

@@ -1,6 +1,6 @@
+-- Rows below the least object are put, and the streams have the others. The streams shrink with each turn.
 use borrow.Author.Needs.{needs}
-use mathlib.Core.Path.{_≡_, refl, sym, ap, ap₂, _∙_}
-use Prim.Native.Nat.{ℕ, _≤_, _-_, _<_, _^_, _+_}
+use Prim.Native.Nat.{_-_}
 use native.Mathlib.Omega.{arith}
 use Rattle.merge.specs.Output.{output}
 use Rattle.merge.specs.Streams.{streams}

@@ -1,6 +1,7 @@
+-- The streams below y are stepped and counted, the others are as they were.
 use borrow.Author.Needs.{needs}
-use mathlib.Core.Path.{_≡_, refl, sym, ap, ap₂, _∙_}
-use Prim.Native.Nat.{ℕ, _≤_, _-_, _<_, _^_, _+_}
+use mathlib.Core.Path.{_≡_, sym, _∙_}
+use Prim.Native.Nat.{_-_}
 use native.Mathlib.Omega.{arith}
 use Rattle.merge.specs.Counted.{counted}
 use Rattle.merge.proofs.Streams.{step-hit, Stepping, stepping-start, stepping-hit, stepping-miss, stepping-small}

@@ -1,10 +1,7 @@
-use mathlib.Core.Path.{_≡_, refl, sym, ap, _∙_}
-use Prim.Native.Nat.{ℕ, _≤_, _-_, _<_, _^_, _+_, _*_}
-use native.Mathlib.Omega.{arith}
-use lib.ListN.{length, getD, length-set, length-replicate}
-use Rattle.saturate.specs.Saturated.{zeroFrom}
+-- All words are 0.
+use Prim.Native.Nat.{ℕ, _-_, _+_, _*_}
+use lib.ListN.{length-replicate}
 use Rattle.subject.proofs.Zeros.{zero-words}
-use Rattle.saturate.proofs.Passes.{zero-none, zero-more, zero-length}
 use Rattle.saturate.proofs.no_bits.Statement.{statement}
 use Rattle.saturate.proofs.no_bits.Tie as tie
 

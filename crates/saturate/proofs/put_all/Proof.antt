@@ -1,17 +1,10 @@
-use mathlib.Core.Path.{_≡_, refl, sym, ap, _∙_}
-use Prim.Native.Nat.{ℕ, _≤_, _-_, _<_, _^_, _+_, _*_}
+-- Without room nothing changes and the count says whether all rows fit; then they are written whole.
+use mathlib.Core.Path.{_∙_}
+use Prim.Native.Nat.{_≤_, _-_}
 use native.Mathlib.Omega.{arith}
-use lib.ListN.{length, getD, length-set}
-use Rattle.table.specs.Table.{count, rows, mostStatements, mostFacts}
-use Rattle.rdf.specs.Triple.{isAllowedStatement, isAllowedFact}
-use Rattle.table.specs.Laid.{WellFormed}
-use Rattle.table.proofs.Formed.{isTable-wellFormed}
-use Rattle.rdfs.specs.Saturation.{saturation}
-use Rattle.rdfs.proofs.Saturation.{saturation-counts}
-use Rattle.schema.proofs.Made.{columns-are}
-use Rattle.saturate.specs.Saturated.{saturated}
-use Rattle.saturate.proofs.Passes.{first-pass, written-not, written-all, both-passes, zero-length}
-use Rattle.saturate.proofs.Known.{facts-are, statement-count, prepared, saturation-supported, exists, supports-small}
+use lib.ListN.{length-set}
+use Rattle.table.specs.Table.{count}
+use Rattle.saturate.proofs.Passes.{first-pass, written-not, written-all, both-passes}
 use borrow.Author.Needs.{needs}
 use Rattle.saturate.proofs.put_all.Statement.{statement}
 use Rattle.saturate.proofs.put_all.Tie as tie

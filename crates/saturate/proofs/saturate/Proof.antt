@@ -1,16 +1,13 @@
-use mathlib.Core.Path.{_≡_, refl, sym, ap, _∙_}
-use Prim.Native.Nat.{ℕ, _≤_, _-_, _<_, _^_, _+_, _*_}
+-- The tables are well formed, so the compiled statements and the facts are as the passes ask, and the saturation has the supports that they count.
+use Prim.Native.Nat.{_-_}
 use native.Mathlib.Omega.{arith}
-use lib.ListN.{length, getD, length-set}
-use Rattle.table.specs.Table.{count, rows, mostStatements, mostFacts}
+use Rattle.table.specs.Table.{rows, mostStatements, mostFacts}
 use Rattle.rdf.specs.Triple.{isAllowedStatement, isAllowedFact}
-use Rattle.table.specs.Laid.{WellFormed}
 use Rattle.table.proofs.Formed.{isTable-wellFormed}
 use Rattle.rdfs.specs.Saturation.{saturation}
 use Rattle.rdfs.proofs.Saturation.{saturation-counts}
 use Rattle.schema.proofs.Made.{columns-are}
 use Rattle.saturate.specs.Saturated.{saturated}
-use Rattle.saturate.proofs.Passes.{first-pass, written-not, written-all, both-passes, zero-length}
 use Rattle.saturate.proofs.Known.{facts-are, statement-count, prepared, saturation-supported, exists, supports-small}
 use borrow.Author.Needs.{needs}
 use Rattle.saturate.proofs.saturate.Statement.{statement}

@@ -1,10 +1,7 @@
-use mathlib.Core.Path.{_≡_, refl, sym, ap, _∙_}
-use Prim.Native.Nat.{ℕ, _≤_, _-_, _<_, _^_, _+_, _*_}
+-- What `close` ensures of a square without bits.
+use mathlib.Core.Path.{_∙_}
+use Prim.Native.Nat.{_-_}
 use native.Mathlib.Omega.{arith}
-use lib.ListN.{length, getD, length-set, length-replicate}
-use Rattle.saturate.specs.Saturated.{zeroFrom}
-use Rattle.subject.proofs.Zeros.{zero-words}
-use Rattle.saturate.proofs.Passes.{zero-none, zero-more, zero-length}
 use borrow.Author.Needs.{needs}
 use Rattle.saturate.proofs.square.Statement.{statement}
 use Rattle.saturate.proofs.square.Tie as tie

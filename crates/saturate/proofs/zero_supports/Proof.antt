@@ -1,11 +1,11 @@
+-- The supports from i on are 0.
 use borrow.Author.Needs.{needs}
-use mathlib.Core.Path.{_≡_, refl, sym, ap, _∙_}
-use Prim.Native.Nat.{ℕ, _≤_, _-_, _<_, _^_, _+_, _*_}
+use mathlib.Core.Path.{_≡_, refl, ap, _∙_}
+use Prim.Native.Nat.{ℕ, _≤_, _-_}
 use native.Mathlib.Omega.{arith}
-use lib.ListN.{length, getD, length-set, length-replicate}
+use lib.ListN.{length, length-set}
 use Rattle.saturate.specs.Saturated.{zeroFrom}
-use Rattle.subject.proofs.Zeros.{zero-words}
-use Rattle.saturate.proofs.Passes.{zero-none, zero-more, zero-length}
+use Rattle.saturate.proofs.Passes.{zero-none, zero-more}
 use Rattle.saturate.proofs.zero_supports.Statement.{statement}
 use Rattle.saturate.proofs.zero_supports.Tie as tie
 

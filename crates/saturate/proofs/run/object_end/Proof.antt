@@ -1,14 +1,10 @@
+-- The places j .. h have the object x.
 use borrow.Author.Needs.{needs}
-use mathlib.Core.Path.{_≡_, refl, sym, ap, ap₂, _∙_}
-use Prim.Native.Nat.{ℕ, _≤_, _-_, _<_, _^_, _+_, _*_}
+use mathlib.Core.Path.{_≡_, sym, _∙_}
+use Prim.Native.Nat.{ℕ, _≤_, _-_, _<_}
 use native.Mathlib.Omega.{arith}
-use lib.ListN.{length, getD}
-use Rattle.table.specs.Table.{count}
-use Rattle.schema.specs.Compiled.{subjectAt}
-use Rattle.merge.specs.Output.{output}
-use Rattle.merge.specs.Streams.{lesserOf}
 use Rattle.subject.specs.Index.{objectOf}
-use Rattle.saturate.proofs.Running.{all-more, end-here, end-last, subject-some, subject-none, thing-some, thing-literal, thing-none, Running, run-start, run-thing, run-subjects, run-objects, run-less, run-more, run-end}
+use Rattle.saturate.proofs.Running.{all-more, end-here, end-last}
 use Rattle.saturate.proofs.run.object_end.Statement.{statement}
 use Rattle.saturate.proofs.run.object_end.Tie as tie
 

@@ -1,13 +1,7 @@
-use mathlib.Core.Path.{_≡_, refl, sym, ap, ap₂, _∙_}
-use Prim.Native.Nat.{ℕ, _≤_, _-_, _<_, _^_, _+_, _*_}
-use native.Mathlib.Omega.{arith}
-use lib.ListN.{length, getD}
-use Rattle.table.specs.Table.{count}
-use Rattle.schema.specs.Compiled.{subjectAt}
-use Rattle.merge.specs.Output.{output}
-use Rattle.merge.specs.Streams.{lesserOf}
-use Rattle.subject.specs.Index.{objectOf}
-use Rattle.saturate.proofs.Running.{all-more, end-here, end-last, subject-some, subject-none, thing-some, thing-literal, thing-none, Running, run-start, run-thing, run-subjects, run-objects, run-less, run-more, run-end}
+-- By whether there is a fact i.
+use mathlib.Core.Path.{sym, _∙_}
+use Prim.Native.Nat.{_-_}
+use Rattle.saturate.proofs.Running.{subject-some, subject-none}
 use borrow.Author.Needs.{needs}
 use Rattle.saturate.proofs.run.subject_from.Statement.{statement}
 use Rattle.saturate.proofs.run.subject_from.Tie as tie

@@ -1,14 +1,11 @@
+-- The columns below c have what the two squares add.
 use borrow.Author.Needs.{needs}
-use mathlib.Core.Path.{_≡_, refl, sym, ap, _∙_}
-use mathlib.Core.Logic.{⊎-elim}
-use Prim.Native.Nat.{ℕ, _≤_, _-_, _<_, _^_, _+_, _*_}
+use mathlib.Core.Path.{_≡_, _∙_}
+use Prim.Native.Nat.{_≤_, _-_}
 use native.Mathlib.Omega.{arith}
-use lib.ListN.{length, getD, length-set}
-use borrow.Author.Tests.{eq-eqb, ne-eqb}
 use Rattle.schema.specs.Squares.{at}
-use Rattle.schema.specs.Compiled.{ownBit}
-use Rattle.subject.specs.Counting.{Added, eitherAt, otherBit, Summed}
-use Rattle.subject.proofs.Adding.{added-none, added-more, type-row, type-none, other-row, self-row, property-none, range-row, range-none, range-own, own-bit, other-bit, either-at-bit, summed-none, summed-more, summed-few}
+use Rattle.subject.specs.Counting.{Added, eitherAt}
+use Rattle.subject.proofs.Adding.{added-none, added-more}
 use Rattle.subject.proofs.count.add_either.Statement.{statement}
 use Rattle.subject.proofs.count.add_either.Tie as tie
 

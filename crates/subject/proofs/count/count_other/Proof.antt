@@ -1,13 +1,9 @@
-use mathlib.Core.Path.{_≡_, refl, sym, ap, _∙_}
-use mathlib.Core.Logic.{⊎-elim}
-use Prim.Native.Nat.{ℕ, _≤_, _-_, _<_, _^_, _+_, _*_}
+-- By whether the subject is x, and whether the property has a statement.
+use mathlib.Core.Path.{sym, _∙_}
+use Prim.Native.Nat.{_-_}
 use native.Mathlib.Omega.{arith}
-use lib.ListN.{length, getD, length-set}
-use borrow.Author.Tests.{eq-eqb, ne-eqb}
 use Rattle.schema.specs.Squares.{at}
-use Rattle.schema.specs.Compiled.{ownBit}
-use Rattle.subject.specs.Counting.{Added, eitherAt, otherBit, Summed}
-use Rattle.subject.proofs.Adding.{added-none, added-more, type-row, type-none, other-row, self-row, property-none, range-row, range-none, range-own, own-bit, other-bit, either-at-bit, summed-none, summed-more, summed-few}
+use Rattle.subject.proofs.Adding.{range-row, range-none, range-own}
 use borrow.Author.Needs.{needs}
 use Rattle.subject.proofs.count.count_other.Statement.{statement}
 use Rattle.subject.proofs.count.count_other.Tie as tie

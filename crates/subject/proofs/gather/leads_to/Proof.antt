@@ -1,16 +1,10 @@
-use mathlib.Core.Path.{_≡_, refl, sym, ap, _∙_}
-use mathlib.Core.Bool.{true, false}
-use Prim.Native.Nat.{ℕ, _≤_, _-_, _<_, _^_, _+_, _*_}
+-- The bit of the property is that of its group's row.
+use mathlib.Core.Path.{sym, ap}
+use Prim.Native.Nat.{ℕ, _-_}
 use native.Mathlib.Omega.{arith}
-use lib.ListN.{length, getD, length-set}
 use lib.Dec.{eqb}
-use borrow.Author.Tests.{eq-eqb, ne-eqb}
-use Rattle.schema.specs.Squares.{at}
 use Rattle.schema.specs.Nodes.{propertyNode}
-use Rattle.schema.specs.Compiled.{propertyAt, nodeBit}
-use Rattle.subject.specs.Blocks.{Gathered}
-use Rattle.subject.proofs.NodeBits.{node-found, node-none, node-bit}
-use Rattle.subject.proofs.Gathering.{SameProperty, same-start, same-more, block-here, block-last, gather-start, gather-room, gather-yes, gather-no, facts-from, rows-rising, leads-yes, leads-no}
+use Rattle.subject.proofs.NodeBits.{node-found, node-none}
 use borrow.Author.Needs.{needs}
 use Rattle.subject.proofs.gather.leads_to.Statement.{statement}
 use Rattle.subject.proofs.gather.leads_to.Tie as tie

@@ -1,16 +1,9 @@
+-- The facts q .. z have properties below w.
 use borrow.Author.Needs.{needs}
-use mathlib.Core.Path.{_≡_, refl, sym, ap, _∙_}
-use Prim.Native.Nat.{ℕ, _≤_, _-_, _<_, _^_, _+_, _*_}
+use Prim.Native.Nat.{ℕ, _≤_, _-_, _<_}
 use native.Mathlib.Omega.{arith}
-use lib.ListN.{length, getD, length-set, set}
-use Rattle.table.specs.Table.{count, rowAt}
 use Rattle.schema.specs.Compiled.{propertyAt}
-use Rattle.rdf.specs.declared.Triple.{Triple}
-use Rattle.merge.specs.Output.{output, putOne, putAll}
-use Rattle.subject.specs.Rows.{ones, Split}
-use Rattle.subject.proofs.Plain.{split-here, split-end, below-more, ones-put, ones-done, one-subject}
-use Rattle.subject.proofs.Gathering.{one-rising, one-fits, column-tallied, facts-from}
-use Rattle.subject.proofs.Properties.{Passed, passed-start, passed-skip, passed-more, passed-end}
+use Rattle.subject.proofs.Plain.{split-here, split-end, below-more}
 use Rattle.subject.proofs.rows.first_from.Statement.{statement}
 use Rattle.subject.proofs.rows.first_from.Tie as tie
 

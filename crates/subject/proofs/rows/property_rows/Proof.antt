@@ -1,15 +1,13 @@
+-- The rows of the properties below a bound are put; columns passed that are not below it were not counted.
 use borrow.Author.Needs.{needs}
-use mathlib.Core.Path.{_≡_, refl, sym, ap, _∙_}
-use Prim.Native.Nat.{ℕ, _≤_, _-_, _<_, _^_, _+_, _*_}
+use mathlib.Core.Path.{_≡_, refl, _∙_}
+use Prim.Native.Nat.{_-_}
 use native.Mathlib.Omega.{arith}
-use lib.ListN.{length, getD, length-set, set}
-use Rattle.table.specs.Table.{count, rowAt}
-use Rattle.schema.specs.Compiled.{propertyAt}
-use Rattle.rdf.specs.declared.Triple.{Triple}
-use Rattle.merge.specs.Output.{output, putOne, putAll}
-use Rattle.subject.specs.Rows.{ones, Split}
-use Rattle.subject.proofs.Plain.{split-here, split-end, below-more, ones-put, ones-done, one-subject}
-use Rattle.subject.proofs.Gathering.{one-rising, one-fits, column-tallied, facts-from}
+use lib.ListN.{length}
+use Rattle.table.specs.Table.{count}
+use Rattle.merge.specs.Output.{output}
+use Rattle.subject.proofs.Plain.{one-subject}
+use Rattle.subject.proofs.Gathering.{facts-from}
 use Rattle.subject.proofs.Properties.{Passed, passed-start, passed-skip, passed-more, passed-end}
 use Rattle.subject.proofs.rows.property_rows.Statement.{statement}
 use Rattle.subject.proofs.rows.property_rows.Tie as tie

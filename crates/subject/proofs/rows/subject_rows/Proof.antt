@@ -1,15 +1,9 @@
-use mathlib.Core.Path.{_≡_, refl, sym, ap, _∙_}
-use mathlib.Core.Logic.{by-cases}
-use Prim.Native.Nat.{ℕ, _≤_, _-_, _<_, _^_, _+_, _*_}
+-- Rows of rdf:type from explicit types and counts, then those of the other properties.
+use Prim.Native.Nat.{_-_}
 use native.Mathlib.Omega.{arith}
-use native.Mathlib.Decide.{decLt}
-use lib.ListN.{length, getD, replicate, getD-replicate, length-replicate}
 use Rattle.table.specs.Table.{count}
-use Rattle.merge.specs.Output.{output}
-use Rattle.subject.proofs.Adding.{summed-few, own-bit}
 use Rattle.subject.proofs.Subjects.{counts-of, types-rising, keys-rising, types-small, uncounted, subject-rows-of}
 use Rattle.subject.proofs.Plain.{one-subject}
-use Rattle.subject.proofs.Zeros.{zero-words}
 use borrow.Author.Needs.{needs}
 use Rattle.subject.proofs.rows.subject_rows.Statement.{statement}
 use Rattle.subject.proofs.rows.subject_rows.Tie as tie
