@@ -11,6 +11,7 @@ use Rattle.rdf.proofs.Lists.{flatMap-in}
 use Rattle.table.specs.Table.{tripleFrom, firstRows}
 use Rattle.table.proofs.Rows.{length-firstRows, tripleFrom-drop, getD-firstRows}
 use Rattle.table.proofs.Place.{getD-member}
+use Rattle.sort.specs.Rows.{row}
 use Rattle.carry.specs.Words.{words}
 use Rattle.collect.specs.declared.Collected.{Collected}
 use Rattle.collect.specs.Collected.{Collects}
@@ -48,6 +49,10 @@ module _ {out : List ℕ} {c : Collected} where
   puts-none w = record { within = w; collects = λ R h. h }
 
   module _ {out₁ : List ℕ} {c₁ : Collected} where
+    -- One, as a row of words.
+    pub puts-one : (u : Triple) (ws : List ℕ) → row 3 0 ws ≡ words u → Within 3 out₁ c₁ → ((R : List (List ℕ)) → Collects 3 R out c → Collects 3 (row 3 0 ws ∷ R) out₁ c₁) → Puts (u ∷ []) out c out₁ c₁
+    puts-one u ws e w f = record { within = w; collects = λ R h. rw e at (f R h) }
+
     -- Alternatives with the same members: neither order nor repeats matter.
     pub puts-ext : (us vs : List Triple) → ((u : Triple) → List·Memᴰ u us ↔ List·Memᴰ u vs) → Puts us out c out₁ c₁ → Puts vs out c out₁ c₁
     puts-ext us vs e A = record {
@@ -71,21 +76,23 @@ module _ {out : List ℕ} {c : Collected} where
 
 -- ---- row by row
 
+-- No row yet.
+pub puts-start : (f : Triple → List Triple) (ws : List ℕ) {out : List ℕ} {c : Collected} → Within 3 out c → Puts (flatMap f (firstRows 0 ws)) out c out c
+unfolding flatMap firstRows
+puts-start f ws w = puts-none w
+
 module _ (f : Triple → List Triple) (ws : List ℕ) (i : ℕ) {out : List ℕ} {c : Collected} {out₁ : List ℕ} {c₁ : Collected} (A : Puts (flatMap f (firstRows i ws)) out c out₁ c₁) where
   -- What row i gives is put.
-  pub puts-more : {out₂ : List ℕ} {c₂ : Collected} → Puts (f (tripleFrom ws (i * 3))) out₁ c₁ out₂ c₂ → Puts (flatMap f (firstRows (i + 1) ws)) out c out₂ c₂
-  puts-more B = rw (flatMap-more f i ws) (puts-then (flatMap f (firstRows i ws)) (f (tripleFrom ws (i * 3))) A B)
+  pub puts-more : (t : Triple) → t ≡ tripleFrom ws (i * 3) → {out₂ : List ℕ} {c₂ : Collected} → Puts (f t) out₁ c₁ out₂ c₂ → Puts (flatMap f (firstRows (i + 1) ws)) out c out₂ c₂
+  puts-more t e B = rw (flatMap-more f i ws, sym e) (puts-then (flatMap f (firstRows i ws)) (f t) A B)
 
   -- Row i gives what the row before gave.
   pub puts-again : 0 < i → f (tripleFrom ws ((i - 1) * 3)) ≡ f (tripleFrom ws (i * 3)) → Puts (flatMap f (firstRows (i + 1) ws)) out c out₁ c₁
   puts-again h e = puts-ext (flatMap f (firstRows i ws)) (flatMap f (firstRows (i + 1) ws)) (λ u. (more u, less u)) A
     where
-      t : Triple
-      t = tripleFrom ws ((i - 1) * 3)
-
-      listed : List·Memᴰ t (firstRows i ws)
-      unfolding t
-      listed = Memᴰ·cast (sym (getD-firstRows i ws (i - 1) t (omega arith))) (getD-member (firstRows i ws) (i - 1) t (omega (arith, length-firstRows i ws)))
+      listed : List·Memᴰ (tripleFrom ws ((i - 1) * 3)) (firstRows i ws)
+      listed =
+          Memᴰ·cast (sym (getD-firstRows i ws (i - 1) (tripleFrom ws 0) (omega arith))) (getD-member (firstRows i ws) (i - 1) (tripleFrom ws 0) (omega (arith, length-firstRows i ws)))
 
       more : (u : Triple) → List·Memᴰ u (flatMap f (firstRows i ws)) → List·Memᴰ u (flatMap f (firstRows (i + 1) ws))
       more u m = rw (flatMap-more f i ws) (Memᴰ·append-left (f (tripleFrom ws (i * 3))) m)

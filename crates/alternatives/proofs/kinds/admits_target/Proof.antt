@@ -1,0 +1,32 @@
+use mathlib.Core.Path.{_∙_}
+use Rattle.alternatives.proofs.SourceLaws.{target-property, target-class}
+use borrow.Author.Needs.{needs}
+use Rattle.alternatives.proofs.kinds.admits_target.Statement.{statement}
+use Rattle.alternatives.proofs.kinds.admits_target.Tie as tie
+use Rattle.alternatives.proofs.kinds.admits_target.Reads as reads
+use Rattle.alternatives.proofs.kinds.admits_target.Lts as lts
+use Rattle.alternatives.proofs.kinds.admits.Reads as admits-reads
+
+-- src/kinds.rt:28:9
+admits-requires : tie.Need-admits-requires
+admits-requires c κs = search needs
+
+-- src/kinds.rt:28:9
+returns : tie.Need-returns
+returns c = ?h
+
+-- src/kinds.rt:30:5
+admits-requires-2 : tie.Need-admits-requires-2
+admits-requires-2 c κs = search needs
+
+-- src/kinds.rt:30:41
+admits-requires-3 : tie.Need-admits-requires-3
+admits-requires-3 c κs = search needs
+
+-- src/kinds.rt:24:1
+returns-2 : tie.Need-returns-2
+returns-2 c = ?h
+
+pub admits-target-spec : {M : Type 1} → statement M
+admits-target-spec =
+    tie.close (tie.spec admits-requires returns admits-requires-2 admits-requires-3 returns-2)

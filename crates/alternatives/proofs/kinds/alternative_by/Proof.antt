@@ -1,0 +1,16 @@
+use Rattle.alternatives.proofs.SourceLaws.{by-class, by-other}
+use Rattle.alternatives.proofs.kinds.alternative_by.Statement.{statement}
+use Rattle.alternatives.proofs.kinds.alternative_by.Tie as tie
+use Rattle.alternatives.proofs.kinds.alternative_by.Reads as reads
+use Rattle.alternatives.proofs.kinds.alternative_by.Lts as lts
+
+-- src/kinds.rt:47:9
+returns : tie.Need-returns
+returns c = ?h
+
+-- src/kinds.rt:43:1
+returns-2 : tie.Need-returns-2
+returns-2 c = ?h
+
+pub alternative-by-spec : {M : Type 1} → statement M
+alternative-by-spec = tie.close (tie.spec returns returns-2)

@@ -1,0 +1,48 @@
+use borrow.Author.Needs.{needs}
+use Rattle.alternatives.proofs.sources.put_carried.Statement.{statement}
+use Rattle.alternatives.proofs.sources.put_carried.Tie as tie
+use Rattle.alternatives.proofs.sources.put_carried.Reads as reads
+use Rattle.alternatives.proofs.sources.put_carried.Lts as lts
+use Rattle.alternatives.proofs.sources.no_rows.Reads as no-rows-reads
+use Rattle.alternatives.proofs.sources.put_rows.Reads as put-rows-reads
+use Rattle.carry.proofs.carry.Reads as carry-reads
+
+-- src/sources.rt:89:20
+no-rows-requires : tie.Need-no-rows-requires
+no-rows-requires c κs = search needs
+
+-- src/sources.rt:90:44
+slice-aggregate-carry : tie.Need-slice-aggregate-carry
+slice-aggregate-carry c = search needs
+
+-- src/sources.rt:90:9
+carry-requires : tie.Need-carry-requires
+carry-requires c κs = search needs
+
+-- src/sources.rt:91:33
+slice-aggregate-put-rows : tie.Need-slice-aggregate-put-rows
+slice-aggregate-put-rows c = search needs
+
+-- src/sources.rt:91:5
+put-rows-requires : tie.Need-put-rows-requires
+put-rows-requires c κs = ?
+
+-- src/sources.rt:78:1
+same-length : tie.Need-same-length
+same-length c = search needs
+
+-- src/sources.rt:78:1
+returns : tie.Need-returns
+returns c = ?
+
+pub put-carried-spec : {M : Type 1} → statement M
+put-carried-spec =
+    tie.close
+    (tie.spec
+    no-rows-requires
+    slice-aggregate-carry
+    carry-requires
+    slice-aggregate-put-rows
+    put-rows-requires
+    same-length
+    returns)

@@ -1,0 +1,72 @@
+use borrow.Author.Needs.{needs}
+use Prim.Native.Nat.{_≤_, _-_, _*_}
+use mathlib.Core.Path.{_≡_}
+use mathlib.Core.List.{flatMap}
+use lib.ListN.{length}
+use Rattle.table.specs.Table.{firstRows}
+use Rattle.alternatives.specs.Putting.{Puts, given}
+use Rattle.alternatives.proofs.PutLaws.{puts-start, puts-more}
+use Rattle.alternatives.proofs.sources.put_rows.Statement.{statement}
+use Rattle.alternatives.proofs.sources.put_rows.Tie as tie
+use Rattle.alternatives.proofs.sources.put_rows.Reads as reads
+use Rattle.alternatives.proofs.sources.put_rows.Lts as lts
+use Rattle.alternatives.proofs.sources.put_given.Reads as put-given-reads
+use Rattle.query.proofs.questions.atom_at.Reads as atom-at-reads
+
+abbrev Inv-loop : tie.InvT-loop
+Inv-loop out₀ atom source list n c₀ i₀ out c i = (i ≤ n) × ((length out ≡ length out₀) × Puts (flatMap (given atom source) (firstRows i list)) out₀ c₀ out c)
+
+abbrev μ-loop : tie.MeasureT-loop
+μ-loop out₀ atom source list n c₀ i₀ out c i = n - i
+
+-- src/sources.rt:69:5
+loop-holds : tie.Need-loop-holds Inv-loop μ-loop
+loop-holds c = ?h
+
+-- src/sources.rt:70:33
+mul-atom-at : tie.Need-mul-atom-at Inv-loop μ-loop
+mul-atom-at c = search needs
+
+-- src/sources.rt:70:13
+atom-at-requires : tie.Need-atom-at-requires Inv-loop μ-loop
+atom-at-requires c κs = search needs
+
+-- src/sources.rt:71:9
+put-given-requires : tie.Need-put-given-requires Inv-loop μ-loop
+put-given-requires c κs = ?h
+
+-- src/sources.rt:72:9
+add-i : tie.Need-add-i Inv-loop μ-loop
+add-i c = search needs
+
+-- src/sources.rt:69:5
+loop-less : tie.Need-loop-less Inv-loop μ-loop
+loop-less c = search needs
+
+-- src/sources.rt:69:5
+loop-again : tie.Need-loop-again Inv-loop μ-loop
+loop-again c = ?h
+
+-- src/sources.rt:56:1
+same-length : tie.Need-same-length Inv-loop μ-loop
+same-length c = search needs
+
+-- src/sources.rt:56:1
+returns : tie.Need-returns Inv-loop μ-loop
+returns c = ?h
+
+pub put-rows-spec : {M : Type 1} → statement M
+put-rows-spec =
+    tie.close
+    (tie.spec
+    Inv-loop
+    μ-loop
+    loop-holds
+    mul-atom-at
+    atom-at-requires
+    put-given-requires
+    add-i
+    loop-less
+    loop-again
+    same-length
+    returns)
