@@ -178,21 +178,21 @@ module _ (S : List Triple) (a : Triple) where
   of-property-fact x t u p g = Memᴰ·append-right (flatMap (given a x) (carried S (classFact x))) (flatMap-in (given a x) (carried S (propertyFact x)) (carried-part S (propertyFact x) t .1 p) g)
 
   -- Each alternative is given.
-  all-given : (k s d : ℕ) → NoVocabulary S → isVocabulary s ≡ false → ¬ (k ≡ 0) → IsAlternative S a k s d → List·Memᴰ (triple k s d) (carriedAlternatives S a s)
-  all-given k s d N v z as-it-is = absurd (z refl)
-  all-given k s d N v z (by-subclass {c} {d} r n e) =
+  all-given : (k s t : ℕ) → NoVocabulary S → isVocabulary s ≡ false → ¬ (k ≡ 0) → IsAlternative S a k s t → List·Memᴰ (triple k s t) (carriedAlternatives S a s)
+  all-given k s t N v z as-it-is = absurd (z refl)
+  all-given k s t N v z (by-subclass {c} {d} r n e) =
       of-class c (triple 1 type d) (triple 1 c d)
       (as-subject refl refl (record { start = c; listed = start-iff S (classFact c) c .1 (from-type refl refl); path = r }))
       (given-in a c (triple 1 type d) (triple 1 c d) (sym (by-class c (triple 1 type d) 1 refl refl)) (qualifies-1 a c d e n))
-  all-given k s d N v z (by-domain {p} {q} {c} {d} u m r e) =
+  all-given k s t N v z (by-domain {p} {q} {c} {d} u m r e) =
       of-property-fact p (triple 2 type d) (triple 2 p d)
       (as-subject refl refl (record { start = c; listed = start-iff S (propertyFact p) c .1 (from-domain q u m); path = r }))
       (given-in a p (triple 2 type d) (triple 2 p d) (sym (by-class p (triple 2 type d) 2 refl refl)) (qualifies-2 a p d e))
-  all-given k s d N v z (by-range {p} {q} {c} {d} u m r e) =
+  all-given k s t N v z (by-range {p} {q} {c} {d} u m r e) =
       of-property-fact p (triple 3 type d) (triple 3 p d)
       (as-object refl refl range-no-literal (record { start = c; listed = objects-iff S range (properties S (propertyFact p)) c .1 (record { start = q; listed = properties-iff S (propertyFact p) q .1 u; stated = m }); path = r }))
       (given-in a p (triple 3 type d) (triple 3 p d) (sym (by-class p (triple 3 type d) 3 refl refl)) (qualifies-3 a p d e))
-  all-given k s d N v z (by-subproperty {p} {q} r n e) =
+  all-given k s t N v z (by-subproperty {p} {q} r n e) =
       of-property-fact p (triple 2 q 3) (triple 4 p q) (as-property refl refl r)
       (given-in a p (triple 2 q 3) (triple 4 p q) (sym (by-other p (triple 2 q 3) (never-type N v r))) (qualifies-4 a p q e n))
 

@@ -1,3 +1,4 @@
+-- The result is the definition's, by what the call ensures. Assumes nothing.
 use borrow.Author.Needs.{needs}
 use Rattle.alternatives.proofs.kinds.admits.Statement.{statement}
 use Rattle.alternatives.proofs.kinds.admits.Tie as tie

@@ -1,3 +1,4 @@
+-- One case for kind 4, and one for the others. Assumes nothing.
 use mathlib.Core.Path.{_∙_}
 use Rattle.alternatives.proofs.SourceLaws.{target-property, target-class}
 use borrow.Author.Needs.{needs}
@@ -13,7 +14,7 @@ admits-requires c κs = search needs
 
 -- src/kinds.rt:28:9
 returns : tie.Need-returns
-returns c = ?h
+returns c = let a = c .before .before .before .args in c .admits .ensures ∙ target-property (a .atom) (a .alternative) (c .before .if1 .taken)
 
 -- src/kinds.rt:30:5
 admits-requires-2 : tie.Need-admits-requires-2
@@ -25,7 +26,7 @@ admits-requires-3 c κs = search needs
 
 -- src/kinds.rt:24:1
 returns-2 : tie.Need-returns-2
-returns-2 c = ?h
+returns-2 c = let a = c .before .before .before .before .args in let h = target-class (a .atom) (a .alternative) (c .before .before .if1 .left) in cc
 
 pub admits-target-spec : {M : Type 1} → statement M
 admits-target-spec =

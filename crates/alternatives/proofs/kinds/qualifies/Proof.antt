@@ -1,3 +1,4 @@
+-- The result is the definition's, by what the call ensures. Assumes nothing.
 use Rattle.alternatives.specs.Putting.{areEnds, qualifies}
 use borrow.Author.Needs.{needs}
 use Rattle.alternatives.proofs.kinds.qualifies.Statement.{statement}

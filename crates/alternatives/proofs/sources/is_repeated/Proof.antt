@@ -1,3 +1,8 @@
+-- The first statement has none before it; else the two subjects are compared. Assumes nothing.
+use mathlib.Core.Path.{sym}
+use native.Mathlib.Omega.{arith}
+use Rattle.rdf.proofs.Lists.{true-not-false}
+use Rattle.alternatives.proofs.GatherLaws.{repeated}
 use borrow.Author.Needs.{needs}
 use Rattle.alternatives.proofs.sources.is_repeated.Statement.{statement}
 use Rattle.alternatives.proofs.sources.is_repeated.Tie as tie
@@ -7,7 +12,7 @@ use Rattle.table.proofs.row_at.Reads as row-at-reads
 
 -- src/sources.rt:127:9
 returns : tie.Need-returns
-returns c = ?h
+returns c = λ h. absurd (true-not-false (sym h))
 
 -- src/sources.rt:129:37
 sub-row-at : tie.Need-sub-row-at
@@ -23,7 +28,7 @@ row-at-requires-2 c κs = search needs
 
 -- src/sources.rt:122:1
 returns-2 : tie.Need-returns-2
-returns-2 c = ?h
+returns-2 c = λ h. let a = c .before .before .before .before .before .before .args in (omega (arith, c .before .before .before .before .if1 .left), repeated (a .statements .now) (a .i) _ _ (c .before .before .before .row-at .ensures) (c .before .before .row-at2 .ensures) h)
 
 pub is-repeated-spec : {M : Type 1} → statement M
 is-repeated-spec =

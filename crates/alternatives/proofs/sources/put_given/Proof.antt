@@ -1,4 +1,7 @@
+-- One row or none, as the alternative qualifies. Assumes nothing.
+use borrow.Author.Tests.{not-true, not-false}
 use Rattle.alternatives.proofs.PutLaws.{puts-none}
+use Rattle.alternatives.proofs.SourceLaws.{given-unfit, given-fit}
 use borrow.Author.Needs.{needs}
 use Rattle.alternatives.proofs.sources.put_given.Statement.{statement}
 use Rattle.alternatives.proofs.sources.put_given.Tie as tie
@@ -18,7 +21,8 @@ qualifies-requires c κs = search needs
 
 -- src/sources.rt:50:9
 returns : tie.Need-returns
-returns c = ?h
+returns c = let a = c .before .before .before .before .args in let by = c .before .before .alternative-by in let q = c .before .qualifies in
+    rw (given-unfit (a .atom) (a .source) (a .row) (by .result) (q .result) (by .ensures) (q .ensures) (not-true _ (c .if1 .taken))) (puts-none (c .before .before .before .before .pre))
 
 -- src/sources.rt:52:5
 put-alternative-requires : tie.Need-put-alternative-requires
@@ -30,7 +34,8 @@ same-length c = search needs
 
 -- src/sources.rt:44:1
 returns-2 : tie.Need-returns-2
-returns-2 c = ?h
+returns-2 c = let a = c .before .before .before .before .before .before .before .before .args in let by = c .before .before .before .before .before .before .alternative-by in let q = c .before .before .before .before .before .qualifies in
+    rw (given-fit (a .atom) (a .source) (a .row) (by .result) (q .result) (by .ensures) (q .ensures) (not-false _ (c .before .before .before .before .if1 .left))) (c .before .before .put-alternative .ensures)
 
 pub put-given-spec : {M : Type 1} → statement M
 put-given-spec =

@@ -1,7 +1,9 @@
 use borrow.Author.Needs.{needs}
+-- At each turn the alternatives of the first i rows were put. Assumes nothing.
 use Prim.Native.Nat.{_≤_, _-_, _*_}
-use mathlib.Core.Path.{_≡_}
+use mathlib.Core.Path.{_≡_, refl, subst}
 use mathlib.Core.List.{flatMap}
+use native.Mathlib.Omega.{arith}
 use lib.ListN.{length}
 use Rattle.table.specs.Table.{firstRows}
 use Rattle.alternatives.specs.Putting.{Puts, given}
@@ -21,7 +23,7 @@ abbrev μ-loop : tie.MeasureT-loop
 
 -- src/sources.rt:69:5
 loop-holds : tie.Need-loop-holds Inv-loop μ-loop
-loop-holds c = ?h
+loop-holds c = let a = c .before .before .args in (omega arith, (refl, puts-start (given (a .atom) (a .source)) (a .list .now) (c .before .before .pre .1)))
 
 -- src/sources.rt:70:33
 mul-atom-at : tie.Need-mul-atom-at Inv-loop μ-loop
@@ -33,7 +35,7 @@ atom-at-requires c κs = search needs
 
 -- src/sources.rt:71:9
 put-given-requires : tie.Need-put-given-requires Inv-loop μ-loop
-put-given-requires c κs = ?h
+put-given-requires c κs = c .before .before .before .loop .inv .1 .1 .within
 
 -- src/sources.rt:72:9
 add-i : tie.Need-add-i Inv-loop μ-loop
@@ -45,7 +47,7 @@ loop-less c = search needs
 
 -- src/sources.rt:69:5
 loop-again : tie.Need-loop-again Inv-loop μ-loop
-loop-again c = ?h
+loop-again c = let a = c .before .before .before .before .before .before .before .before .before .args in let l = c .before .before .before .before .before .before .loop in (search needs, (search needs, puts-more (given (a .atom) (a .source)) (a .list .now) (l .i) (l .inv .1 .1) (c .before .before .before .before .atom-at .result) (c .before .before .before .before .atom-at .ensures) (c .before .before .put-given .ensures)))
 
 -- src/sources.rt:56:1
 same-length : tie.Need-same-length Inv-loop μ-loop
@@ -53,7 +55,7 @@ same-length c = search needs
 
 -- src/sources.rt:56:1
 returns : tie.Need-returns Inv-loop μ-loop
-returns c = ?h
+returns c = let a = c .before .before .before .before .args in let l = c .before .loop in let e : l .i ≡ a .n = omega (arith, c .loop-test .left, l .inv .0) in rw (← e) (l .inv .1 .1)
 
 pub put-rows-spec : {M : Type 1} → statement M
 put-rows-spec =

@@ -1,3 +1,9 @@
+-- What both facts give are the alternatives with the source. Assumes nothing.
+use Rattle.table.specs.Table.{rows}
+use Rattle.reformulation.specs.Alternative.{alternativesFrom}
+use Rattle.alternatives.proofs.PutLaws.{puts-ext, puts-then}
+use Rattle.alternatives.proofs.SourceLaws.{carriedAlternatives, source-iff}
+use Rattle.alternatives.proofs.GatherLaws.{statements-plain}
 use borrow.Author.Needs.{needs}
 use Rattle.alternatives.proofs.sources.put_source.Statement.{statement}
 use Rattle.alternatives.proofs.sources.put_source.Tie as tie
@@ -7,11 +13,11 @@ use Rattle.alternatives.proofs.sources.put_carried.Reads as put-carried
 
 -- src/sources.rt:117:9
 put-carried-requires : tie.Need-put-carried-requires
-put-carried-requires c κs = search needs
+put-carried-requires c κs = (c .before .before .before .pre .0, c .before .before .before .pre .1 .1)
 
 -- src/sources.rt:118:5
 put-carried-requires-2 : tie.Need-put-carried-requires-2
-put-carried-requires-2 c κs = search needs
+put-carried-requires-2 c κs = (c .before .before .before .before .before .before .before .pre .0, c .before .before .before .put-carried .ensures .within)
 
 -- src/sources.rt:97:1
 same-length : tie.Need-same-length
@@ -19,7 +25,10 @@ same-length c = search needs
 
 -- src/sources.rt:97:1
 returns : tie.Need-returns
-returns c = ?
+returns c = let a = c .before .before .before .before .before .before .before .before .before .before .args in let S = rows (a .statements .now) in
+    puts-ext (carriedAlternatives S (a .atom) (a .source)) (alternativesFrom S (a .atom) (a .source))
+    (source-iff S (a .atom) (a .source) (statements-plain (a .statements .now) (c .before .before .before .before .before .before .before .before .before .before .pre .0)) (c .before .before .before .before .before .before .before .before .before .before .pre .1 .0))
+    (puts-then _ _ (c .before .before .before .before .before .before .put-carried .ensures) (c .before .before .put-carried2 .ensures))
 
 pub put-source-spec : {M : Type 1} → statement M
 put-source-spec =

@@ -1,0 +1,64 @@
+use borrow.Author.Needs.{needs}
+use Rattle.alternatives.proofs.alternatives.Statement.{statement}
+use Rattle.alternatives.proofs.alternatives.Tie as tie
+use Rattle.alternatives.proofs.alternatives.Reads as reads
+use Rattle.alternatives.proofs.alternatives.Lts as lts
+use Rattle.alternatives.proofs.gather.Reads as gather-reads
+use Rattle.output.proofs.clear.Reads as clear-reads
+use Rattle.query.proofs.questions.is_atom.Reads as is-atom-reads
+use Rattle.table.proofs.is_statement_table.Reads as is-statement-table-reads
+
+-- src/lib.rt:42:5
+clear-requires : tie.Need-clear-requires
+clear-requires c κs = search needs
+
+-- src/lib.rt:43:9
+is-statement-table-requires : tie.Need-is-statement-table-requires
+is-statement-table-requires c κs = search needs
+
+-- src/lib.rt:44:9
+same-length : tie.Need-same-length
+same-length c = search needs
+
+-- src/lib.rt:44:9
+returns : tie.Need-returns
+returns c = ?
+
+-- src/lib.rt:46:9
+is-atom-requires : tie.Need-is-atom-requires
+is-atom-requires c κs = search needs
+
+-- src/lib.rt:47:9
+same-length-2 : tie.Need-same-length-2
+same-length-2 c = search needs
+
+-- src/lib.rt:47:9
+returns-2 : tie.Need-returns-2
+returns-2 c = ?
+
+-- src/lib.rt:49:5
+gather-requires : tie.Need-gather-requires
+gather-requires c κs = ?
+
+-- src/lib.rt:39:1
+same-length-3 : tie.Need-same-length-3
+same-length-3 c = search needs
+
+-- src/lib.rt:39:1
+returns-3 : tie.Need-returns-3
+returns-3 c = ?
+
+pub alternatives-spec : {M : Type 1} → statement M
+alternatives-spec =
+    tie.close
+    (tie.spec
+    clear-requires
+    is-statement-table-requires
+    same-length
+    returns
+    is-atom-requires
+    same-length-2
+    returns-2
+    gather-requires
+    same-length-3
+    returns-3)
