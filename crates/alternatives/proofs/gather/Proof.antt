@@ -1,3 +1,10 @@
+-- All that is put is given. Assumes nothing.
+use mathlib.Core.Path.{ap, _∙_}
+use mathlib.Core.List.{[], _++_, map}
+use lib.ListN.{length}
+use Rattle.carry.specs.Words.{words}
+use Rattle.collect.specs.Collected.{gathered}
+use Rattle.alternatives.proofs.GatherLaws.{allPut, none-put, all-put, all-given}
 use borrow.Author.Needs.{needs}
 use Rattle.alternatives.proofs.gather.Statement.{statement}
 use Rattle.alternatives.proofs.gather.Tie as tie
@@ -14,7 +21,7 @@ start-requires c κs = search needs
 
 -- src/lib.rt:32:9
 put-alternative-requires : tie.Need-put-alternative-requires
-put-alternative-requires c κs = ?
+put-alternative-requires c κs = let a = c .before .before .before .before .args in none-put (a .statements .now) (a .atom) (a .out .now) (c .before .before .before .before .pre .1) (c .start .ensures) .within
 
 -- src/lib.rt:33:9
 put-statements-requires : tie.Need-put-statements-requires
@@ -30,7 +37,10 @@ same-length c = search needs
 
 -- src/lib.rt:23:1
 returns : tie.Need-returns
-returns c = ?
+returns c = let a = c .before .before .before .before .before .before .before .before .before .before .before .before .before .before .before .args in let S = a .statements .now in let first = c .before .before .before .before .before .before .before .before .before .before .put-alternative in let all = c .before .before .before .before .before .before .put-statements in
+    c .before .before .finish .ensures (map words (allPut S (a .atom)) ++ []) (all-put S (a .atom) (a .out .now) (c .before .before .before .before .before .before .before .before .before .before .before .before .before .before .before .pre .1) (c .before .before .before .before .before .before .before .before .before .before .before .start .ensures) (first .ensures) (all .ensures))
+    ∙ ap (gathered 3 (map words (allPut S (a .atom)) ++ [])) (all .kept .0 ∙ first .kept .0)
+    ∙ all-given S (a .atom) (length (a .out .now))
 
 pub gather-spec : {M : Type 1} → statement M
 gather-spec =

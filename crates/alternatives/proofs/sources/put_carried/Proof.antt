@@ -29,7 +29,7 @@ slice-aggregate-put-rows c = search needs
 
 -- src/sources.rt:91:5
 put-rows-requires : tie.Need-put-rows-requires
-put-rows-requires c κs = let a = c .before .before .before .before .before .before .before .before .args in let k = c .before .before .before .carry in (carried-fits (k .result) (k .last .1) (carried (rows (a .statements .now)) (a .fact)) (k .ensures .0) (k .ensures .1), c .before .before .before .before .before .before .before .before .pre .1)
+put-rows-requires c κs = let a = c .before .before .before .before .before .before .before .before .args in let k = c .before .before .before .carry in (carried-fits (k .result) (k .last .1 .1 .0) (carried (rows (a .statements .now)) (a .fact)) (k .ensures .0) (k .ensures .1), c .before .before .before .before .before .before .before .before .pre .1)
 
 -- src/sources.rt:78:1
 same-length : tie.Need-same-length
@@ -37,7 +37,7 @@ same-length c = search needs
 
 -- src/sources.rt:78:1
 returns : tie.Need-returns
-returns c = let a = c .before .before .before .before .before .before .before .before .before .before .before .args in let k = c .before .before .before .before .before .before .carry in rw (carried-rows (k .result) (k .last .1) (carried (rows (a .statements .now)) (a .fact)) (k .ensures .0) (k .ensures .1)) at (c .before .before .put-rows .ensures)
+returns c = let a = c .before .before .before .before .before .before .before .before .before .before .before .args in let k = c .before .before .before .before .before .before .carry in rw (carried-rows (k .result) (k .last .1 .1 .0) (carried (rows (a .statements .now)) (a .fact)) (k .ensures .0) (k .ensures .1)) at (c .before .before .put-rows .ensures)
 
 pub put-carried-spec : {M : Type 1} → statement M
 put-carried-spec =

@@ -27,7 +27,7 @@ shared-slice-read-n c = omega (arith, some-word isAllowedStatement mostStatement
 
 -- src/sources.rt:157:13
 cast-n : tie.Need-cast-n Inv-loop μ-loop
-cast-n c = search needs
+cast-n c = omega (arith, c .shared-slice-known2 .given 0)
 
 -- src/sources.rt:160:5
 loop-holds : tie.Need-loop-holds Inv-loop μ-loop
@@ -39,7 +39,7 @@ put-statement-requires c κs = (c .before .before .before .before .before .befor
 
 -- src/sources.rt:162:9
 add-i : tie.Need-add-i Inv-loop μ-loop
-add-i c = search needs
+add-i c = omega (arith, c .before .before .before .before .before .before .shared-slice-known2 .given 0, c .before .before .before .before .loop-test .taken)
 
 -- src/sources.rt:160:5
 loop-less : tie.Need-loop-less Inv-loop μ-loop
