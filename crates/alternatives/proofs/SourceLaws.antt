@@ -8,16 +8,15 @@ use native.Mathlib.Omega.{arith}
 use lib.Dec.{eqb}
 use borrow.Author.Tests.{eq-eqb, ne-eqb, eqb-false, not-true}
 use Rattle.rdf.specs.declared.Triple.{Triple}
-use Rattle.rdf.specs.Term.{type, subClassOf, subPropertyOf, domain, range, isLiteral, isVocabulary}
+use Rattle.rdf.specs.Term.{type, subClassOf, domain, range, isLiteral, isVocabulary}
 use Rattle.rdf.specs.Triple.{triple}
 use Rattle.rdf.specs.Order.{triple-eq}
-use Rattle.rdf.proofs.Order.{of-subject, of-property, of-object}
 use Rattle.rdf.proofs.Lists.{flatMap-in, flatMap-out}
 use Rattle.rdf.proofs.Ascending.{and-left, and-right}
-use Rattle.rdfs.specs.Entailment.{Reach, stay, step, ReachFrom, NoVocabulary}
-use Rattle.rdfs.specs.Closure.{properties, objects, carried}
+use Rattle.rdfs.specs.Entailment.{Reach, stay, step, NoVocabulary}
+use Rattle.rdfs.specs.Closure.{properties, carried}
 use Rattle.rdfs.proofs.Entailment.{not-vocabulary}
-use Rattle.rdfs.proofs.Carried.{StepFrom, objects-iff, properties-iff, subjectStarts, SubjectStart, from-type, from-domain, start-iff, Part, as-property, as-subject, as-object, carried-part}
+use Rattle.rdfs.proofs.Carried.{objects-iff, properties-iff, SubjectStart, from-type, from-domain, start-iff, Part, as-property, as-subject, as-object, carried-part}
 use Rattle.reformulation.specs.Alternative.{admitsClass, admitsProperty, IsAlternative, as-it-is, by-subclass, by-domain, by-range, by-subproperty, admits, select, alternativesFrom}
 use Rattle.reformulation.proofs.Alternatives.{select-in, select-out, from-sound, from-complete}
 use Rattle.alternatives.specs.Putting.{propertyFact, classFact, alternativeBy, admitsTarget, areEnds, qualifies, given}

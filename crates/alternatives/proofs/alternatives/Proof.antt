@@ -12,55 +12,43 @@ use Rattle.alternatives.proofs.GatherLaws.{refused-1, refused-6, passed
 use borrow.Author.Needs.{needs}
 use Rattle.alternatives.proofs.alternatives.Statement.{statement}
 use Rattle.alternatives.proofs.alternatives.Tie as tie
-use Rattle.alternatives.proofs.alternatives.Reads as reads
-use Rattle.alternatives.proofs.alternatives.Lts as lts
-use Rattle.alternatives.proofs.gather.Reads as gather-reads
-use Rattle.output.proofs.clear.Reads as clear-reads
-use Rattle.query.proofs.questions.is_atom.Reads as is-atom-reads
-use Rattle.table.proofs.is_statement_table.Reads as is-statement-table-reads
 
--- src/lib.rt:42:5
 clear-requires : tie.Need-clear-requires
 clear-requires c κs = search needs
 
--- src/lib.rt:43:9
 is-statement-table-requires : tie.Need-is-statement-table-requires
 is-statement-table-requires c κs = search needs
 
--- src/lib.rt:44:9
 same-length : tie.Need-same-length
 same-length c = search needs
 
--- src/lib.rt:44:9
 returns : tie.Need-returns
-returns c = let a = c .before .before .before .before .before .before .before .before .args in
+returns c =
+    let a = c .before .before .before .before .before .before .before .before .args in
     ap (λ (ws : List ℕ). replied (Refused 1) ws) (c .before .before .before .before .clear .ensures) ∙ refused-1 (a .statements .now) (a .atom) (length (a .out .now)) (sym (c .before .is-statement-table .ensures) ∙ not-true _ (c .if1 .taken))
 
--- src/lib.rt:46:9
 is-atom-requires : tie.Need-is-atom-requires
 is-atom-requires c κs = search needs
 
--- src/lib.rt:47:9
 same-length-2 : tie.Need-same-length-2
 same-length-2 c = search needs
 
--- src/lib.rt:47:9
 returns-2 : tie.Need-returns-2
-returns-2 c = let a = c .before .before .before .before .before .before .before .before .before .before .args in
+returns-2 c =
+    let a = c .before .before .before .before .before .before .before .before .before .before .args in
     ap (λ (ws : List ℕ). replied (Refused 6) ws) (c .before .before .before .before .before .before .clear .ensures) ∙ refused-6 (a .statements .now) (a .atom) (length (a .out .now)) (sym (c .before .before .before .is-statement-table .ensures) ∙ not-false _ (c .before .before .if1 .left)) (sym (c .before .is-atom .ensures) ∙ not-true _ (c .if2 .taken))
 
--- src/lib.rt:49:5
 gather-requires : tie.Need-gather-requires
-gather-requires c κs = let a = c .before .before .before .before .before .before .before .before .before .before .before .args in
+gather-requires c κs =
+    let a = c .before .before .before .before .before .before .before .before .before .before .before .args in
     (sym (c .before .before .before .before .is-statement-table .ensures) ∙ not-false _ (c .before .before .before .if1 .left), cleared (c .before .before .before .before .before .before .before .clear .last .0) (length (a .out .now)) (c .before .before .before .before .before .before .before .clear .ensures))
 
--- src/lib.rt:39:1
 same-length-3 : tie.Need-same-length-3
 same-length-3 c = search needs
 
--- src/lib.rt:39:1
 returns-3 : tie.Need-returns-3
-returns-3 c = let a = c .before .before .before .before .before .before .before .before .before .before .before .before .before .before .args in
+returns-3 c =
+    let a = c .before .before .before .before .before .before .before .before .before .before .before .before .before .before .args in
     c .before .before .gather .ensures ∙ ap (giveAlternatives (a .statements .now) (a .atom)) (c .before .before .before .before .before .before .before .before .before .before .clear .kept .0) ∙ passed (a .statements .now) (a .atom) (length (a .out .now)) (sym (c .before .before .before .before .before .before .before .is-statement-table .ensures) ∙ not-false _ (c .before .before .before .before .before .before .if1 .left)) (sym (c .before .before .before .before .before .is-atom .ensures) ∙ not-false _ (c .before .before .before .before .if2 .left))
 
 pub alternatives-spec : {M : Type 1} → statement M

@@ -8,36 +8,30 @@ use Rattle.alternatives.proofs.GatherLaws.{allPut, none-put, all-put, a
 use borrow.Author.Needs.{needs}
 use Rattle.alternatives.proofs.gather.Statement.{statement}
 use Rattle.alternatives.proofs.gather.Tie as tie
-use Rattle.alternatives.proofs.gather.Reads as reads
-use Rattle.alternatives.proofs.gather.Lts as lts
-use Rattle.alternatives.proofs.sources.put_alternative.Reads as put-alternative-reads
-use Rattle.alternatives.proofs.sources.put_statements.Reads as put-statements-reads
-use Rattle.collect.proofs.finish.Reads as finish-reads
-use Rattle.collect.proofs.start.Reads as start-reads
 
--- src/lib.rt:32:48
 start-requires : tie.Need-start-requires
 start-requires c κs = search needs
 
--- src/lib.rt:32:9
 put-alternative-requires : tie.Need-put-alternative-requires
-put-alternative-requires c κs = let a = c .before .before .before .before .args in none-put (a .statements .now) (a .atom) (a .out .now) (c .before .before .before .before .pre .1) (c .start .ensures) .within
+put-alternative-requires c κs =
+    let a = c .before .before .before .before .args in
+    none-put (a .statements .now) (a .atom) (a .out .now) (c .before .before .before .before .pre .1) (c .start .ensures) .within
 
--- src/lib.rt:33:9
 put-statements-requires : tie.Need-put-statements-requires
 put-statements-requires c κs = search needs
 
--- src/lib.rt:34:5
 finish-requires : tie.Need-finish-requires
 finish-requires c κs = search needs
 
--- src/lib.rt:23:1
 same-length : tie.Need-same-length
 same-length c = search needs
 
--- src/lib.rt:23:1
 returns : tie.Need-returns
-returns c = let a = c .before .before .before .before .before .before .before .before .before .before .before .before .before .before .before .args in let S = a .statements .now in let first = c .before .before .before .before .before .before .before .before .before .before .put-alternative in let all = c .before .before .before .before .before .before .put-statements in
+returns c =
+    let a = c .before .before .before .before .before .before .before .before .before .before .before .before .before .before .before .args in
+    let S = a .statements .now in
+    let first = c .before .before .before .before .before .before .before .before .before .before .put-alternative in
+    let all = c .before .before .before .before .before .before .put-statements in
     c .before .before .finish .ensures (map words (allPut S (a .atom)) ++ []) (all-put S (a .atom) (a .out .now) (c .before .before .before .before .before .before .before .before .before .before .before .before .before .before .before .pre .1) (c .before .before .before .before .before .before .before .before .before .before .before .start .ensures) (first .ensures) (all .ensures))
     ∙ ap (gathered 3 (map words (allPut S (a .atom)) ++ [])) (all .kept .0 ∙ first .kept .0)
     ∙ all-given S (a .atom) (length (a .out .now))

@@ -4,29 +4,26 @@ use Rattle.alternatives.proofs.SourceLaws.{target-property, target-clas
 use borrow.Author.Needs.{needs}
 use Rattle.alternatives.proofs.kinds.admits_target.Statement.{statement}
 use Rattle.alternatives.proofs.kinds.admits_target.Tie as tie
-use Rattle.alternatives.proofs.kinds.admits_target.Reads as reads
-use Rattle.alternatives.proofs.kinds.admits_target.Lts as lts
-use Rattle.alternatives.proofs.kinds.admits.Reads as admits-reads
 
--- src/kinds.rt:28:9
 admits-requires : tie.Need-admits-requires
 admits-requires c κs = search needs
 
--- src/kinds.rt:28:9
 returns : tie.Need-returns
-returns c = let a = c .before .before .before .args in c .admits .ensures ∙ target-property (a .atom) (a .alternative) (c .before .if1 .taken)
+returns c =
+    let a = c .before .before .before .args in
+    c .admits .ensures ∙ target-property (a .atom) (a .alternative) (c .before .if1 .taken)
 
--- src/kinds.rt:30:5
 admits-requires-2 : tie.Need-admits-requires-2
 admits-requires-2 c κs = search needs
 
--- src/kinds.rt:30:41
 admits-requires-3 : tie.Need-admits-requires-3
 admits-requires-3 c κs = search needs
 
--- src/kinds.rt:24:1
 returns-2 : tie.Need-returns-2
-returns-2 c = let a = c .before .before .before .before .args in let h = target-class (a .atom) (a .alternative) (c .before .before .if1 .left) in cc
+returns-2 c =
+    let a = c .before .before .before .before .args in
+    let h = target-class (a .atom) (a .alternative) (c .before .before .if1 .left) in
+    cc
 
 pub admits-target-spec : {M : Type 1} → statement M
 admits-target-spec =

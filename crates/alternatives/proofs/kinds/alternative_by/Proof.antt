@@ -3,16 +3,16 @@ use mathlib.Core.Path.{refl, sym}
 use Rattle.alternatives.proofs.SourceLaws.{by-class, by-other}
 use Rattle.alternatives.proofs.kinds.alternative_by.Statement.{statement}
 use Rattle.alternatives.proofs.kinds.alternative_by.Tie as tie
-use Rattle.alternatives.proofs.kinds.alternative_by.Reads as reads
-use Rattle.alternatives.proofs.kinds.alternative_by.Lts as lts
 
--- src/kinds.rt:47:9
 returns : tie.Need-returns
-returns c = let a = c .before .before .args in sym (by-class (a .source) (a .row) (a .row .subject) refl (c .if1 .taken))
+returns c =
+    let a = c .before .before .args in
+    sym (by-class (a .source) (a .row) (a .row .subject) refl (c .if1 .taken))
 
--- src/kinds.rt:43:1
 returns-2 : tie.Need-returns-2
-returns-2 c = let a = c .before .before .args in sym (by-other (a .source) (a .row) (c .if1 .left))
+returns-2 c =
+    let a = c .before .before .args in
+    sym (by-other (a .source) (a .row) (c .if1 .left))
 
 pub alternative-by-spec : {M : Type 1} → statement M
 alternative-by-spec = tie.close (tie.spec returns returns-2)

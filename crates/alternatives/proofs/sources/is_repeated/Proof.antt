@@ -6,29 +6,23 @@ use Rattle.alternatives.proofs.GatherLaws.{repeated}
 use borrow.Author.Needs.{needs}
 use Rattle.alternatives.proofs.sources.is_repeated.Statement.{statement}
 use Rattle.alternatives.proofs.sources.is_repeated.Tie as tie
-use Rattle.alternatives.proofs.sources.is_repeated.Reads as reads
-use Rattle.alternatives.proofs.sources.is_repeated.Lts as lts
-use Rattle.table.proofs.row_at.Reads as row-at-reads
 
--- src/sources.rt:127:9
 returns : tie.Need-returns
 returns c = λ h. absurd (true-not-false (sym h))
 
--- src/sources.rt:129:37
 sub-row-at : tie.Need-sub-row-at
 sub-row-at c = search needs
 
--- src/sources.rt:129:9
 row-at-requires : tie.Need-row-at-requires
 row-at-requires c κs = search needs
 
--- src/sources.rt:130:9
 row-at-requires-2 : tie.Need-row-at-requires-2
 row-at-requires-2 c κs = search needs
 
--- src/sources.rt:122:1
 returns-2 : tie.Need-returns-2
-returns-2 c = λ h. let a = c .before .before .before .before .before .before .args in (omega (arith, c .before .before .before .before .if1 .left), repeated (a .statements .now) (a .i) _ _ (c .before .before .before .row-at .ensures) (c .before .before .row-at2 .ensures) h)
+returns-2 c = λ h.
+    let a = c .before .before .before .before .before .before .args in
+    (omega (arith, c .before .before .before .before .if1 .left), repeated (a .statements .now) (a .i) _ _ (c .before .before .before .row-at .ensures) (c .before .before .row-at2 .ensures) h)
 
 pub is-repeated-spec : {M : Type 1} → statement M
 is-repeated-spec =

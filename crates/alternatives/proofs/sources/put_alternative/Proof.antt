@@ -6,26 +6,21 @@ use Rattle.alternatives.proofs.PutLaws.{puts-one}
 use borrow.Author.Needs.{needs}
 use Rattle.alternatives.proofs.sources.put_alternative.Statement.{statement}
 use Rattle.alternatives.proofs.sources.put_alternative.Tie as tie
-use Rattle.alternatives.proofs.sources.put_alternative.Reads as reads
-use Rattle.alternatives.proofs.sources.put_alternative.Lts as lts
-use Rattle.collect.proofs.put.Reads as put-reads
 
--- src/sources.rt:40:17
 slice-aggregate-put : tie.Need-slice-aggregate-put
 slice-aggregate-put c = search needs
 
--- src/sources.rt:40:5
 put-requires : tie.Need-put-requires
 put-requires c κs = search needs
 
--- src/sources.rt:31:1
 same-length : tie.Need-same-length
 same-length c = search needs
 
--- src/sources.rt:31:1
 returns : tie.Need-returns
 unfolding row
-returns c = let u = c .before .before .before .before .before .before .args .alternative in puts-one u (u .subject ∷ u .property ∷ u .object ∷ []) refl (c .before .before .put .ensures .0) (c .before .before .put .ensures .1)
+returns c =
+    let u = c .before .before .before .before .before .before .args .alternative in
+    puts-one u (u .subject ∷ u .property ∷ u .object ∷ []) refl (c .before .before .put .ensures .0) (c .before .before .put .ensures .1)
 
 pub put-alternative-spec : {M : Type 1} → statement M
 put-alternative-spec = tie.close (tie.spec slice-aggregate-put put-requires same-length returns)

@@ -1,7 +1,7 @@
-use borrow.Author.Needs.{needs}
 -- At each turn the alternatives of the first i rows were put. Assumes nothing.
-use Prim.Native.Nat.{_≤_, _-_, _*_}
-use mathlib.Core.Path.{_≡_, refl, subst}
+use borrow.Author.Needs.{needs}
+use Prim.Native.Nat.{_≤_, _-_}
+use mathlib.Core.Path.{_≡_, refl}
 use mathlib.Core.List.{flatMap}
 use native.Mathlib.Omega.{arith}
 use lib.ListN.{length}
@@ -10,10 +10,6 @@ use Rattle.alternatives.specs.Putting.{Puts, given}
 use Rattle.alternatives.proofs.PutLaws.{puts-start, puts-more}
 use Rattle.alternatives.proofs.sources.put_rows.Statement.{statement}
 use Rattle.alternatives.proofs.sources.put_rows.Tie as tie
-use Rattle.alternatives.proofs.sources.put_rows.Reads as reads
-use Rattle.alternatives.proofs.sources.put_rows.Lts as lts
-use Rattle.alternatives.proofs.sources.put_given.Reads as put-given-reads
-use Rattle.query.proofs.questions.atom_at.Reads as atom-at-reads
 
 abbrev Inv-loop : tie.InvT-loop
 Inv-loop out₀ atom source list n c₀ i₀ out c i = (i ≤ n) × ((length out ≡ length out₀) × Puts (flatMap (given atom source) (firstRows i list)) out₀ c₀ out c)
@@ -21,41 +17,41 @@ Inv-loop out₀ atom source list n c₀ i₀ out c i = (i ≤ n) × ((length out
 abbrev μ-loop : tie.MeasureT-loop
 μ-loop out₀ atom source list n c₀ i₀ out c i = n - i
 
--- src/sources.rt:69:5
 loop-holds : tie.Need-loop-holds Inv-loop μ-loop
-loop-holds c = let a = c .before .before .args in (omega arith, (refl, puts-start (given (a .atom) (a .source)) (a .list .now) (c .before .before .pre .1)))
+loop-holds c =
+    let a = c .before .before .args in
+    (omega arith, (refl, puts-start (given (a .atom) (a .source)) (a .list .now) (c .before .before .pre .1)))
 
--- src/sources.rt:70:33
 mul-atom-at : tie.Need-mul-atom-at Inv-loop μ-loop
 mul-atom-at c = search needs
 
--- src/sources.rt:70:13
 atom-at-requires : tie.Need-atom-at-requires Inv-loop μ-loop
 atom-at-requires c κs = search needs
 
--- src/sources.rt:71:9
 put-given-requires : tie.Need-put-given-requires Inv-loop μ-loop
 put-given-requires c κs = c .before .before .before .loop .inv .1 .1 .within
 
--- src/sources.rt:72:9
 add-i : tie.Need-add-i Inv-loop μ-loop
 add-i c = search needs
 
--- src/sources.rt:69:5
 loop-less : tie.Need-loop-less Inv-loop μ-loop
 loop-less c = search needs
 
--- src/sources.rt:69:5
 loop-again : tie.Need-loop-again Inv-loop μ-loop
-loop-again c = let a = c .before .before .before .before .before .before .before .before .before .args in let l = c .before .before .before .before .before .before .loop in (search needs, (search needs, puts-more (given (a .atom) (a .source)) (a .list .now) (l .i) (l .inv .1 .1) (c .before .before .before .before .atom-at .result) (c .before .before .before .before .atom-at .ensures) (c .before .before .put-given .ensures)))
+loop-again c =
+    let a = c .before .before .before .before .before .before .before .before .before .args in
+    let l = c .before .before .before .before .before .before .loop in
+    (search needs, (search needs, puts-more (given (a .atom) (a .source)) (a .list .now) (l .i) (l .inv .1 .1) (c .before .before .before .before .atom-at .result) (c .before .before .before .before .atom-at .ensures) (c .before .before .put-given .ensures)))
 
--- src/sources.rt:56:1
 same-length : tie.Need-same-length Inv-loop μ-loop
 same-length c = search needs
 
--- src/sources.rt:56:1
 returns : tie.Need-returns Inv-loop μ-loop
-returns c = let a = c .before .before .before .before .args in let l = c .before .loop in let e : l .i ≡ a .n = omega (arith, c .loop-test .left, l .inv .0) in rw (← e) (l .inv .1 .1)
+returns c =
+    let a = c .before .before .before .before .args in
+    let l = c .before .loop in
+    let e : l .i ≡ a .n = omega (arith, c .loop-test .left, l .inv .0) in
+    rw (← e) (l .inv .1 .1)
 
 pub put-rows-spec : {M : Type 1} → statement M
 put-rows-spec =

@@ -10,25 +10,20 @@ use Rattle.alternatives.proofs.GatherLaws.{statements-plain}
 use borrow.Author.Needs.{needs}
 use Rattle.alternatives.proofs.sources.put_source.Statement.{statement}
 use Rattle.alternatives.proofs.sources.put_source.Tie as tie
-use Rattle.alternatives.proofs.sources.put_source.Reads as reads
-use Rattle.alternatives.proofs.sources.put_source.Lts as lts
-use Rattle.alternatives.proofs.sources.put_carried.Reads as put-carried-reads
 
--- src/sources.rt:117:9
 put-carried-requires : tie.Need-put-carried-requires
 put-carried-requires c κs = (c .before .before .before .pre .0, c .before .before .before .pre .1 .1)
 
--- src/sources.rt:118:5
 put-carried-requires-2 : tie.Need-put-carried-requires-2
 put-carried-requires-2 c κs = (c .before .before .before .before .before .before .before .pre .0, c .before .before .before .put-carried .ensures .within)
 
--- src/sources.rt:97:1
 same-length : tie.Need-same-length
 same-length c = search needs
 
--- src/sources.rt:97:1
 returns : tie.Need-returns
-returns c = let a = c .before .before .before .before .before .before .before .before .before .before .args in let S = rows (a .statements .now) in
+returns c =
+    let a = c .before .before .before .before .before .before .before .before .before .before .args in
+    let S = rows (a .statements .now) in
     puts-ext (carriedAlternatives S (a .atom) (a .source)) (alternativesFrom S (a .atom) (a .source))
     (source-iff S (a .atom) (a .source) (statements-plain (a .statements .now) (c .before .before .before .before .before .before .before .before .before .before .pre .0)) (c .before .before .before .before .before .before .before .before .before .before .pre .1 .0))
     (puts-then (flatMap (given (a .atom) (a .source)) (carried S (classFact (a .source)))) (flatMap (given (a .atom) (a .source)) (carried S (propertyFact (a .source)))) (c .before .before .before .before .before .before .put-carried .ensures) (c .before .before .put-carried2 .ensures))

@@ -1,6 +1,6 @@
-use borrow.Author.Needs.{needs}
 -- At each turn the alternatives of the first i statements were put. Assumes nothing.
-use Prim.Native.Nat.{_≤_, _-_, _*_}
+use borrow.Author.Needs.{needs}
+use Prim.Native.Nat.{_≤_, _-_}
 use mathlib.Core.Path.{_≡_, refl}
 use native.Mathlib.Omega.{arith}
 use lib.ListN.{length}
@@ -11,9 +11,6 @@ use Rattle.alternatives.specs.Putting.{Puts, alternativesBelow}
 use Rattle.alternatives.proofs.GatherLaws.{below-start}
 use Rattle.alternatives.proofs.sources.put_statements.Statement.{statement}
 use Rattle.alternatives.proofs.sources.put_statements.Tie as tie
-use Rattle.alternatives.proofs.sources.put_statements.Reads as reads
-use Rattle.alternatives.proofs.sources.put_statements.Lts as lts
-use Rattle.alternatives.proofs.sources.put_statement.Reads as put-statement-reads
 
 abbrev Inv-loop : tie.InvT-loop
 Inv-loop out₀ statements atom n c₀ i₀ out c i = (i ≤ n) × ((length out ≡ length out₀) × Puts (alternativesBelow statements atom i) out₀ c₀ out c)
@@ -21,41 +18,41 @@ Inv-loop out₀ statements atom n c₀ i₀ out c i = (i ≤ n) × ((length out 
 abbrev μ-loop : tie.MeasureT-loop
 μ-loop out₀ statements atom n c₀ i₀ out c i = n - i
 
--- src/sources.rt:157:13
 shared-slice-read-n : tie.Need-shared-slice-read-n Inv-loop μ-loop
 shared-slice-read-n c = omega (arith, some-word isAllowedStatement mostStatements (c .before .before .before .args .statements .now) (c .before .before .before .pre .0))
 
--- src/sources.rt:157:13
 cast-n : tie.Need-cast-n Inv-loop μ-loop
 cast-n c = omega (arith, c .shared-slice-known2 .given 0)
 
--- src/sources.rt:160:5
 loop-holds : tie.Need-loop-holds Inv-loop μ-loop
-loop-holds c = let a = c .before .before .before .args in (omega arith, (refl, below-start (a .statements .now) (a .atom) (c .before .before .before .pre .1)))
+loop-holds c =
+    let a = c .before .before .before .args in
+    (omega arith, (refl, below-start (a .statements .now) (a .atom) (c .before .before .before .pre .1)))
 
--- src/sources.rt:161:9
 put-statement-requires : tie.Need-put-statement-requires Inv-loop μ-loop
 put-statement-requires c κs = (c .before .before .before .before .before .before .pre .0, (c .before .loop-test .taken, c .before .before .loop .inv .1 .1 .within))
 
--- src/sources.rt:162:9
 add-i : tie.Need-add-i Inv-loop μ-loop
 add-i c = omega (arith, c .before .before .before .before .before .before .shared-slice-known2 .given 0, c .before .before .before .before .loop-test .taken)
 
--- src/sources.rt:160:5
 loop-less : tie.Need-loop-less Inv-loop μ-loop
 loop-less c = search needs
 
--- src/sources.rt:160:5
 loop-again : tie.Need-loop-again Inv-loop μ-loop
-loop-again c = let a = c .before .before .before .before .before .before .before .before .before .args in let l = c .before .before .before .before .before .loop in (search needs, (search needs, c .before .before .put-statement .ensures (a .out .now) (a .c0) (l .inv .1 .1)))
+loop-again c =
+    let a = c .before .before .before .before .before .before .before .before .before .args in
+    let l = c .before .before .before .before .before .loop in
+    (search needs, (search needs, c .before .before .put-statement .ensures (a .out .now) (a .c0) (l .inv .1 .1)))
 
--- src/sources.rt:153:1
 same-length : tie.Need-same-length Inv-loop μ-loop
 same-length c = search needs
 
--- src/sources.rt:153:1
 returns : tie.Need-returns Inv-loop μ-loop
-returns c = let a = c .before .before .before .before .before .args in let l = c .before .loop in let e : l .i ≡ count (a .statements .now) = omega (arith, c .loop-test .left, l .inv .0) in rw (← e) (l .inv .1 .1)
+returns c =
+    let a = c .before .before .before .before .before .args in
+    let l = c .before .loop in
+    let e : l .i ≡ count (a .statements .now) = omega (arith, c .loop-test .left, l .inv .0) in
+    rw (← e) (l .inv .1 .1)
 
 pub put-statements-spec : {M : Type 1} → statement M
 put-statements-spec =
