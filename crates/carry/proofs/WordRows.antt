@@ -16,10 +16,7 @@ use Rattle.sort.specs.Rows.{less, row, rowAt, tabulate, insertOnce, ordered, fl
 use Rattle.sort.specs.Effects.{HoldsRows}
 use Rattle.sort.proofs.Order.{less-irrefl, less-asym}
 use Rattle.sort.proofs.HeldWords.{flat-rows}
-
--- A triple's words.
-abbrev pub words : Triple → List ℕ
-words t = t .subject ∷ t .property ∷ t .object ∷ []
+use Rattle.carry.specs.Words.{words}
 
 -- The orders agree.
 words-less : {t u : Triple} → Less t u → less (words t) (words u) ≡ true

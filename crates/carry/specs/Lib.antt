@@ -1,2 +1,3 @@
 pub mod Marks
 pub mod Conclusions
+pub mod Words

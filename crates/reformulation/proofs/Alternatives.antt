@@ -170,29 +170,56 @@ reach-begins : {S : List Triple} {k x y : ℕ} → Reach S k x y → (x ≡ y) �
 reach-begins stay = inl refl
 reach-begins {x} (step {b} {c} r m) = inr (⊎-elim (λ (e : x ≡ b). record { statement = _; stated = m; is = sym e }) (λ g. g) (reach-begins r))
 
--- What a source gives stands among the alternatives.
-from-source : (S : List Triple) (a u : Triple) (x : ℕ) → Begins S x → Gives S a x u → List·Memᴰ u (alternatives S a)
-unfolding alternatives
-from-source S a u x b g =
-    ascend-in (triple 0 0 0 ∷ flatMap (λ (t : Triple). alternativesFrom S a (t .subject)) S)
-    (List·Memᴰ·tail (flatMap-in (λ (t : Triple). alternativesFrom S a (t .subject)) S (b .stated)
-    (subst (λ (y : ℕ). List·Memᴰ u (alternativesFrom S a y)) (sym (b .is)) (gives-in S a x u g))))
+-- An alternative is the explicit triple as it is, or of another kind, with a source that is the subject of a statement.
+source-begins : {S : List Triple} {a : Triple} {k s t : ℕ} → IsAlternative S a k s t → (triple k s t ≡ triple 0 0 0) ⊎ ((¬ (k ≡ 0)) × Begins S s)
+source-begins as-it-is = inl refl
+source-begins (by-subclass r n e) = inr (λ z. omega arith, ⊎-elim (λ q. absurd (n q)) (λ b. b) (reach-begins r))
+source-begins (by-domain {p} {q} {c} u m r e) = inr (λ z. omega arith, ⊎-elim (λ (i : p ≡ q). record { statement = triple q domain c; stated = m; is = sym i }) (λ b. b) (reach-begins u))
+source-begins (by-range {p} {q} {c} u m r e) = inr (λ z. omega arith, ⊎-elim (λ (i : p ≡ q). record { statement = triple q range c; stated = m; is = sym i }) (λ b. b) (reach-begins u))
+source-begins (by-subproperty r n e) = inr (λ z. omega arith, ⊎-elim (λ q. absurd (n q)) (λ b. b) (reach-begins r))
+
+-- ---- the theorems for one source
+
+-- What is listed for a source is an alternative with that source, and not the explicit triple as it is.
+pub from-sound : (S : List Triple) (a : Triple) (x : ℕ) (u : Triple) → List·Memᴰ u (alternativesFrom S a x) → (u .property ≡ x) × ((¬ (u .subject ≡ 0)) × IsAlternative S a (u .subject) (u .property) (u .object))
+from-sound S a x u m = let g = gives-out S a x u m in (source-of g, (kind-of g, gives-sound S a x u g))
+  where
+    source-of : Gives S a x u → u .property ≡ x
+    source-of (gives-1 r) = r .is-source
+    source-of (gives-2 r) = r .is-source
+    source-of (gives-3 r) = r .is-source
+    source-of (gives-4 r) = r .is-source
+
+    kind-of : Gives S a x u → ¬ (u .subject ≡ 0)
+    kind-of (gives-1 r) z = omega (arith, r .is-kind)
+    kind-of (gives-2 r) z = omega (arith, r .is-kind)
+    kind-of (gives-3 r) z = omega (arith, r .is-kind)
+    kind-of (gives-4 r) z = omega (arith, r .is-kind)
+
+-- Each such alternative is listed.
+pub from-complete : (S : List Triple) (a : Triple) (k s t : ℕ) → ¬ (k ≡ 0) → IsAlternative S a k s t → List·Memᴰ (triple k s t) (alternativesFrom S a s)
+from-complete S a k s t z as-it-is = absurd (z refl)
+from-complete S a k s t z (by-subclass {c} {d} r n e) =
+    gives-in S a c (triple 1 c d)
+    (gives-1 (record { is-kind = refl; is-source = refl; listed = without-in c d (reach S subClassOf c) (reach-iff S subClassOf c d .1 r) n; admitted = e }))
+from-complete S a k s t z (by-domain {p} {q} {c} {d} u m r e) =
+    gives-in S a p (triple 2 p d)
+    (gives-2 (record { is-kind = refl; is-source = refl; listed = leads-in S domain p d (record { property = q; class = c; up = u; stated = m; on = r }); admitted = e }))
+from-complete S a k s t z (by-range {p} {q} {c} {d} u m r e) =
+    gives-in S a p (triple 3 p d)
+    (gives-3 (record { is-kind = refl; is-source = refl; listed = leads-in S range p d (record { property = q; class = c; up = u; stated = m; on = r }); admitted = e }))
+from-complete S a k s t z (by-subproperty {p} {q} r n e) =
+    gives-in S a p (triple 4 p q)
+    (gives-4 (record { is-kind = refl; is-source = refl; listed = without-in p q (reach S subPropertyOf p) (reach-iff S subPropertyOf p q .1 r) n; admitted = e }))
 
 complete : (S : List Triple) (a : Triple) (k s t : ℕ) → IsAlternative S a k s t → List·Memᴰ (triple k s t) (alternatives S a)
 unfolding alternatives
-complete S a k s t as-it-is = ascend-in (triple 0 0 0 ∷ flatMap (λ (t : Triple). alternativesFrom S a (t .subject)) S) (List·Memᴰ·head refl)
-complete S a k s t (by-subclass {c} {d} r n e) =
-    from-source S a (triple 1 c d) c (⊎-elim (λ q. absurd (n q)) (λ b. b) (reach-begins r))
-    (gives-1 (record { is-kind = refl; is-source = refl; listed = without-in c d (reach S subClassOf c) (reach-iff S subClassOf c d .1 r) n; admitted = e }))
-complete S a k s t (by-domain {p} {q} {c} {d} u m r e) =
-    from-source S a (triple 2 p d) p (⊎-elim (λ (i : p ≡ q). record { statement = triple q domain c; stated = m; is = sym i }) (λ b. b) (reach-begins u))
-    (gives-2 (record { is-kind = refl; is-source = refl; listed = leads-in S domain p d (record { property = q; class = c; up = u; stated = m; on = r }); admitted = e }))
-complete S a k s t (by-range {p} {q} {c} {d} u m r e) =
-    from-source S a (triple 3 p d) p (⊎-elim (λ (i : p ≡ q). record { statement = triple q range c; stated = m; is = sym i }) (λ b. b) (reach-begins u))
-    (gives-3 (record { is-kind = refl; is-source = refl; listed = leads-in S range p d (record { property = q; class = c; up = u; stated = m; on = r }); admitted = e }))
-complete S a k s t (by-subproperty {p} {q} r n e) =
-    from-source S a (triple 4 p q) p (⊎-elim (λ i. absurd (n i)) (λ b. b) (reach-begins r))
-    (gives-4 (record { is-kind = refl; is-source = refl; listed = without-in p q (reach S subPropertyOf p) (reach-iff S subPropertyOf p q .1 r) n; admitted = e }))
+complete S a k s t i =
+    ascend-in (triple 0 0 0 ∷ flatMap (λ (t : Triple). alternativesFrom S a (t .subject)) S)
+    (⊎-elim (λ e. List·Memᴰ·head e)
+    (λ b. List·Memᴰ·tail (flatMap-in (λ (t : Triple). alternativesFrom S a (t .subject)) S (b .1 .stated)
+    (subst (λ (y : ℕ). List·Memᴰ (triple k s t) (alternativesFrom S a y)) (sym (b .1 .is)) (from-complete S a k s t (b .0) i))))
+    (source-begins i))
 
 sound : (S : List Triple) (a u : Triple) → List·Memᴰ u (alternatives S a) → Is S a u
 unfolding alternatives

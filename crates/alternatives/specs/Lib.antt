@@ -1,0 +1,2 @@
+pub mod Reformulate
+pub mod Putting
