@@ -1,9 +1,8 @@
 // Prints what each of the two facts of document 01's worked example carries under its five statements: the fact, and below it
 // each row, in decimal.
 use rdf::Triple;
-ghost use mathlib.Core.Path.{_≡_};
 ghost use Prim.Native.Nat.{_*_, _≤_};
-ghost use lib.ListN.{length, replicate};
+ghost use lib.ListN.{length};
 
 fn main() {
     let statements: [u32; 16] = [5, 16, 2, 17, 17, 2, 18, 19, 3, 20, 20, 4, 17, 20, 5, 16];
@@ -25,13 +24,6 @@ fn main() {
     );
 }
 
-// Room for all that a fact can carry.
-fn no_rows() -> [u32; 3078]
-    ensures { λ r. ⌜ r ≡ replicate 3078 0 ⌝ }
-{
-    [0u32; 3078]
-}
-
 // Prints a fact and what it carries, or that the statements are malformed.
 fn print_carried(statements: &[u32], fact: Triple) {
     print_row(fact);
@@ -39,7 +31,7 @@ fn print_carried(statements: &[u32], fact: Triple) {
         io::write_all(1, b"refused 1\n");
         return;
     }
-    let mut rows = no_rows();
+    let mut rows = carry::no_rows();
     let n = carry::carry(statements, fact, &mut rows);
     print_rows(&rows, n);
 }

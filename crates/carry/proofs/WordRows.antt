@@ -1,17 +1,17 @@
 -- Triples as rows of three words: the ordered set of such rows is the ascending list of the triples. Assumes nothing.
 use mathlib.Core.Path.{_≡_, refl, sym, ap, ap₂, _∙_}
 use mathlib.Core.Bool.{true, false, cond}
-use mathlib.Core.List.{List, [], _∷_, map}
+use mathlib.Core.List.{List, [], _∷_, _++_, map}
 use Prim.Native.Nat.{ℕ, zero, suc, _+_, _*_, _≤_}
 use native.Mathlib.Omega.{arith}
-use lib.ListN.{length, getD, drop, take, length-map}
+use lib.ListN.{length, getD, drop, take, length-map, length-take, take-append-drop}
 use lib.Seq.{drop-drop}
 use borrow.Author.Tests.{lt-ltb, le-ltb}
 use Rattle.rdf.specs.declared.Triple.{Triple}
 use Rattle.rdf.specs.Order.{Less, by-subject, by-property, by-object, compareTriples, insert, ascend}
 use Rattle.rdf.proofs.Order.{byOrder-elim}
 use Rattle.table.specs.Table.{tripleFrom, firstRows, flatten}
-use Rattle.table.proofs.Rows.{tripleFrom-drop}
+use Rattle.table.proofs.Rows.{tripleFrom-drop, length-flatten, firstRows-flatten}
 use Rattle.sort.specs.Rows.{less, row, rowAt, tabulate, insertOnce, ordered, flat}
 use Rattle.sort.specs.Effects.{HoldsRows}
 use Rattle.sort.proofs.Order.{less-irrefl, less-asym}
@@ -82,3 +82,14 @@ sorted-words t s n r l z h =
     let e : tabulate (rowAt 3 s) 0 r ≡ map words (ascend (firstRows n t)) = h .holds ∙ (ap ordered (rows-words t n) ∙ ordered-words (firstRows n t)) in
     let f : flat (tabulate (rowAt 3 s) 0 r) ≡ take (r * 3) (drop (0 * 3) s) = flat-rows 3 0 r s (omega (arith, h .count)) in
     (sym (length-tabulate (rowAt 3 s) 0 r) ∙ (ap length e ∙ length-map (ascend (firstRows n t)) words), sym f ∙ (ap flat e ∙ flat-words (ascend (firstRows n t))))
+
+-- ---- words that begin with the words of rows
+
+module _ (ws : List ℕ) (n : ℕ) (ts : List Triple) (e : n ≡ length ts) (q : take (n * 3) ws ≡ flatten ts) where
+  -- They hold these rows first,
+  pub rows-listed : firstRows n ws ≡ ts
+  rows-listed = ap (firstRows n) (sym (take-append-drop (n * 3) ws) ∙ ap (λ (l : List ℕ). l ++ drop (n * 3) ws) q) ∙ rw e (firstRows-flatten ts (drop (length ts * 3) ws))
+
+  -- and have the words for them.
+  pub rows-within : n * 3 ≤ length ws
+  rows-within = omega (arith, ap length q, length-take (n * 3) ws, length-flatten ts)

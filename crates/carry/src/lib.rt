@@ -183,6 +183,11 @@ fn write_conclusions(fact: Triple, ends: Ends, found: &[u32], out: &mut [u32])
     }
 }
 
+// Room for the rows that a fact carries: two, and two for each statement.
+pub fn no_rows() -> [u32; 3078] {
+    [0u32; 3078]
+}
+
 // What a fact carries, itself included: its rows, ascending, each once, three words each, into out. How many they are. There has to be
 // room for a row for each term found, and some are found more than once.
 pub fn carry(statements: &[u32], fact: Triple, out: &mut [u32]) -> usize

@@ -4,7 +4,7 @@ use mathlib.Core.Path.{_≡_, refl, sym, ap, _∙_}
 use mathlib.Core.Bool.{true, false}
 use mathlib.Core.List.{List, _++_}
 use native.Mathlib.Omega.{arith}
-use lib.ListN.{length, getD, take, drop, replicate, length-take, take-append-drop}
+use lib.ListN.{length, getD, take, drop, replicate}
 use lib.Seq.{drop-at, length-take-le}
 use borrow.Author.Tests.{not-true, lt-ltb, le-ltb, le-leb, lt-leb}
 use Rattle.rdf.specs.declared.Triple.{Triple}
@@ -16,7 +16,7 @@ use Rattle.table.specs.declared.Found.the-variants.{At, Gap}
 use Rattle.table.specs.Table.{capacity, mostStatements, mostFacts, mostKept, count, firstRows, rows, flatten, layout, supportLayout}
 use Rattle.table.specs.Search.{place, insertAt, removeAt}
 use Rattle.table.specs.Laid.{Spare, FormedStore}
-use Rattle.table.proofs.Rows.{length-rows, length-firstRows, firstRows-rows, firstRows-flatten, length-flatten}
+use Rattle.table.proofs.Rows.{length-rows, length-firstRows, firstRows-rows}
 use Rattle.table.proofs.Formed.{capacity-fits, capacity-most, ready, spare}
 use Rattle.table.proofs.Supports.{support-between}
 use Rattle.table.proofs.Place.{at-member, gap-absent}
@@ -26,23 +26,13 @@ use Rattle.rdfs.specs.Closure.{carried}
 use Rattle.rdfs.specs.Saturation.{Kept, raiseAll, lowerAll, keptRows}
 use Rattle.rdfs.proofs.Carried.{carried-ascends, carried-bound}
 use Rattle.rdfs.proofs.Saturation.{raiseAll-length, lowerAll-length}
+use Rattle.carry.proofs.WordRows.{rows-listed, rows-within}
 use Rattle.store.specs.declared.Answer.the-variants.{Applied, Idle, Refused}
 use Rattle.store.specs.Store.{tables, contentsOf, keptOf, put, keptCapacity}
 use Rattle.store.specs.Update.{withTriple, withoutTriple, isThere, isBelowCapacity, isKeptFitting, outcome, add, withdraw}
 use Rattle.store.specs.Entries.{KeptTables, Sought, Raisable, Lowerable, Holding}
 use Rattle.store.proofs.Entries.{length-entries, keptRows-entries, keptOf-entries}
 use Rattle.store.proofs.Outcomes.{Passes, add-idle, add-full, add-unfit, add-applied, withdraw-idle, withdraw-applied, there-yes, there-no}
-
--- ---- rows in words
-
--- Words that begin with the words of rows hold these rows first.
-pub rows-listed : (rs : List ℕ) (c : ℕ) (ts : List Triple) → c ≡ length ts → take (c * 3) rs ≡ flatten ts → firstRows c rs ≡ ts
-rows-listed rs c ts e q =
-    ap (firstRows c) (sym (take-append-drop (c * 3) rs) ∙ ap (λ (l : List ℕ). l ++ drop (c * 3) rs) q) ∙ rw e (firstRows-flatten ts (drop (length ts * 3) rs))
-
--- They have the words for them.
-pub rows-within : (rs : List ℕ) (c : ℕ) (ts : List Triple) → c ≡ length ts → take (c * 3) rs ≡ flatten ts → c * 3 ≤ length rs
-rows-within rs c ts e q = omega (arith, ap length q, length-take (c * 3) rs, length-flatten ts)
 
 -- ---- kept facts of a well-formed store
 

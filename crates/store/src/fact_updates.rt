@@ -17,11 +17,6 @@ ghost use Rattle.table.specs.Laid.{FormedStore};
 ghost use Rattle.store.specs.Store.{tables};
 ghost use Rattle.store.specs.Update.{outcome, add, withdraw};
 
-// Room for the rows that a fact carries: two, and two for each statement.
-fn no_rows() -> [u32; 3078] {
-    [0u32; 3078]
-}
-
 // How many kept facts fit.
 pub fn kept_capacity(kept: &[u32], supports: &[u16]) -> usize
     ensures { λ r. ⌜ r ≡ min (capacity mostKept (now (kept .entry))) (length (now (supports .entry))) ⌝ }
@@ -52,7 +47,7 @@ fn add_new_fact(
     if table::capacity(facts.len(), table::MOST_FACTS) <= n {
         return Answer::Refused(4);
     }
-    let mut list = no_rows();
+    let mut list = carry::no_rows();
     let c = carry::carry(statements, fact, &mut list);
     let missing = count_missing(kept, &list, c);
     if kept_capacity(kept, supports) < kept[0] as usize + missing {
@@ -98,7 +93,7 @@ pub fn withdraw_fact(
     match table::find(facts, n, fact) {
         Found::Gap(_) => Answer::Idle,
         Found::At(at) => {
-            let mut list = no_rows();
+            let mut list = carry::no_rows();
             let c = carry::carry(statements, fact, &mut list);
             table::remove_at(facts, at);
             lower_all(kept, supports, &list, c);

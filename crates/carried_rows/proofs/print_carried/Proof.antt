@@ -1,9 +1,7 @@
 -- The statements passed the test, and what is carried lies within the words lent for it. Assumes nothing.
 use mathlib.Core.Path.{sym, _∙_}
-use native.Mathlib.Omega.{arith}
-use lib.ListN.{length-replicate}
 use borrow.Author.Tests.{not-false}
-use Rattle.carried_rows.proofs.Within.{rows-within}
+use Rattle.carry.proofs.WordRows.{rows-within}
 use borrow.Author.Needs.{needs}
 use Rattle.carried_rows.proofs.print_carried.Statement.{statement}
 use Rattle.carried_rows.proofs.print_carried.Tie as tie
@@ -30,7 +28,7 @@ slice-aggregate-carry : tie.Need-slice-aggregate-carry
 slice-aggregate-carry c = search needs
 
 carry-requires : tie.Need-carry-requires
-carry-requires c κs = (sym (c .before .before .before .is-statement-table .ensures) ∙ not-false _ (c .before .before .if1 .left), simp (c .before .no-rows .ensures, length-replicate) (omega arith))
+carry-requires c κs = (sym (c .before .before .before .is-statement-table .ensures) ∙ not-false _ (c .before .before .if1 .left), search needs)
 
 slice-aggregate-print-rows : tie.Need-slice-aggregate-print-rows
 slice-aggregate-print-rows c = search needs
