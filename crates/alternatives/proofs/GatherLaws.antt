@@ -42,12 +42,14 @@ carried-rows n ws ts e f =
     ∙ ap (λ (k : ℕ). firstRows k (flatten ts ++ drop (n * 3) ws)) e
     ∙ firstRows-flatten ts (drop (n * 3) ws)
 
+-- They lie within the words.
 pub carried-fits : (n : ℕ) (ws : List ℕ) (ts : List Triple) → n ≡ length ts → take (n * 3) ws ≡ flatten ts → n * 3 ≤ length ws
 carried-fits n ws ts e f = let l : length (take (n * 3) ws) ≡ length ts * 3 = ap length f ∙ length-flatten ts in omega (arith, length-take (n * 3) ws)
 
 -- ---- statements
 
 module _ (S : List ℕ) (e : isStatementTable S ≡ true) where
+  -- The words are a well-formed table.
   formed : WellFormed isAllowedStatement mostStatements S
   formed = isTable-wellFormed isAllowedStatement mostStatements S e
 
@@ -59,6 +61,7 @@ module _ (S : List ℕ) (e : isStatementTable S ≡ true) where
   pub statements-plain : NoVocabulary (rows S)
   statements-plain = allowed-no-vocabulary (rows S) (λ t m. all-member isAllowedStatement (rows S) (formed .each-allowed) m)
 
+  -- The subject of a statement is no vocabulary URI.
   pub subject-plain : (i : ℕ) (t : Triple) → i < count S → t ≡ rowAt S i → isVocabulary (t .subject) ≡ false
   subject-plain i t h q =
       let l : i < length (rows S) = omega (arith, length-rows S) in
@@ -70,14 +73,17 @@ repeated S i t u e f h = of-subject (sym e) ∙ eqb-true (t .subject) (u .subjec
 
 -- ---- statement by statement
 
+-- A statement, read behind the count.
 row-behind : (S : List ℕ) (i : ℕ) → rowAt S i ≡ tripleFrom (drop 1 S) (i * 3)
 unfolding rowAt
 row-behind S i = sym (tripleFrom-drop 1 S (i * 3) (i * 3 + 1) (omega arith))
 
 module _ (S : List ℕ) (a : Triple) where
+  -- What a statement gives.
   abbrev from : Triple → List Triple
   from t = alternativesFrom (rows S) a (t .subject)
 
+  -- No statement yet.
   pub below-start : {out : List ℕ} {c : Collected} → Within 3 out c → Puts (alternativesBelow S a 0) out c out c
   unfolding alternativesBelow
   below-start w = puts-start from (drop 1 S) w
@@ -102,12 +108,15 @@ module _ (S : List ℕ) (a : Triple) where
   allPut = (triple 0 0 0 ∷ []) ++ alternativesBelow S a (count S)
 
   module _ (out : List ℕ) (z : out ≡ replicate (length out) 0) {c : Collected} (s : (m len : ℕ) → Collects m [] (replicate len 0) c) where
+    -- Nothing is put at first.
     pub none-put : Collects 3 [] out c
     none-put = rw z (s 3 (length out))
 
+    -- Then all is.
     pub all-put : {out₁ : List ℕ} {c₁ : Collected} {out₂ : List ℕ} {c₂ : Collected} → Puts (triple 0 0 0 ∷ []) out c out₁ c₁ → Puts (alternativesBelow S a (count S)) out₁ c₁ out₂ c₂ → Collects 3 (map words allPut ++ []) out₂ c₂
     all-put A B = puts-then (triple 0 0 0 ∷ []) (alternativesBelow S a (count S)) A B .collects [] none-put
 
+  -- What is given of all that was put.
   pub all-given : (len : ℕ) → gathered 3 (map words allPut ++ []) len ≡ giveAlternatives S a len
   unfolding gathered alternatives alternativesBelow rows
   all-given len = rw (append-nil (map words allPut), ordered-words allPut)
@@ -115,14 +124,17 @@ module _ (S : List ℕ) (a : Triple) where
   -- ---- the questions
 
   module _ (len : ℕ) where
+    -- Statements that are not well formed.
     pub refused-1 : isStatementTable S ≡ false → replied (Refused 1) (replicate len 0) ≡ reformulate S a len
     unfolding reformulate firstNo give
     refused-1 e = rw e
 
+    -- No atom.
     pub refused-6 : isStatementTable S ≡ true → isAtom a ≡ false → replied (Refused 6) (replicate len 0) ≡ reformulate S a len
     unfolding reformulate firstNo give
     refused-6 e f = rw (e, f)
 
+    -- Neither.
     pub passed : isStatementTable S ≡ true → isAtom a ≡ true → giveAlternatives S a len ≡ reformulate S a len
     unfolding reformulate firstNo
     passed e f = rw (e, f)

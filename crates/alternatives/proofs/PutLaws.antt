@@ -29,6 +29,7 @@ firstRows-snoc (suc i) ws =
     ap (λ (l : List Triple). tripleFrom ws 0 ∷ l) (firstRows-snoc i (drop 3 ws))
     ∙ ap (λ (t : Triple). tripleFrom ws 0 ∷ (firstRows i (drop 3 ws) ++ (t ∷ []))) (tripleFrom-drop 3 ws (i * 3) (suc i * 3) (omega arith))
 
+-- What two lists give is what the first gives and then what the second gives.
 flatMap-append : {A B : Type 0} (f : A → List B) (l m : List A) → flatMap f (l ++ m) ≡ flatMap f l ++ flatMap f m
 unfolding flatMap
 flatMap-append f [] m = refl

@@ -40,26 +40,28 @@ never-type w v (step r m) e = not-vocabulary (w _ m .1) (omega arith) (omega ari
 -- ---- a carried row
 
 module _ (x : ℕ) where
-  -- A class of the term k, and another property.
+  -- A class of the term k.
   pub by-class : (t : Triple) (k : ℕ) → t .subject ≡ k → t .property ≡ type → alternativeBy x t ≡ triple k x (t .object)
   unfolding alternativeBy
   by-class t k e h = rw (eq-eqb (t .property) type h, e)
 
+  -- Another property.
   pub by-other : (t : Triple) → ¬ (t .property ≡ type) → alternativeBy x t ≡ triple 4 x (t .property)
   unfolding alternativeBy
   by-other t n = rw (ne-eqb (t .property) type n)
 
 module _ (a : Triple) (x : ℕ) where
-  -- What a row gives is its alternative, which qualifies, and back.
+  -- What a row gives is its alternative, which qualifies.
   given-out : (t u : Triple) → List·Memᴰ u (given a x t) → (u ≡ alternativeBy x t) × (qualifies a u ≡ true)
   unfolding given
   given-out t u m = let r = select-out (qualifies a) (alternativeBy x t ∷ []) m in (List·Memᴰ·eq-of-singleton (r .0), r .1)
 
+  -- It is given where it qualifies.
   given-in : (t u : Triple) → u ≡ alternativeBy x t → qualifies a u ≡ true → List·Memᴰ u (given a x t)
   unfolding given
   given-in t u e q = select-in (qualifies a) (alternativeBy x t ∷ []) (List·Memᴰ·head e) q
 
-  -- As the code puts it.
+  -- A row gives nothing where its alternative does not qualify, as the code tells it, and else that.
   pub given-unfit : (t u : Triple) (q : Bool) → u ≡ alternativeBy x t → q ≡ qualifies a u → q ≡ false → given a x t ≡ []
   unfolding given select
   given-unfit t u q e f h = let g : qualifies a (alternativeBy x t) ≡ false = ap (qualifies a) (sym e) ∙ sym f ∙ h in rw g
@@ -68,10 +70,11 @@ module _ (a : Triple) (x : ℕ) where
   unfolding given select
   given-fit t u q e f h = let g : qualifies a (alternativeBy x t) ≡ true = ap (qualifies a) (sym e) ∙ sym f ∙ h in rw (g, e)
 
+  -- Ends that are told apart differ.
   different : (d : ℕ) → not (eqb x d) ≡ true → ¬ (x ≡ d)
   different d e = eqb-false x d (not-true (eqb x d) e)
 
-  -- What it is to qualify, kind by kind.
+  -- What qualifies, kind by kind.
   qualified-1 : (d : ℕ) → qualifies a (triple 1 x d) ≡ true → (admitsClass a d ≡ true) × (¬ (x ≡ d))
   unfolding qualifies admitsTarget areEnds
   qualified-1 d e = (and-left (admitsClass a d) _ e, different d (and-right (admitsClass a d) _ e))
@@ -88,6 +91,7 @@ module _ (a : Triple) (x : ℕ) where
   unfolding qualifies admitsTarget areEnds
   qualified-4 q e = (and-left (admitsProperty a q) _ e, different q (and-right (admitsProperty a q) _ e))
 
+  -- What it takes to qualify, kind by kind.
   qualifies-1 : (d : ℕ) → admitsClass a d ≡ true → ¬ (x ≡ d) → qualifies a (triple 1 x d) ≡ true
   unfolding qualifies admitsTarget areEnds
   qualifies-1 d e n = rw (e, ne-eqb x d n)
@@ -104,11 +108,12 @@ module _ (a : Triple) (x : ℕ) where
   unfolding qualifies admitsTarget areEnds
   qualifies-4 q e n = rw (e, ne-eqb x q n)
 
--- Which target an atom admits, as the code asks.
+-- Kind 4 has a property as its target, as the code asks.
 pub target-property : (a u : Triple) → u .subject ≡ 4 → admits (a .property) (u .object) ≡ admitsTarget a u
 unfolding admitsTarget
 target-property a u e = rw (eq-eqb (u .subject) 4 e)
 
+-- The others have a class.
 pub target-class : (a u : Triple) → ¬ (u .subject ≡ 4) → (admits (a .property) type && admits (a .object) (u .object)) ≡ admitsTarget a u
 unfolding admitsTarget
 target-class a u n = rw (ne-eqb (u .subject) 4 n)
@@ -129,7 +134,7 @@ module _ (S : List Triple) (a : Triple) (x : ℕ) (N : NoVocabulary S) where
   class-path {d} (from-type _ g) r = subst (λ (y : ℕ). Reach S subClassOf y d) g r
   class-path (from-domain q r m) _ = no-type-subject N m (from-type-stays N r)
 
-  -- What the fact of a class gives is an alternative,
+  -- What the fact of a class gives is an alternative.
   class-sound : (t u : Triple) → Part S (classFact x) t → u ≡ alternativeBy x t → qualifies a u ≡ true → List·Memᴰ u (alternativesFrom S a x)
   class-sound t u (as-property e g r) i q =
       let f : u ≡ triple 1 x (t .object) = i ∙ by-class x t 1 e (from-type-stays N r) in
@@ -148,7 +153,7 @@ module _ (S : List Triple) (a : Triple) (x : ℕ) (N : NoVocabulary S) where
     domain-path (from-type e _) p h = absurd (not-vocabulary v (omega arith) (omega arith))
     domain-path (from-domain q r m) p h = by-domain r m p h
 
-    -- and so is what the fact of a property gives.
+    -- So is what the fact of a property gives.
     property-sound : (t u : Triple) → Part S (propertyFact x) t → u ≡ alternativeBy x t → qualifies a u ≡ true → List·Memᴰ u (alternativesFrom S a x)
     property-sound t u (as-property e g r) i q =
         let f : u ≡ triple 4 x (t .property) = i ∙ by-other x t (never-type N v r) in
@@ -169,10 +174,11 @@ unfolding isLiteral
 range-no-literal = refl
 
 module _ (S : List Triple) (a : Triple) where
-  -- What a carried row of either fact gives is there.
+  -- What a row gives that the fact of a class carries is there.
   of-class : (x : ℕ) (t u : Triple) → Part S (classFact x) t → List·Memᴰ u (given a x t) → List·Memᴰ u (carriedAlternatives S a x)
   of-class x t u p g = Memᴰ·append-left _ (flatMap-in (given a x) (carried S (classFact x)) (carried-part S (classFact x) t .1 p) g)
 
+  -- So is what a row gives that the fact of a property carries.
   of-property-fact : (x : ℕ) (t u : Triple) → Part S (propertyFact x) t → List·Memᴰ u (given a x t) → List·Memᴰ u (carriedAlternatives S a x)
   of-property-fact x t u p g = Memᴰ·append-right (flatMap (given a x) (carried S (classFact x))) (flatMap-in (given a x) (carried S (propertyFact x)) (carried-part S (propertyFact x) t .1 p) g)
 

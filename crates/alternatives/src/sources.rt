@@ -1,6 +1,7 @@
 // Alternatives by their source, put into an output. What a source gives is read off what two made-up facts carry.
 use crate::kinds::BY_DOMAIN;
 use crate::kinds::BY_RANGE;
+use crate::kinds::BY_SUBCLASS;
 use crate::kinds::alternative_by;
 use crate::kinds::qualifies;
 use collect::Collected;
@@ -105,7 +106,7 @@ fn put_source(
     ensures { λ r. ⌜ Puts (alternativesFrom (rows (now (statements .entry))) atom source) (now (out .entry)) c (now (out .exit)) r ⌝ }
 {
     let of_class = Triple {
-        subject: 1,
+        subject: BY_SUBCLASS,
         property: Term::TYPE,
         object: source,
     };

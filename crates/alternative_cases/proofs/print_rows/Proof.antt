@@ -1,78 +1,63 @@
+-- The rows printed lie within the output. Assumes nothing.
+use borrow.Author.Needs.{needs}
+use Prim.Native.Nat.{_-_, _*_, _≤_}
+use lib.ListN.{length}
 use Rattle.alternative_cases.proofs.print_rows.Statement.{statement}
 use Rattle.alternative_cases.proofs.print_rows.Tie as tie
-use Rattle.alternative_cases.proofs.print_rows.Reads as reads
-use Rattle.alternative_cases.proofs.print_rows.Lts as lts
-use Rattle.alternative_cases.proofs.print_row.Reads as print-row-reads
 
 abbrev Inv-loop : tie.InvT-loop
-Inv-loop out from to room i₀ i = ?
+Inv-loop out from to room i₀ i = room * 3 ≤ length out
 
 abbrev μ-loop : tie.MeasureT-loop
-μ-loop out from to room i₀ i = ?
+μ-loop out from to room i₀ i = to - i
 
--- src/main.rt:156:5
 loop-holds : tie.Need-loop-holds Inv-loop μ-loop
-loop-holds c = ?
+loop-holds c = search needs
 
--- src/main.rt:158:13
 returns : tie.Need-returns Inv-loop μ-loop
-returns c = ?
+returns c = search needs
 
--- src/main.rt:160:18
 mul-at : tie.Need-mul-at Inv-loop μ-loop
-mul-at c = ?
+mul-at c = search needs
 
--- src/main.rt:161:19
 mul-print-row : tie.Need-mul-print-row Inv-loop μ-loop
-mul-print-row c = ?
+mul-print-row c = search needs
 
--- src/main.rt:161:19
 shared-slice-read-print-row : tie.Need-shared-slice-read-print-row Inv-loop μ-loop
-shared-slice-read-print-row c = ?
+shared-slice-read-print-row c = search needs
 
--- src/main.rt:161:32
 add-print-row : tie.Need-add-print-row Inv-loop μ-loop
-add-print-row c = ?
+add-print-row c = search needs
 
--- src/main.rt:161:28
 mul-print-row-2 : tie.Need-mul-print-row-2 Inv-loop μ-loop
-mul-print-row-2 c = ?
+mul-print-row-2 c = search needs
 
--- src/main.rt:161:28
 shared-slice-read-print-row-2 : tie.Need-shared-slice-read-print-row-2 Inv-loop μ-loop
-shared-slice-read-print-row-2 c = ?
+shared-slice-read-print-row-2 c = search needs
 
--- src/main.rt:161:45
 add-print-row-2 : tie.Need-add-print-row-2 Inv-loop μ-loop
-add-print-row-2 c = ?
+add-print-row-2 c = search needs
 
--- src/main.rt:161:41
 mul-print-row-3 : tie.Need-mul-print-row-3 Inv-loop μ-loop
-mul-print-row-3 c = ?
+mul-print-row-3 c = search needs
 
--- src/main.rt:161:41
 shared-slice-read-print-row-3 : tie.Need-shared-slice-read-print-row-3 Inv-loop μ-loop
-shared-slice-read-print-row-3 c = ?
+shared-slice-read-print-row-3 c = search needs
 
--- src/main.rt:161:9
 print-row-requires : tie.Need-print-row-requires Inv-loop μ-loop
-print-row-requires c κs = ?
+print-row-requires c κs = search needs
 
--- src/main.rt:162:9
 add-i : tie.Need-add-i Inv-loop μ-loop
-add-i c = ?
+add-i c = search needs
 
--- src/main.rt:156:5
 loop-less : tie.Need-loop-less Inv-loop μ-loop
-loop-less c = ?
+loop-less c = search needs
 
--- src/main.rt:156:5
 loop-again : tie.Need-loop-again Inv-loop μ-loop
-loop-again c = ?
+loop-again c = search needs
 
--- src/main.rt:153:1
 returns-2 : tie.Need-returns-2 Inv-loop μ-loop
-returns-2 c = ?
+returns-2 c = search needs
 
 pub print-rows-spec : {M : Type 1} → statement M
 print-rows-spec =
