@@ -1,4 +1,7 @@
 // Deliveries run over a store in lent tables (document 01, "Deliveries").
+mod entries; // entries.rt: the entries of a section, run in order
+mod supports; // supports.rt: the highest support
+mod tallies; // tallies.rt: tallies that rise
 
 // How many entries were applied, idle and refused.
 pub struct Tally {
