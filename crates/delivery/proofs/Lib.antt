@@ -1,3 +1,5 @@
 pub mod Walk
 pub mod Whole
 pub mod Tagged
+pub mod Encoding
+pub mod Unknown
