@@ -3,3 +3,4 @@ pub mod Whole
 pub mod Tagged
 pub mod Encoding
 pub mod Unknown
+pub mod Decoding

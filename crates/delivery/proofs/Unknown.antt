@@ -1,5 +1,5 @@
 -- Fields with other tags than 1 alter no answer. Assumes nothing.
-use mathlib.Core.Path.{_≡_, refl, ap}
+use mathlib.Core.Path.{_≡_, ap}
 use mathlib.Core.List.{List, [], _∷_, _++_}
 use borrow.Author.Tests.{ne-eqb}
 use Rattle.delivery.specs.Message.{Field, Message, numberTag, numberFields, areSectionsRight, isNumberRight, numberOf}

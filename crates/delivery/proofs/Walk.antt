@@ -58,6 +58,12 @@ module _ (test : Triple → Bool) (bs : List ℕ) (at n : ℕ) where
 
 -- ---- fields
 
+-- As many fields are read as are counted.
+pub length-fieldsFrom : (bs : List ℕ) (at n : ℕ) → length (fieldsFrom bs at n) ≡ n
+unfolding fieldsFrom
+length-fieldsFrom bs at zero = refl
+length-fieldsFrom bs at (suc n) = rw (length-fieldsFrom bs (fieldEnd bs at) n)
+
 -- The first of some fields, and those after it.
 pub fields-step : (bs : List ℕ) (at n : ℕ) → 0 < n → fieldsFrom bs at n ≡ fieldAt bs at ∷ fieldsFrom bs (fieldEnd bs at) (n - 1)
 unfolding fieldsFrom
