@@ -1,0 +1,3 @@
+pub mod Highest
+pub mod Runs
+pub mod Formed

@@ -12,10 +12,11 @@ use Rattle.table.specs.Table.{all}
 use Rattle.store.specs.declared.Answer.{Answer}
 use Rattle.store.specs.declared.Answer.the-variants.{Applied, Idle, Refused}
 use Rattle.store.specs.Store.{Tables}
-use Rattle.delivery.specs.Message.{short, entryAt, entriesFrom, sectionAt, sectionEnd}
+use Rattle.delivery.specs.Message.{short, entryAt, entriesFrom, sectionStart}
+use Rattle.delivery.proofs.Whole.{section-within, section-small}
 use Rattle.deliver.specs.declared.Tally.{Tally}
 use Rattle.deliver.specs.Deliver.{tally, tallied, Update, Progress, progress, runEntry, runEntries}
-use Rattle.deliver.specs.Running.{total}
+use Rattle.deliver.specs.Running.{total, section, Next}
 
 -- ---- tallies
 
@@ -26,10 +27,23 @@ tallied-total Applied y = omega arith
 tallied-total Idle y = omega arith
 tallied-total (Refused n) y = omega arith
 
+-- as the code adds it,
+pub applied-tallied : (a : Answer) (y : Tally) → a ≡ Applied → tally (y .applied + 1) (y .idle) (y .refused) ≡ tallied a y
+unfolding tallied
+applied-tallied a y e = rw (e, add-one (y .applied)) refl
+
+pub idle-tallied : (a : Answer) (y : Tally) → a ≡ Idle → tally (y .applied) (y .idle + 1) (y .refused) ≡ tallied a y
+unfolding tallied
+idle-tallied a y e = rw (e, add-one (y .idle)) refl
+
+pub refused-tallied : (a : Answer) (n : ℕ) (y : Tally) → a ≡ Refused n → tally (y .applied) (y .idle) (y .refused + 1) ≡ tallied a y
+unfolding tallied
+refused-tallied a n y e = rw (e, add-one (y .refused)) refl
+
 -- so that the tallies add up to the number of entries.
 pub run-total : {A : Type 0} (u : Update A) (ts : List Triple) (g : Progress A) → total (runEntries u ts g .counted) ≡ length ts + total (g .counted)
 unfolding runEntries runEntry
-run-total u [] g = refl
+run-total u [] g = omega arith
 run-total u (t ∷ ts) g = let r = u (g .holder) t in omega (arith, run-total u ts (runEntry u t g), tallied-total (r .0) (g .counted))
 
 -- ---- what refuses every entry
@@ -59,28 +73,54 @@ pub record Left (u : Update Tables) (test : Triple → Bool) (bs : List ℕ) (en
   pub same : runEntries u (entriesFrom bs at left) (progress T y) ≡ end
 
 -- At first all are left.
-pub left-first : (u : Update Tables) (test : Triple → Bool) (bs : List ℕ) (T : Tables) (start n : ℕ) (y : Tally) → sectionEnd bs start ≤ length bs → all test (sectionAt bs start) ≡ true → total y + short bs start < 2 ^ 32 → n ≡ short bs start
-    → Left u test bs (runEntries u (sectionAt bs start) (progress T y)) T (start + 2) n y
-unfolding sectionEnd
-left-first u test bs T start n y i e r q = rw q (record { inside = i; tested = e; room = r; same = refl })
+pub left-first : (u : Update Tables) (test : Triple → Bool) (bs : List ℕ) (T : Tables) (k start n : ℕ) (y : Tally) → Next bs k y → all test (section bs k) ≡ true → start ≡ sectionStart bs k → n ≡ short bs start
+    → Left u test bs (runEntries u (section bs k) (progress T y)) T (start + 2) n y
+left-first u test bs T k start n y N e q r =
+    rw (r, q) (record {
+      inside = section-within bs (N .whole) k (N .entries);
+      tested = e;
+      room = let f = N .few in let l = N .entries in omega (arith, section-small bs (N .whole) k (N .entries));
+      same = refl;
+    })
 
-module _ {u : Update Tables} {test : Triple → Bool} {bs : List ℕ} {end : Progress Tables} {T : Tables} {at left : ℕ} {y : Tally} (L : Left u test bs end T at left y) where
-  -- The next entry passes the test,
-  pub left-tested : 0 < left → test (entryAt bs at) ≡ true
-  left-tested h = tested-of left h (L .tested) where
-    tested-of : (n : ℕ) → 0 < n → all test (entriesFrom bs at n) ≡ true → test (entryAt bs at) ≡ true
-    unfolding all entriesFrom
-    tested-of zero h e = absurd (omega arith)
-    tested-of (suc n) h e = and-left (test (entryAt bs at)) _ e
+-- The next entry passes the test,
+pub left-tested : {u : Update Tables} {test : Triple → Bool} {bs : List ℕ} {end : Progress Tables} {T : Tables} {at : ℕ} (left : ℕ) {y : Tally} → Left u test bs end T at left y → 0 < left → (t : Triple) → t ≡ entryAt bs at → test t ≡ true
+unfolding all entriesFrom
+left-tested zero L h t q = absurd (omega arith)
+left-tested {test = test} {bs = bs} {at = at} (suc n) L h t q = ap test q ∙ and-left (test (entryAt bs at)) _ (L .tested)
 
-  -- and once it is run, the others are left.
-  pub left-next : {T' : Tables} (a : Answer) → 0 < left → (a, T') ≡ u T (entryAt bs at) → Left u test bs end T' (at + 12) (left - 1) (tallied a y)
-  left-next {T'} a h e = ?
+-- and once it is run, the others are left.
+pub left-next : {u : Update Tables} {test : Triple → Bool} {bs : List ℕ} {end : Progress Tables} {T T' : Tables} {at : ℕ} (left : ℕ) {y y' : Tally} → Left u test bs end T at left y → 0 < left
+    → (t : Triple) → t ≡ entryAt bs at → (a : Answer) → (a, T') ≡ u T t → y' ≡ tallied a y → Left u test bs end T' (at + 12) (left - 1) y'
+unfolding all entriesFrom runEntries runEntry
+left-next zero L h t q a e r = absurd (omega arith)
+left-next {u} {test} {bs} {end} {T} {T'} {at} (suc n) {y} {y'} L h t q a e r =
+    let k : suc n - 1 ≡ n = omega arith in
+    let i = L .inside in
+    let o = L .room in
+    rw (k, r) (record {
+      inside = omega arith;
+      tested = and-right (test (entryAt bs at)) _ (L .tested);
+      room = omega (arith, tallied-total a y);
+      same = ap (λ (p : Answer × Tables). runEntries u (entriesFrom bs (at + 12) n) (progress (p .1) (tallied (p .0) y))) (e ∙ ap (u T) q) ∙ L .same;
+    })
 
-  -- None is left.
-  pub left-none : left ≤ 0 → progress T y ≡ end
-  left-none h = ?
+-- None is left.
+pub left-none : {u : Update Tables} {test : Triple → Bool} {bs : List ℕ} {end : Progress Tables} {T : Tables} {at : ℕ} (left : ℕ) {y : Tally} → Left u test bs end T at left y → left ≤ 0 → progress T y ≡ end
+unfolding entriesFrom runEntries
+left-none zero L h = L .same
+left-none (suc n) L h = absurd (omega arith)
 
-  -- Where every update is refused, all that are left are tallied so.
-  pub left-refused : ((t : Triple) → u T t ≡ (Refused 1, T)) → progress T (tally (y .applied) (y .idle) (y .refused + left)) ≡ end
-  left-refused r = sym (rw (length-entries bs at left) at (run-refused u T r (entriesFrom bs at left) y)) ∙ L .same
+-- Where every update is refused, all that are left are tallied so.
+pub left-refused : {u : Update Tables} {test : Triple → Bool} {bs : List ℕ} {end : Progress Tables} {T : Tables} {at : ℕ} (left : ℕ) {y y' : Tally} → Left u test bs end T at left y → ((t : Triple) → u T t ≡ (Refused 1, T))
+    → y' ≡ tally (y .applied) (y .idle) (y .refused + left) → progress T y' ≡ end
+left-refused {u} {bs = bs} {T = T} {at = at} left {y} L r q = rw q (sym (rw (length-entries bs at left) at (run-refused u T r (entriesFrom bs at left) y)) ∙ L .same)
+
+-- ---- a section that was run
+
+-- The next can be run with the tallies after it.
+pub next-section : (u : Update Tables) {bs : List ℕ} (T : Tables) {T' : Tables} {y y' : Tally} (k : ℕ) → Next bs k y → k + 1 < 4 → progress T' y' ≡ runEntries u (section bs k) (progress T y) → Next bs (k + 1) y'
+next-section u {bs} T {T'} {y} {y'} k N h e =
+    let sum : total y' ≡ length (section bs k) + total y = ap (λ (g : Progress Tables). total (g .counted)) e ∙ run-total u (section bs k) (progress T y) in
+    let f = N .few in
+    record { whole = N .whole; entries = h; few = omega (arith, sum, length-entries bs (sectionStart bs k + 2) (short bs (sectionStart bs k)), section-small bs (N .whole) k (N .entries)) }

@@ -1,10 +1,12 @@
 -- What the functions that run a delivery's entries go by. Definitions only.
-use Prim.Native.Nat.{ℕ, _+_, max}
+use Prim.Native.Nat.{ℕ, _+_, _*_, _≤_, _<_, max}
+use mathlib.Core.Path.{_≡_}
 use mathlib.Core.Bool.{Bool, true, false}
 use mathlib.Core.List.{List, [], _∷_}
 use Rattle.rdf.specs.declared.Triple.{Triple}
 use Rattle.rdf.specs.Triple.{isStatement}
 use Rattle.store.specs.Store.{Tables}
+use Rattle.delivery.specs.Message.{sectionAt, sectionStart, isWhole}
 use Rattle.deliver.specs.declared.Tally.{Tally}
 use Rattle.deliver.specs.Deliver.{Update, addition, withdrawal}
 
@@ -26,3 +28,13 @@ updateOf false = withdrawal
 abbrev pub keepsFormed : Bool → Triple → Bool
 keepsFormed true t = true
 keepsFormed false t = isStatement t
+
+-- The entries of section k.
+abbrev pub section : List ℕ → ℕ → List Triple
+section bs k = sectionAt bs (sectionStart bs k)
+
+-- Section k of a whole delivery is to be run next, with tallies of the sections before it.
+pub record Next (bs : List ℕ) (k : ℕ) (y : Tally) : Type 0 where
+  pub whole : isWhole bs ≡ true
+  pub entries : k < 4
+  pub few : total y ≤ k * 65536

@@ -33,8 +33,8 @@ pub fn highest(supports: &[u16], n: usize) -> usize
 pub fn bound(supports: &[u16], n: usize, facts: usize, known: usize) -> usize
     requires { ⌜ n ≤ length (now supports) ⌝ }
     requires { ⌜ highest (take n (now supports)) ≤ known ⌝ }
-    ensures above { λ r. ⌜ highest (take n (now (supports .entry))) ≤ r ⌝ }
-    ensures close { λ r. ⌜ (facts < r → r ≡ highest (take n (now (supports .entry)))) ⌝ }
+    ensures { λ r. ⌜ highest (take n (now (supports .entry))) ≤ r ⌝ }
+    ensures { λ r. ⌜ (facts < r → r ≡ highest (take n (now (supports .entry)))) ⌝ }
 {
     if known <= facts {
         return known;

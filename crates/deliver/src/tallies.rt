@@ -18,37 +18,37 @@ pub fn none() -> Tally
 }
 
 // One entry more, with its answer.
-pub fn tallied(so_far: Tally, answer: Answer) -> Tally
-    requires { ⌜ total so_far + 1 < 2 ^ 32 ⌝ }
-    ensures { λ r. ⌜ r ≡ tallied answer so_far ⌝ }
+pub fn tallied(counted: Tally, answer: Answer) -> Tally
+    requires { ⌜ total counted + 1 < 2 ^ 32 ⌝ }
+    ensures { λ r. ⌜ r ≡ tallied answer counted ⌝ }
 {
     match answer {
         Answer::Applied => Tally {
-            applied: so_far.applied + 1,
-            idle: so_far.idle,
-            refused: so_far.refused,
+            applied: counted.applied + 1,
+            idle: counted.idle,
+            refused: counted.refused,
         },
         Answer::Idle => Tally {
-            applied: so_far.applied,
-            idle: so_far.idle + 1,
-            refused: so_far.refused,
+            applied: counted.applied,
+            idle: counted.idle + 1,
+            refused: counted.refused,
         },
         Answer::Refused(_) => Tally {
-            applied: so_far.applied,
-            idle: so_far.idle,
-            refused: so_far.refused + 1,
+            applied: counted.applied,
+            idle: counted.idle,
+            refused: counted.refused + 1,
         },
     }
 }
 
 // So many entries more, all refused.
-pub fn refused(so_far: Tally, entries: usize) -> Tally
-    requires { ⌜ total so_far + entries < 2 ^ 32 ⌝ }
-    ensures { λ r. ⌜ r ≡ tally (so_far .applied) (so_far .idle) (so_far .refused + entries) ⌝ }
+pub fn refused(counted: Tally, entries: usize) -> Tally
+    requires { ⌜ total counted + entries < 2 ^ 32 ⌝ }
+    ensures { λ r. ⌜ r ≡ tally (counted .applied) (counted .idle) (counted .refused + entries) ⌝ }
 {
     Tally {
-        applied: so_far.applied,
-        idle: so_far.idle,
-        refused: so_far.refused + entries as u32,
+        applied: counted.applied,
+        idle: counted.idle,
+        refused: counted.refused + entries as u32,
     }
 }

@@ -1,3 +1,5 @@
+-- As the flag says. Assumes nothing.
+use Rattle.deliver.proofs.Formed.{update-adds, update-withdraws}
 use borrow.Author.Needs.{needs}
 use Rattle.deliver.proofs.entries.update.Statement.{statement}
 use Rattle.deliver.proofs.entries.update.Tie as tie
@@ -28,7 +30,7 @@ same-length-4 c = search needs
 
 -- src/entries.rt:22:9
 returns : tie.Need-returns
-returns c = ?
+returns c = update-adds (c .before .before .before .before .before .before .before .before .before .before .before .before .before .before .before .before .before .before .args .adding) _ _ _ (c .before .before .before .before .before .before .before .before .before .before .before .before .before .before .before .before .before .before .args .triple) (c .before .before .before .before .before .before .before .before .before .before .before .before .before .if1 .taken) (c .before .before .before .before .before .before .before .before .add-to-formed .ensures)
 
 -- src/entries.rt:24:5
 withdraw-from-formed-requires : tie.Need-withdraw-from-formed-requires
@@ -52,7 +54,7 @@ same-length-8 c = search needs
 
 -- src/entries.rt:10:1
 returns-2 : tie.Need-returns-2
-returns-2 c = ?
+returns-2 c = update-withdraws (c .before .before .before .before .before .before .before .before .before .before .before .before .before .before .before .before .before .before .args .adding) _ _ _ (c .before .before .before .before .before .before .before .before .before .before .before .before .before .before .before .before .before .before .args .triple) (c .before .before .before .before .before .before .before .before .before .before .before .before .before .if1 .left) (c .before .before .before .before .before .before .before .before .withdraw-from-formed .ensures)
 
 pub update-spec : {M : Type 1} → statement M
 update-spec =

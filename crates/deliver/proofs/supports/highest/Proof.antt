@@ -1,3 +1,11 @@
+use borrow.Author.Needs.{needs}
+-- The invariant: the highest of what is passed with that of what is left is the highest of all. Assumes nothing.
+use Prim.Native.Nat.{_-_, _≤_, max}
+use mathlib.Core.Path.{_≡_}
+use native.Mathlib.Omega.{arith}
+use lib.ListN.{take, drop}
+use Rattle.deliver.specs.Running.{highest}
+use Rattle.deliver.proofs.Highest.{highest-more, highest-end}
 use Rattle.deliver.proofs.supports.highest.Statement.{statement}
 use Rattle.deliver.proofs.supports.highest.Tie as tie
 use Rattle.deliver.proofs.supports.highest.Reads as reads
@@ -5,46 +13,46 @@ use Rattle.deliver.proofs.supports.highest.Lts as lts
 use Rattle.deliver.proofs.supports.higher.Reads as higher-reads
 
 abbrev Inv-loop : tie.InvT-loop
-Inv-loop supports n most₀ i₀ most i = ?
+Inv-loop supports n most₀ i₀ most i = (i ≤ n) × (max most (highest (drop i (take n supports))) ≡ highest (take n supports))
 
 abbrev μ-loop : tie.MeasureT-loop
-μ-loop supports n most₀ i₀ most i = ?
+μ-loop supports n most₀ i₀ most i = n - i
 
 -- src/supports.rt:25:5
 loop-holds : tie.Need-loop-holds Inv-loop μ-loop
-loop-holds c = ?
+loop-holds c = (search needs, omega arith)
 
 -- src/supports.rt:26:29
 mul-higher : tie.Need-mul-higher Inv-loop μ-loop
-mul-higher c = ?
+mul-higher c = search needs
 
 -- src/supports.rt:26:29
 shared-slice-read-higher : tie.Need-shared-slice-read-higher Inv-loop μ-loop
-shared-slice-read-higher c = ?
+shared-slice-read-higher c = search needs
 
 -- src/supports.rt:26:29
 cast-higher : tie.Need-cast-higher Inv-loop μ-loop
-cast-higher c = ?
+cast-higher c = omega (arith, c .shared-slice-known2 .given (c .before .before .loop .i))
 
 -- src/supports.rt:26:9
 higher-requires : tie.Need-higher-requires Inv-loop μ-loop
-higher-requires c κs = ?
+higher-requires c κs = search needs
 
 -- src/supports.rt:27:9
 add-i : tie.Need-add-i Inv-loop μ-loop
-add-i c = ?
+add-i c = search needs
 
 -- src/supports.rt:25:5
 loop-less : tie.Need-loop-less Inv-loop μ-loop
-loop-less c = ?
+loop-less c = search needs
 
 -- src/supports.rt:25:5
 loop-again : tie.Need-loop-again Inv-loop μ-loop
-loop-again c = ?
+loop-again c = (search needs, rw (c .higher .ensures) (highest-more (c .before .before .before .before .before .args .n) (c .before .before .before .before .before .args .supports .now) (c .before .before .before .before .before .pre) (c .before .before .before .loop .i) (c .before .before .before .loop .most) (c .before .before .loop-test .taken) (c .before .before .before .loop .inv .1)))
 
 -- src/supports.rt:19:1
 returns : tie.Need-returns Inv-loop μ-loop
-returns c = ?
+returns c = highest-end (c .before .before .before .args .n) (c .before .before .before .args .supports .now) (c .before .before .before .pre) (c .before .loop .i) (c .before .loop .most) (c .loop-test .left) (c .before .loop .inv .1)
 
 pub highest-spec : {M : Type 1} → statement M
 highest-spec =

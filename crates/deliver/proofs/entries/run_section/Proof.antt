@@ -1,0 +1,112 @@
+use borrow.Author.Needs.{needs}
+-- The invariant: the entries that are left end as the whole section does, and the store is well formed. Assumes nothing.
+use native.Mathlib.Omega.{arith}
+use Rattle.table.specs.Laid.{FormedStore}
+use Rattle.store.specs.Store.{tables}
+use Rattle.delivery.proofs.Whole.{whole-length}
+use Rattle.deliver.specs.Deliver.{progress, runEntries}
+use Rattle.deliver.specs.Running.{updateOf, keepsFormed, section}
+use Rattle.deliver.proofs.Runs.{Left, left-first, left-tested, left-next, left-none}
+use Rattle.deliver.proofs.Formed.{stays-formed}
+use Rattle.deliver.proofs.entries.run_section.Statement.{statement}
+use Rattle.deliver.proofs.entries.run_section.Tie as tie
+use Rattle.deliver.proofs.entries.run_section.Reads as reads
+use Rattle.deliver.proofs.entries.run_section.Lts as lts
+use Rattle.deliver.proofs.entries.update.Reads as update-reads
+use Rattle.deliver.proofs.tallies.tallied.Reads as tallied-reads
+use Rattle.delivery.proofs.entry_at.Reads as entry-at-reads
+use Rattle.delivery.proofs.section_start.Reads as section-start-reads
+use Rattle.delivery.proofs.short_at.Reads as short-at-reads
+
+abbrev Inv-loop : tie.InvT-loop
+Inv-loop statements₀ facts₀ kept₀ supports₀ bytes k adding start at₀ left₀ sum₀ statements facts kept supports at left sum = Left (updateOf adding) (keepsFormed adding) bytes (runEntries (updateOf adding) (section bytes k) (progress (tables statements₀ facts₀ kept₀ supports₀) sum₀)) (tables statements facts kept supports) at left sum × FormedStore statements facts kept supports
+
+abbrev μ-loop : tie.MeasureT-loop
+μ-loop statements₀ facts₀ kept₀ supports₀ bytes k adding start at₀ left₀ sum₀ statements facts kept supports at left sum = left
+
+-- src/entries.rt:67:9
+section-start-requires : tie.Need-section-start-requires Inv-loop μ-loop
+section-start-requires c κs = omega (arith, c .before .before .before .before .before .pre .1 .0 .entries)
+
+-- src/entries.rt:68:18
+add-at : tie.Need-add-at Inv-loop μ-loop
+add-at c = omega (arith, c .before .before .before .before .before .before .pre .1 .0 .entries, c .section-start .ensures .1)
+
+-- src/entries.rt:69:9
+short-at-requires : tie.Need-short-at-requires Inv-loop μ-loop
+short-at-requires c κs = omega (arith, c .before .before .before .before .before .before .pre .1 .0 .entries, c .section-start .ensures .1)
+
+-- src/entries.rt:71:5
+loop-holds : tie.Need-loop-holds Inv-loop μ-loop
+loop-holds c = (left-first _ _ _ _ (c .before .before .before .before .before .before .before .args .k) (c .before .section-start .result) _ _ (c .before .before .before .before .before .before .before .pre .1 .0) (c .before .before .before .before .before .before .before .pre .1 .1) (c .before .section-start .ensures .0) (c .short-at .ensures .0), c .before .before .before .before .before .before .before .pre .0)
+
+-- src/entries.rt:72:13
+entry-at-requires : tie.Need-entry-at-requires Inv-loop μ-loop
+entry-at-requires c κs = omega (arith, c .before .loop .inv .0 .inside, c .loop-test .taken)
+
+-- src/entries.rt:73:13
+update-requires : tie.Need-update-requires Inv-loop μ-loop
+update-requires c κs = c .before .before .before .before .before .before .loop .inv .1
+
+-- src/entries.rt:74:9
+tallied-requires : tie.Need-tallied-requires Inv-loop μ-loop
+tallied-requires c κs = omega (arith, c .before .before .before .before .before .before .before .before .before .before .before .before .before .before .before .loop .inv .0 .room, c .before .before .before .before .before .before .before .before .before .before .before .before .before .before .loop-test .taken)
+
+-- src/entries.rt:75:9
+add-at-2 : tie.Need-add-at-2 Inv-loop μ-loop
+add-at-2 c = omega (arith, c .before .before .before .before .before .before .before .before .before .before .before .before .before .before .before .before .loop .inv .0 .inside, c .before .before .before .before .before .before .before .before .before .before .before .before .before .before .before .loop-test .taken, whole-length _ (c .before .before .before .before .before .before .before .before .before .before .before .before .before .before .before .before .before .before .before .before .before .before .before .before .pre .1 .0 .whole))
+
+-- src/entries.rt:76:9
+sub-left : tie.Need-sub-left Inv-loop μ-loop
+sub-left c = omega (arith, c .before .before .before .before .before .before .before .before .before .before .before .before .before .before .before .loop-test .taken)
+
+-- src/entries.rt:71:5
+loop-less : tie.Need-loop-less Inv-loop μ-loop
+loop-less c = omega (arith, c .before .before .before .before .before .before .before .before .before .before .before .before .before .before .before .loop-test .taken)
+
+-- src/entries.rt:71:5
+loop-again : tie.Need-loop-again Inv-loop μ-loop
+loop-again c = (left-next (c .before .before .before .before .before .before .before .before .before .before .before .before .before .before .before .before .loop .left) (c .before .before .before .before .before .before .before .before .before .before .before .before .before .before .before .before .loop .inv .0) (c .before .before .before .before .before .before .before .before .before .before .before .before .before .before .before .loop-test .taken) (c .before .before .before .before .before .before .before .before .before .before .before .before .before .before .entry-at .result) (c .before .before .before .before .before .before .before .before .before .before .before .before .before .before .entry-at .ensures) (c .before .before .before .before .before .before .before .before .before .update .result) (c .before .before .before .before .before .before .before .before .before .update .ensures) (c .tallied .ensures), stays-formed (c .before .before .before .before .before .before .before .before .before .before .before .before .before .before .before .before .before .before .before .before .before .before .before .before .args .adding) (c .before .before .before .before .before .before .before .before .before .update .result) (c .before .before .before .before .before .before .before .before .before .before .before .before .before .before .entry-at .result) (left-tested (c .before .before .before .before .before .before .before .before .before .before .before .before .before .before .before .before .loop .left) (c .before .before .before .before .before .before .before .before .before .before .before .before .before .before .before .before .loop .inv .0) (c .before .before .before .before .before .before .before .before .before .before .before .before .before .before .before .loop-test .taken) (c .before .before .before .before .before .before .before .before .before .before .before .before .before .before .entry-at .result) (c .before .before .before .before .before .before .before .before .before .before .before .before .before .before .entry-at .ensures)) (c .before .before .before .before .before .before .before .before .before .before .before .before .before .before .before .before .loop .inv .1) (c .before .before .before .before .before .before .before .before .before .update .ensures))
+
+-- src/entries.rt:52:1
+same-length : tie.Need-same-length Inv-loop μ-loop
+same-length c = search needs
+
+-- src/entries.rt:52:1
+same-length-2 : tie.Need-same-length-2 Inv-loop μ-loop
+same-length-2 c = search needs
+
+-- src/entries.rt:52:1
+same-length-3 : tie.Need-same-length-3 Inv-loop μ-loop
+same-length-3 c = search needs
+
+-- src/entries.rt:52:1
+same-length-4 : tie.Need-same-length-4 Inv-loop μ-loop
+same-length-4 c = search needs
+
+-- src/entries.rt:52:1
+returns : tie.Need-returns Inv-loop μ-loop
+returns c = left-none (c .before .loop .left) (c .before .loop .inv .0) (c .loop-test .left)
+
+pub run-section-spec : {M : Type 1} → statement M
+run-section-spec =
+    tie.close
+    (tie.spec
+    Inv-loop
+    μ-loop
+    section-start-requires
+    add-at
+    short-at-requires
+    loop-holds
+    entry-at-requires
+    update-requires
+    tallied-requires
+    add-at-2
+    sub-left
+    loop-less
+    loop-again
+    same-length
+    same-length-2
+    same-length-3
+    same-length-4
+    returns)
