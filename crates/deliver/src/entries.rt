@@ -63,6 +63,7 @@ pub fn run_section(
     requires { ⌜ Next (now bytes) k counted ⌝ }
     requires { ⌜ all (keepsFormed adding) (section (now bytes) k) ≡ true ⌝ }
     ensures { λ r. ⌜ progress (tables (now (statements .exit)) (now (facts .exit)) (now (kept .exit)) (now (supports .exit))) r ≡ runEntries (updateOf adding) (section (now (bytes .entry)) k) (progress (tables (now (statements .entry)) (now (facts .entry)) (now (kept .entry)) (now (supports .entry))) counted) ⌝ }
+    ensures { λ _. ⌜ FormedStore (now (statements .exit)) (now (facts .exit)) (now (kept .exit)) (now (supports .exit)) ⌝ }
 {
     let start = delivery::section_start(bytes, k);
     let mut at = start + 2;

@@ -54,7 +54,7 @@ same-length-4 c = search needs
 
 -- src/entries.rt:83:1
 returns : tie.Need-returns
-returns c = (ap (λ (o : Outcome). asPair o) (c .before .before .before .before .before .before .before .before .before .before .before .before .withdraw-from-formed .ensures), c .bound .ensures .0, lowered-formed (c .before .before .before .before .before .before .before .before .before .before .before .before .before .before .before .before .before .before .before .before .before .args .fact) (c .before .before .before .before .before .before .before .before .before .before .before .before .before .before .before .before .before .before .before .before .before .pre .0) (c .before .before .before .before .before .before .before .before .before .before .before .before .before .before .before .before .before .before .before .before .before .pre .1 .0) (c .before .before .before .before .before .before .before .before .before .before .before .before .withdraw-from-formed .ensures) (c .bound .result) (c .bound .ensures .0) (c .bound .ensures .1))
+returns c = (ap (λ (o : Outcome). asPair o) (c .before .before .before .before .before .before .before .before .before .before .before .before .withdraw-from-formed .ensures), (c .bound .ensures .0, lowered-formed (c .before .before .before .before .before .before .before .before .before .before .before .before .before .before .before .before .before .before .before .before .before .args .fact) (c .before .before .before .before .before .before .before .before .before .before .before .before .before .before .before .before .before .before .before .before .before .pre .0) (c .before .before .before .before .before .before .before .before .before .before .before .before .before .before .before .before .before .before .before .before .before .pre .1 .0) (c .before .before .before .before .before .before .before .before .before .before .before .before .withdraw-from-formed .ensures) (c .bound .result) (c .bound .ensures .0) (c .bound .ensures .1)))
 
 pub withdraw-fact-spec : {M : Type 1} → statement M
 withdraw-fact-spec =

@@ -1,7 +1,6 @@
-use borrow.Author.Needs.{needs}
 -- The invariant: the entries that are left end as the whole section does, the store is well formed, and the supports have a bound. Assumes nothing.
 use Prim.Native.Nat.{_≤_}
-use mathlib.Core.Path.{sym, _∙_}
+use mathlib.Core.Path.{refl, sym, _∙_}
 use native.Mathlib.Omega.{arith}
 use lib.ListN.{take}
 use borrow.Author.Tests.{not-true, not-false}
@@ -9,6 +8,7 @@ use Rattle.table.specs.Table.{count}
 use Rattle.table.specs.Laid.{FormedStore}
 use Rattle.table.proofs.Store.{isStore-formed, formed-isStore}
 use Rattle.store.specs.Store.{tables}
+use Rattle.store.proofs.Fitting.{SameLengths}
 use Rattle.delivery.specs.Message.{isFact}
 use Rattle.delivery.proofs.Whole.{whole-length}
 use Rattle.deliver.specs.Deliver.{progress, runEntries, withdrawal}
@@ -28,7 +28,7 @@ use Rattle.delivery.proofs.section_start.Reads as section-start-reads
 use Rattle.delivery.proofs.short_at.Reads as short-at-reads
 
 abbrev Inv-loop : tie.InvT-loop
-Inv-loop statements₀ facts₀ kept₀ supports₀ bytes k start at₀ left₀ sum₀ most₀ statements facts kept supports at left sum most = Left withdrawal isFact bytes (runEntries withdrawal (section bytes k) (progress (tables statements₀ facts₀ kept₀ supports₀) sum₀)) (tables statements facts kept supports) at left sum × FormedStore statements facts kept supports × (highest (take (count kept) supports) ≤ most)
+Inv-loop statements₀ facts₀ kept₀ supports₀ bytes k start at₀ left₀ sum₀ most₀ statements facts kept supports at left sum most = Left withdrawal isFact bytes (runEntries withdrawal (section bytes k) (progress (tables statements₀ facts₀ kept₀ supports₀) sum₀)) (tables statements facts kept supports) at left sum × FormedStore statements facts kept supports × SameLengths (tables statements facts kept supports) (tables statements₀ facts₀ kept₀ supports₀) × (highest (take (count kept) supports) ≤ most)
 
 abbrev μ-loop : tie.MeasureT-loop
 μ-loop statements₀ facts₀ kept₀ supports₀ bytes k start at₀ left₀ sum₀ most₀ statements facts kept supports at left sum most = left
@@ -59,7 +59,7 @@ highest-requires c κs = c .before .before .before .before .before .before .befo
 
 -- src/entries.rt:130:5
 loop-holds : tie.Need-loop-holds Inv-loop μ-loop
-loop-holds c = (left-first _ _ _ _ (c .before .before .before .before .before .before .before .before .before .before .args .k) (c .before .before .before .before .section-start .result) _ _ (c .before .before .before .before .before .before .before .before .before .before .pre .1 .0) (c .before .before .before .before .before .before .before .before .before .before .pre .1 .1) (c .before .before .before .before .section-start .ensures .0) (c .before .before .before .short-at .ensures .0), c .before .before .before .before .before .before .before .before .before .before .pre .0, omega (arith, c .highest .ensures))
+loop-holds c = (left-first _ _ _ _ (c .before .before .before .before .before .before .before .before .before .before .args .k) (c .before .before .before .before .section-start .result) _ _ (c .before .before .before .before .before .before .before .before .before .before .pre .1 .0) (c .before .before .before .before .before .before .before .before .before .before .pre .1 .1) (c .before .before .before .before .section-start .ensures .0) (c .before .before .before .short-at .ensures .0), c .before .before .before .before .before .before .before .before .before .before .pre .0, record { same-statements = refl; same-facts = refl; same-kept = refl; same-supports = refl }, omega (arith, c .highest .ensures))
 
 -- src/entries.rt:131:13
 entry-at-requires : tie.Need-entry-at-requires Inv-loop μ-loop
@@ -67,7 +67,7 @@ entry-at-requires c κs = omega (arith, c .before .loop .inv .0 .inside, c .loop
 
 -- src/entries.rt:132:13
 withdraw-fact-requires : tie.Need-withdraw-fact-requires Inv-loop μ-loop
-withdraw-fact-requires c κs = (c .before .before .before .before .before .before .loop .inv .1 .0, left-tested (c .before .before .before .before .before .before .loop .left) (c .before .before .before .before .before .before .loop .inv .0) (c .before .before .before .before .before .loop-test .taken) (c .before .before .before .before .entry-at .result) (c .before .before .before .before .entry-at .ensures), c .before .before .before .before .before .before .loop .inv .1 .1)
+withdraw-fact-requires c κs = (c .before .before .before .before .before .before .loop .inv .1, (left-tested (c .before .before .before .before .before .before .loop .left) (c .before .before .before .before .before .before .loop .inv .0) (c .before .before .before .before .before .loop-test .taken) (c .before .before .before .before .entry-at .result) (c .before .before .before .before .entry-at .ensures), c .before .before .before .before .before .before .loop .inv .3))
 
 -- src/entries.rt:134:9
 tallied-requires : tie.Need-tallied-requires Inv-loop μ-loop
@@ -87,19 +87,19 @@ refused-requires c κs = (left-next (c .before .before .before .before .before .
 
 -- src/entries.rt:139:13
 same-length : tie.Need-same-length Inv-loop μ-loop
-same-length c = search needs
+same-length c = c .before .before .before .before .before .before .before .before .before .before .before .before .withdraw-fact .kept .0 ∙ c .before .before .before .before .before .before .before .before .before .before .before .before .before .before .before .before .before .before .before .loop .inv .2 .same-statements
 
 -- src/entries.rt:139:13
 same-length-2 : tie.Need-same-length-2 Inv-loop μ-loop
-same-length-2 c = search needs
+same-length-2 c = c .before .before .before .before .before .before .before .before .before .before .before .before .withdraw-fact .kept .1 .0 ∙ c .before .before .before .before .before .before .before .before .before .before .before .before .before .before .before .before .before .before .before .loop .inv .2 .same-facts
 
 -- src/entries.rt:139:13
 same-length-3 : tie.Need-same-length-3 Inv-loop μ-loop
-same-length-3 c = search needs
+same-length-3 c = c .before .before .before .before .before .before .before .before .before .before .before .before .withdraw-fact .kept .1 .1 .0 ∙ c .before .before .before .before .before .before .before .before .before .before .before .before .before .before .before .before .before .before .before .loop .inv .2 .same-kept
 
 -- src/entries.rt:139:13
 same-length-4 : tie.Need-same-length-4 Inv-loop μ-loop
-same-length-4 c = search needs
+same-length-4 c = c .before .before .before .before .before .before .before .before .before .before .before .before .withdraw-fact .kept .1 .1 .1 .0 ∙ c .before .before .before .before .before .before .before .before .before .before .before .before .before .before .before .before .before .before .before .loop .inv .2 .same-supports
 
 -- src/entries.rt:139:13
 returns : tie.Need-returns Inv-loop μ-loop
@@ -111,27 +111,27 @@ loop-less c = omega (arith, c .before .before .before .before .before .before .b
 
 -- src/entries.rt:130:5
 loop-again : tie.Need-loop-again Inv-loop μ-loop
-loop-again c = (left-next (c .before .before .before .before .before .before .before .before .before .before .before .before .before .before .before .before .before .before .loop .left) (c .before .before .before .before .before .before .before .before .before .before .before .before .before .before .before .before .before .before .loop .inv .0) (c .before .before .before .before .before .before .before .before .before .before .before .before .before .before .before .before .before .loop-test .taken) (c .before .before .before .before .before .before .before .before .before .before .before .before .before .before .before .before .entry-at .result) (c .before .before .before .before .before .before .before .before .before .before .before .before .before .before .before .before .entry-at .ensures) (c .before .before .before .before .before .before .before .before .before .before .before .withdraw-fact .result .answer) (c .before .before .before .before .before .before .before .before .before .before .before .withdraw-fact .ensures .0) (c .before .before .tallied .ensures), isStore-formed _ _ _ _ (sym (c .before .before .before .before .before .before .before .before .before .before .before .withdraw-fact .ensures .1 .1) ∙ not-false _ (c .if1 .left)), c .before .before .before .before .before .before .before .before .before .before .before .withdraw-fact .ensures .1 .0)
+loop-again c = (left-next (c .before .before .before .before .before .before .before .before .before .before .before .before .before .before .before .before .before .before .loop .left) (c .before .before .before .before .before .before .before .before .before .before .before .before .before .before .before .before .before .before .loop .inv .0) (c .before .before .before .before .before .before .before .before .before .before .before .before .before .before .before .before .before .loop-test .taken) (c .before .before .before .before .before .before .before .before .before .before .before .before .before .before .before .before .entry-at .result) (c .before .before .before .before .before .before .before .before .before .before .before .before .before .before .before .before .entry-at .ensures) (c .before .before .before .before .before .before .before .before .before .before .before .withdraw-fact .result .answer) (c .before .before .before .before .before .before .before .before .before .before .before .withdraw-fact .ensures .0) (c .before .before .tallied .ensures), isStore-formed _ _ _ _ (sym (c .before .before .before .before .before .before .before .before .before .before .before .withdraw-fact .ensures .1 .1) ∙ not-false _ (c .if1 .left)), record { same-statements = c .before .before .before .before .before .before .before .before .before .before .before .withdraw-fact .kept .0 ∙ c .before .before .before .before .before .before .before .before .before .before .before .before .before .before .before .before .before .before .loop .inv .2 .same-statements; same-facts = c .before .before .before .before .before .before .before .before .before .before .before .withdraw-fact .kept .1 .0 ∙ c .before .before .before .before .before .before .before .before .before .before .before .before .before .before .before .before .before .before .loop .inv .2 .same-facts; same-kept = c .before .before .before .before .before .before .before .before .before .before .before .withdraw-fact .kept .1 .1 .0 ∙ c .before .before .before .before .before .before .before .before .before .before .before .before .before .before .before .before .before .before .loop .inv .2 .same-kept; same-supports = c .before .before .before .before .before .before .before .before .before .before .before .withdraw-fact .kept .1 .1 .1 .0 ∙ c .before .before .before .before .before .before .before .before .before .before .before .before .before .before .before .before .before .before .loop .inv .2 .same-supports }, c .before .before .before .before .before .before .before .before .before .before .before .withdraw-fact .ensures .1 .0)
 
 -- src/entries.rt:110:1
 same-length-5 : tie.Need-same-length-5 Inv-loop μ-loop
-same-length-5 c = search needs
+same-length-5 c = c .before .loop .inv .2 .same-statements
 
 -- src/entries.rt:110:1
 same-length-6 : tie.Need-same-length-6 Inv-loop μ-loop
-same-length-6 c = search needs
+same-length-6 c = c .before .loop .inv .2 .same-facts
 
 -- src/entries.rt:110:1
 same-length-7 : tie.Need-same-length-7 Inv-loop μ-loop
-same-length-7 c = search needs
+same-length-7 c = c .before .loop .inv .2 .same-kept
 
 -- src/entries.rt:110:1
 same-length-8 : tie.Need-same-length-8 Inv-loop μ-loop
-same-length-8 c = search needs
+same-length-8 c = c .before .loop .inv .2 .same-supports
 
 -- src/entries.rt:110:1
 returns-2 : tie.Need-returns-2 Inv-loop μ-loop
-returns-2 c = (left-none (c .before .loop .left) (c .before .loop .inv .0) (c .loop-test .left), sym (formed-isStore (c .before .loop .inv .1 .0)))
+returns-2 c = (left-none (c .before .loop .left) (c .before .loop .inv .0) (c .loop-test .left), sym (formed-isStore (c .before .loop .inv .1)))
 
 pub withdraw-facts-spec : {M : Type 1} → statement M
 withdraw-facts-spec =
