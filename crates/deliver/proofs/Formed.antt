@@ -113,7 +113,7 @@ module _ {S F K U S' F' K' U' : List ℕ} {a : Answer} (t : Triple) (W : FormedS
       by-test (leb b (count F'))
       (λ l. l ∙ sym (lowered .formed ∙ highest-within (count F') us (omega (arith, leb-true b (count F') l, h))))
       (λ l.
-          let high : count F' < b = leb-false b (count F') l in
-          by-test (areFormed (tables S' F' K' U'))
-          (λ w. absurd (omega (arith, within-highest (count F') us (sym (lowered .formed) ∙ w), c high, high)))
-          (λ w. l ∙ sym w))
+      let high : count F' < b = leb-false b (count F') l in
+      by-test (areFormed (tables S' F' K' U'))
+      (λ w. absurd (omega (arith, within-highest (count F') us (sym (lowered .formed) ∙ w), c high, high)))
+      (λ w. l ∙ sym w))

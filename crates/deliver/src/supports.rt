@@ -8,11 +8,7 @@ ghost use Rattle.deliver.specs.Running.{highest};
 fn higher(a: usize, b: usize) -> usize
     ensures { λ r. ⌜ r ≡ max a b ⌝ }
 {
-    if a < b {
-        b
-    } else {
-        a
-    }
+    if a < b { b } else { a }
 }
 
 // The highest of the first n supports, 0 where there is none. One pass.

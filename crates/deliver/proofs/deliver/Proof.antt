@@ -1,155 +1,116 @@
+-- Question by question, as the code asks them. Assumes nothing.
+use mathlib.Core.Path.{sym, _∙_}
+use borrow.Author.Tests.{not-true, not-false}
+use Rattle.table.proofs.Store.{isStore-formed}
+use Rattle.deliver.proofs.Conclusions.{refused-by-tables, refused-by-length, refused-by-section, refused-by-number, accepted}
 use borrow.Author.Needs.{needs}
 use Rattle.deliver.proofs.deliver.Statement.{statement}
 use Rattle.deliver.proofs.deliver.Tie as tie
-use Rattle.deliver.proofs.deliver.Reads as reads
-use Rattle.deliver.proofs.deliver.Lts as lts
-use Rattle.deliver.proofs.refuse.Reads as refuse-reads
-use Rattle.deliver.proofs.run_message.Reads as run-message-reads
-use Rattle.delivery.proofs.are_sections_right.Reads as are-sections-right-reads
-use Rattle.delivery.proofs.is_number_right.Reads as is-number-right-reads
-use Rattle.delivery.proofs.is_whole.Reads as is-whole-reads
-use Rattle.delivery.proofs.number.Reads as number-reads
-use Rattle.table.proofs.is_store.Reads as is-store-reads
 
--- src/lib.rt:79:9
 is-store-requires : tie.Need-is-store-requires
 is-store-requires c κs = search needs
 
--- src/lib.rt:80:9
 refuse-requires : tie.Need-refuse-requires
 refuse-requires c κs = search needs
 
--- src/lib.rt:80:9
 same-length : tie.Need-same-length
 same-length c = search needs
 
--- src/lib.rt:80:9
 same-length-2 : tie.Need-same-length-2
 same-length-2 c = search needs
 
--- src/lib.rt:80:9
 same-length-3 : tie.Need-same-length-3
 same-length-3 c = search needs
 
--- src/lib.rt:80:9
 same-length-4 : tie.Need-same-length-4
 same-length-4 c = search needs
 
--- src/lib.rt:80:9
 returns : tie.Need-returns
-returns c = ?
+returns c = refused-by-tables _ (c .before .before .before .before .before .before .before .before .before .before .before .before .args .bytes .now) _ (sym (c .before .before .is-store .ensures) ∙ not-true _ (c .before .if1 .taken)) (c .refuse .ensures)
 
--- src/lib.rt:82:9
 is-whole-requires : tie.Need-is-whole-requires
 is-whole-requires c κs = search needs
 
--- src/lib.rt:83:9
 refuse-requires-2 : tie.Need-refuse-requires-2
 refuse-requires-2 c κs = search needs
 
--- src/lib.rt:83:9
 same-length-5 : tie.Need-same-length-5
 same-length-5 c = search needs
 
--- src/lib.rt:83:9
 same-length-6 : tie.Need-same-length-6
 same-length-6 c = search needs
 
--- src/lib.rt:83:9
 same-length-7 : tie.Need-same-length-7
 same-length-7 c = search needs
 
--- src/lib.rt:83:9
 same-length-8 : tie.Need-same-length-8
 same-length-8 c = search needs
 
--- src/lib.rt:83:9
 returns-2 : tie.Need-returns-2
-returns-2 c = ?
+returns-2 c = refused-by-length _ (c .before .before .before .before .before .before .before .before .before .before .before .before .before .before .args .bytes .now) _ (sym (c .before .before .before .before .is-store .ensures) ∙ not-false _ (c .before .before .before .if1 .left)) (sym (c .before .before .is-whole .ensures) ∙ not-true _ (c .before .if2 .taken)) (c .refuse2 .ensures)
 
--- src/lib.rt:85:9
 are-sections-right-requires : tie.Need-are-sections-right-requires
-are-sections-right-requires c κs = ?
+are-sections-right-requires c κs = sym (c .before .is-whole .ensures) ∙ not-false _ (c .if2 .left)
 
--- src/lib.rt:86:9
 refuse-requires-3 : tie.Need-refuse-requires-3
 refuse-requires-3 c κs = search needs
 
--- src/lib.rt:86:9
 same-length-9 : tie.Need-same-length-9
 same-length-9 c = search needs
 
--- src/lib.rt:86:9
 same-length-10 : tie.Need-same-length-10
 same-length-10 c = search needs
 
--- src/lib.rt:86:9
 same-length-11 : tie.Need-same-length-11
 same-length-11 c = search needs
 
--- src/lib.rt:86:9
 same-length-12 : tie.Need-same-length-12
 same-length-12 c = search needs
 
--- src/lib.rt:86:9
 returns-3 : tie.Need-returns-3
-returns-3 c = ?
+returns-3 c = refused-by-section _ (c .before .before .before .before .before .before .before .before .before .before .before .before .before .before .before .before .args .bytes .now) _ (sym (c .before .before .before .before .before .before .is-store .ensures) ∙ not-false _ (c .before .before .before .before .before .if1 .left)) (sym (c .before .before .before .before .is-whole .ensures) ∙ not-false _ (c .before .before .before .if2 .left)) (sym (c .before .before .are-sections-right .ensures) ∙ not-true _ (c .before .if3 .taken)) (c .refuse3 .ensures)
 
--- src/lib.rt:88:9
 is-number-right-requires : tie.Need-is-number-right-requires
-is-number-right-requires c κs = ?
+is-number-right-requires c κs = sym (c .before .before .before .is-whole .ensures) ∙ not-false _ (c .before .before .if2 .left)
 
--- src/lib.rt:89:9
 refuse-requires-4 : tie.Need-refuse-requires-4
 refuse-requires-4 c κs = search needs
 
--- src/lib.rt:89:9
 same-length-13 : tie.Need-same-length-13
 same-length-13 c = search needs
 
--- src/lib.rt:89:9
 same-length-14 : tie.Need-same-length-14
 same-length-14 c = search needs
 
--- src/lib.rt:89:9
 same-length-15 : tie.Need-same-length-15
 same-length-15 c = search needs
 
--- src/lib.rt:89:9
 same-length-16 : tie.Need-same-length-16
 same-length-16 c = search needs
 
--- src/lib.rt:89:9
 returns-4 : tie.Need-returns-4
-returns-4 c = ?
+returns-4 c = refused-by-number _ (c .before .before .before .before .before .before .before .before .before .before .before .before .before .before .before .before .before .before .args .bytes .now) _ (sym (c .before .before .before .before .before .before .before .before .is-store .ensures) ∙ not-false _ (c .before .before .before .before .before .before .before .if1 .left)) (sym (c .before .before .before .before .before .before .is-whole .ensures) ∙ not-false _ (c .before .before .before .before .before .if2 .left)) (sym (c .before .before .before .before .are-sections-right .ensures) ∙ not-false _ (c .before .before .before .if3 .left)) (sym (c .before .before .is-number-right .ensures) ∙ not-true _ (c .before .if4 .taken)) (c .refuse4 .ensures)
 
--- src/lib.rt:91:9
 run-message-requires : tie.Need-run-message-requires
-run-message-requires c κs = ?
+run-message-requires c κs = (isStore-formed _ _ _ _ (sym (c .before .before .before .before .before .before .before .before .before .before .before .is-store .ensures) ∙ not-false _ (c .before .before .before .before .before .before .before .before .before .before .if1 .left)), (sym (c .before .before .before .before .before .before .before .before .before .is-whole .ensures) ∙ not-false _ (c .before .before .before .before .before .before .before .before .if2 .left), sym (c .before .before .before .before .before .before .before .are-sections-right .ensures) ∙ not-false _ (c .before .before .before .before .before .before .if3 .left)))
 
--- src/lib.rt:94:17
 number-requires : tie.Need-number-requires
-number-requires c κs = ?
+number-requires c κs = (sym (c .before .before .before .before .before .before .before .before .before .before .before .before .before .before .before .before .before .before .is-whole .ensures) ∙ not-false _ (c .before .before .before .before .before .before .before .before .before .before .before .before .before .before .before .before .before .if2 .left), sym (c .before .before .before .before .before .before .before .before .before .before .before .before .before .before .is-number-right .ensures) ∙ not-false _ (c .before .before .before .before .before .before .before .before .before .before .before .before .before .if4 .left))
 
--- src/lib.rt:70:1
 same-length-17 : tie.Need-same-length-17
 same-length-17 c = search needs
 
--- src/lib.rt:70:1
 same-length-18 : tie.Need-same-length-18
 same-length-18 c = search needs
 
--- src/lib.rt:70:1
 same-length-19 : tie.Need-same-length-19
 same-length-19 c = search needs
 
--- src/lib.rt:70:1
 same-length-20 : tie.Need-same-length-20
 same-length-20 c = search needs
 
--- src/lib.rt:70:1
 returns-5 : tie.Need-returns-5
-returns-5 c = ?
+returns-5 c = accepted _ (c .before .before .before .before .before .before .before .before .before .before .before .before .before .before .before .before .before .before .before .before .before .before .before .before .before .before .before .before .before .before .before .args .bytes .now) (c .number .result) (sym (c .before .before .before .before .before .before .before .before .before .before .before .before .before .before .before .before .before .before .before .before .before .is-store .ensures) ∙ not-false _ (c .before .before .before .before .before .before .before .before .before .before .before .before .before .before .before .before .before .before .before .before .if1 .left)) (sym (c .before .before .before .before .before .before .before .before .before .before .before .before .before .before .before .before .before .before .before .is-whole .ensures) ∙ not-false _ (c .before .before .before .before .before .before .before .before .before .before .before .before .before .before .before .before .before .before .if2 .left)) (sym (c .before .before .before .before .before .before .before .before .before .before .before .before .before .before .before .before .before .are-sections-right .ensures) ∙ not-false _ (c .before .before .before .before .before .before .before .before .before .before .before .before .before .before .before .before .if3 .left)) (sym (c .before .before .before .before .before .before .before .before .before .before .before .before .before .before .before .is-number-right .ensures) ∙ not-false _ (c .before .before .before .before .before .before .before .before .before .before .before .before .before .before .if4 .left)) (c .number .ensures) (c .before .before .before .before .before .before .before .before .before .run-message .ensures)
 
 pub deliver-spec : {M : Type 1} → statement M
 deliver-spec =

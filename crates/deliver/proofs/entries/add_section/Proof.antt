@@ -1,52 +1,45 @@
+-- By whether the store is well formed. Assumes nothing.
+use mathlib.Core.Path.{sym, _∙_}
+use borrow.Author.Tests.{not-true, not-false}
+use Rattle.table.proofs.Store.{isStore-formed}
+use Rattle.deliver.specs.Deliver.{addition}
+use mathlib.Core.Bool.{true}
+use Rattle.deliver.specs.Running.{keepsFormed}
+use Rattle.deliver.proofs.Runs.{left-first, left-refused}
+use Rattle.deliver.proofs.Formed.{all-keep, malformed-adds}
 use borrow.Author.Needs.{needs}
 use Rattle.deliver.proofs.entries.add_section.Statement.{statement}
 use Rattle.deliver.proofs.entries.add_section.Tie as tie
-use Rattle.deliver.proofs.entries.add_section.Reads as reads
-use Rattle.deliver.proofs.entries.add_section.Lts as lts
-use Rattle.deliver.proofs.entries.run_section.Reads as run-section-reads
-use Rattle.deliver.proofs.tallies.refused.Reads as refused-reads
-use Rattle.delivery.proofs.section_start.Reads as section-start-reads
-use Rattle.delivery.proofs.short_at.Reads as short-at-reads
 
--- src/entries.rt:168:13
 section-start-requires : tie.Need-section-start-requires
 section-start-requires c κs = search needs
 
--- src/entries.rt:169:33
 short-at-requires : tie.Need-short-at-requires
 short-at-requires c κs = search needs
 
--- src/entries.rt:169:9
 refused-requires : tie.Need-refused-requires
 refused-requires c κs = search needs
 
--- src/entries.rt:169:9
 returns : tie.Need-returns
-returns c = ?
+returns c = left-refused (c .before .short-at .result) (left-first addition (keepsFormed true) (c .before .before .before .before .before .before .before .before .before .args .bytes .now) _ (c .before .before .before .before .before .before .before .before .before .args .k) (c .before .before .section-start .result) (c .before .short-at .result) (c .before .before .before .before .before .before .before .before .before .args .counted) (c .before .before .before .before .before .before .before .before .before .pre .1) (all-keep _) (c .before .before .section-start .ensures .0) (c .before .short-at .ensures .0)) (malformed-adds _ (sym (c .before .before .before .before .before .before .before .before .before .pre .0) ∙ not-true _ (c .before .before .before .if1 .taken))) (c .refused .ensures)
 
--- src/entries.rt:171:5
 run-section-requires : tie.Need-run-section-requires
-run-section-requires c κs = ?
+run-section-requires c κs = (isStore-formed _ _ _ _ (sym (c .before .before .before .before .before .before .before .before .before .before .pre .0) ∙ not-false _ (c .before .before .before .before .if1 .left)), (c .before .before .before .before .before .before .before .before .before .before .pre .1, all-keep _))
 
--- src/entries.rt:153:1
 same-length : tie.Need-same-length
 same-length c = search needs
 
--- src/entries.rt:153:1
 same-length-2 : tie.Need-same-length-2
 same-length-2 c = search needs
 
--- src/entries.rt:153:1
 same-length-3 : tie.Need-same-length-3
 same-length-3 c = search needs
 
--- src/entries.rt:153:1
 same-length-4 : tie.Need-same-length-4
 same-length-4 c = search needs
 
--- src/entries.rt:153:1
 returns-2 : tie.Need-returns-2
-returns-2 c = search needs
+returns-2 c = c .before .before .before .before .before .before .before .before .run-section .ensures .0
 
 pub add-section-spec : {M : Type 1} → statement M
 add-section-spec =

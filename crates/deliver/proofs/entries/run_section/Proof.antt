@@ -11,13 +11,6 @@ use Rattle.store.proofs.Fitting.{SameLengths}
 use mathlib.Core.Path.{refl, _∙_}
 use Rattle.deliver.proofs.entries.run_section.Statement.{statement}
 use Rattle.deliver.proofs.entries.run_section.Tie as tie
-use Rattle.deliver.proofs.entries.run_section.Reads as reads
-use Rattle.deliver.proofs.entries.run_section.Lts as lts
-use Rattle.deliver.proofs.entries.update.Reads as update-reads
-use Rattle.deliver.proofs.tallies.tallied.Reads as tallied-reads
-use Rattle.delivery.proofs.entry_at.Reads as entry-at-reads
-use Rattle.delivery.proofs.section_start.Reads as section-start-reads
-use Rattle.delivery.proofs.short_at.Reads as short-at-reads
 
 abbrev Inv-loop : tie.InvT-loop
 Inv-loop statements₀ facts₀ kept₀ supports₀ bytes k adding start at₀ left₀ sum₀ statements facts kept supports at left sum = Left (updateOf adding) (keepsFormed adding) bytes (runEntries (updateOf adding) (section bytes k) (progress (tables statements₀ facts₀ kept₀ supports₀) sum₀)) (tables statements facts kept supports) at left sum × FormedStore statements facts kept supports × SameLengths (tables statements facts kept supports) (tables statements₀ facts₀ kept₀ supports₀)
@@ -25,67 +18,51 @@ Inv-loop statements₀ facts₀ kept₀ supports₀ bytes k adding start at₀ l
 abbrev μ-loop : tie.MeasureT-loop
 μ-loop statements₀ facts₀ kept₀ supports₀ bytes k adding start at₀ left₀ sum₀ statements facts kept supports at left sum = left
 
--- src/entries.rt:67:9
 section-start-requires : tie.Need-section-start-requires Inv-loop μ-loop
 section-start-requires c κs = omega (arith, c .before .before .before .before .before .pre .1 .0 .entries)
 
--- src/entries.rt:68:18
 add-at : tie.Need-add-at Inv-loop μ-loop
 add-at c = omega (arith, c .before .before .before .before .before .before .pre .1 .0 .entries, c .section-start .ensures .1)
 
--- src/entries.rt:69:9
 short-at-requires : tie.Need-short-at-requires Inv-loop μ-loop
 short-at-requires c κs = omega (arith, c .before .before .before .before .before .before .pre .1 .0 .entries, c .section-start .ensures .1)
 
--- src/entries.rt:71:5
 loop-holds : tie.Need-loop-holds Inv-loop μ-loop
 loop-holds c = (left-first _ _ _ _ (c .before .before .before .before .before .before .before .args .k) (c .before .section-start .result) _ _ (c .before .before .before .before .before .before .before .pre .1 .0) (c .before .before .before .before .before .before .before .pre .1 .1) (c .before .section-start .ensures .0) (c .short-at .ensures .0), c .before .before .before .before .before .before .before .pre .0, record { same-statements = refl; same-facts = refl; same-kept = refl; same-supports = refl })
 
--- src/entries.rt:72:13
 entry-at-requires : tie.Need-entry-at-requires Inv-loop μ-loop
 entry-at-requires c κs = omega (arith, c .before .loop .inv .0 .inside, c .loop-test .taken)
 
--- src/entries.rt:73:13
 update-requires : tie.Need-update-requires Inv-loop μ-loop
 update-requires c κs = c .before .before .before .before .before .before .loop .inv .1
 
--- src/entries.rt:74:9
 tallied-requires : tie.Need-tallied-requires Inv-loop μ-loop
 tallied-requires c κs = omega (arith, c .before .before .before .before .before .before .before .before .before .before .before .before .before .before .before .loop .inv .0 .room, c .before .before .before .before .before .before .before .before .before .before .before .before .before .before .loop-test .taken)
 
--- src/entries.rt:75:9
 add-at-2 : tie.Need-add-at-2 Inv-loop μ-loop
 add-at-2 c = omega (arith, c .before .before .before .before .before .before .before .before .before .before .before .before .before .before .before .before .loop .inv .0 .inside, c .before .before .before .before .before .before .before .before .before .before .before .before .before .before .before .loop-test .taken, whole-length _ (c .before .before .before .before .before .before .before .before .before .before .before .before .before .before .before .before .before .before .before .before .before .before .before .before .pre .1 .0 .whole))
 
--- src/entries.rt:76:9
 sub-left : tie.Need-sub-left Inv-loop μ-loop
 sub-left c = omega (arith, c .before .before .before .before .before .before .before .before .before .before .before .before .before .before .before .loop-test .taken)
 
--- src/entries.rt:71:5
 loop-less : tie.Need-loop-less Inv-loop μ-loop
 loop-less c = omega (arith, c .before .before .before .before .before .before .before .before .before .before .before .before .before .before .before .loop-test .taken)
 
--- src/entries.rt:71:5
 loop-again : tie.Need-loop-again Inv-loop μ-loop
 loop-again c = (left-next (c .before .before .before .before .before .before .before .before .before .before .before .before .before .before .before .before .loop .left) (c .before .before .before .before .before .before .before .before .before .before .before .before .before .before .before .before .loop .inv .0) (c .before .before .before .before .before .before .before .before .before .before .before .before .before .before .before .loop-test .taken) (c .before .before .before .before .before .before .before .before .before .before .before .before .before .before .entry-at .result) (c .before .before .before .before .before .before .before .before .before .before .before .before .before .before .entry-at .ensures) (c .before .before .before .before .before .before .before .before .before .update .result) (c .before .before .before .before .before .before .before .before .before .update .ensures) (c .tallied .ensures), stays-formed (c .before .before .before .before .before .before .before .before .before .before .before .before .before .before .before .before .before .before .before .before .before .before .before .before .args .adding) (c .before .before .before .before .before .before .before .before .before .update .result) (c .before .before .before .before .before .before .before .before .before .before .before .before .before .before .entry-at .result) (left-tested (c .before .before .before .before .before .before .before .before .before .before .before .before .before .before .before .before .loop .left) (c .before .before .before .before .before .before .before .before .before .before .before .before .before .before .before .before .loop .inv .0) (c .before .before .before .before .before .before .before .before .before .before .before .before .before .before .before .loop-test .taken) (c .before .before .before .before .before .before .before .before .before .before .before .before .before .before .entry-at .result) (c .before .before .before .before .before .before .before .before .before .before .before .before .before .before .entry-at .ensures)) (c .before .before .before .before .before .before .before .before .before .before .before .before .before .before .before .before .loop .inv .1) (c .before .before .before .before .before .before .before .before .before .update .ensures), record { same-statements = c .before .before .before .before .before .before .before .before .before .update .kept .0 ∙ c .before .before .before .before .before .before .before .before .before .before .before .before .before .before .before .before .loop .inv .2 .same-statements; same-facts = c .before .before .before .before .before .before .before .before .before .update .kept .1 .0 ∙ c .before .before .before .before .before .before .before .before .before .before .before .before .before .before .before .before .loop .inv .2 .same-facts; same-kept = c .before .before .before .before .before .before .before .before .before .update .kept .1 .1 .0 ∙ c .before .before .before .before .before .before .before .before .before .before .before .before .before .before .before .before .loop .inv .2 .same-kept; same-supports = c .before .before .before .before .before .before .before .before .before .update .kept .1 .1 .1 .0 ∙ c .before .before .before .before .before .before .before .before .before .before .before .before .before .before .before .before .loop .inv .2 .same-supports })
 
--- src/entries.rt:52:1
 same-length : tie.Need-same-length Inv-loop μ-loop
 same-length c = c .before .loop .inv .2 .same-statements
 
--- src/entries.rt:52:1
 same-length-2 : tie.Need-same-length-2 Inv-loop μ-loop
 same-length-2 c = c .before .loop .inv .2 .same-facts
 
--- src/entries.rt:52:1
 same-length-3 : tie.Need-same-length-3 Inv-loop μ-loop
 same-length-3 c = c .before .loop .inv .2 .same-kept
 
--- src/entries.rt:52:1
 same-length-4 : tie.Need-same-length-4 Inv-loop μ-loop
 same-length-4 c = c .before .loop .inv .2 .same-supports
 
--- src/entries.rt:52:1
 returns : tie.Need-returns Inv-loop μ-loop
 returns c = (left-none (c .before .loop .left) (c .before .loop .inv .0) (c .loop-test .left), c .before .loop .inv .1)
 

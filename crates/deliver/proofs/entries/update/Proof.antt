@@ -3,56 +3,40 @@ use Rattle.deliver.proofs.Formed.{update-adds, update-withdraws}
 use borrow.Author.Needs.{needs}
 use Rattle.deliver.proofs.entries.update.Statement.{statement}
 use Rattle.deliver.proofs.entries.update.Tie as tie
-use Rattle.deliver.proofs.entries.update.Reads as reads
-use Rattle.deliver.proofs.entries.update.Lts as lts
-use Rattle.store.proofs.add_to_formed.Reads as add-to-formed-reads
-use Rattle.store.proofs.withdraw_from_formed.Reads as withdraw-from-formed-reads
 
--- src/entries.rt:22:9
 add-to-formed-requires : tie.Need-add-to-formed-requires
 add-to-formed-requires c κs = search needs
 
--- src/entries.rt:22:9
 same-length : tie.Need-same-length
 same-length c = search needs
 
--- src/entries.rt:22:9
 same-length-2 : tie.Need-same-length-2
 same-length-2 c = search needs
 
--- src/entries.rt:22:9
 same-length-3 : tie.Need-same-length-3
 same-length-3 c = search needs
 
--- src/entries.rt:22:9
 same-length-4 : tie.Need-same-length-4
 same-length-4 c = search needs
 
--- src/entries.rt:22:9
 returns : tie.Need-returns
 returns c = update-adds (c .before .before .before .before .before .before .before .before .before .before .before .before .before .before .before .before .before .before .args .adding) _ _ _ (c .before .before .before .before .before .before .before .before .before .before .before .before .before .before .before .before .before .before .args .triple) (c .before .before .before .before .before .before .before .before .before .before .before .before .before .if1 .taken) (c .before .before .before .before .before .before .before .before .add-to-formed .ensures)
 
--- src/entries.rt:24:5
 withdraw-from-formed-requires : tie.Need-withdraw-from-formed-requires
 withdraw-from-formed-requires c κs = search needs
 
--- src/entries.rt:10:1
 same-length-5 : tie.Need-same-length-5
 same-length-5 c = search needs
 
--- src/entries.rt:10:1
 same-length-6 : tie.Need-same-length-6
 same-length-6 c = search needs
 
--- src/entries.rt:10:1
 same-length-7 : tie.Need-same-length-7
 same-length-7 c = search needs
 
--- src/entries.rt:10:1
 same-length-8 : tie.Need-same-length-8
 same-length-8 c = search needs
 
--- src/entries.rt:10:1
 returns-2 : tie.Need-returns-2
 returns-2 c = update-withdraws (c .before .before .before .before .before .before .before .before .before .before .before .before .before .before .before .before .before .before .args .adding) _ _ _ (c .before .before .before .before .before .before .before .before .before .before .before .before .before .before .before .before .before .before .args .triple) (c .before .before .before .before .before .before .before .before .before .before .before .before .before .if1 .left) (c .before .before .before .before .before .before .before .before .withdraw-from-formed .ensures)
 

@@ -7,52 +7,37 @@ use Rattle.deliver.proofs.Formed.{lowered-places, lowered-within, lower
 use borrow.Author.Needs.{needs}
 use Rattle.deliver.proofs.entries.withdraw_fact.Statement.{statement}
 use Rattle.deliver.proofs.entries.withdraw_fact.Tie as tie
-use Rattle.deliver.proofs.entries.withdraw_fact.Reads as reads
-use Rattle.deliver.proofs.entries.withdraw_fact.Lts as lts
-use Rattle.deliver.proofs.supports.bound.Reads as bound-reads
-use Rattle.store.proofs.withdraw_from_formed.Reads as withdraw-from-formed-reads
 
--- src/entries.rt:98:9
 withdraw-from-formed-requires : tie.Need-withdraw-from-formed-requires
 withdraw-from-formed-requires c κs = search needs
 
--- src/entries.rt:99:13
 slice-read-n : tie.Need-slice-read-n
 slice-read-n c = search needs
 
--- src/entries.rt:99:13
 cast-n : tie.Need-cast-n
 cast-n c = omega (arith, c .slice-known9 .given 0)
 
--- src/entries.rt:100:32
 slice-read-bound : tie.Need-slice-read-bound
 slice-read-bound c = search needs
 
--- src/entries.rt:100:32
 cast-bound : tie.Need-cast-bound
 cast-bound c = omega (arith, c .slice-known10 .given 0)
 
--- src/entries.rt:100:9
 bound-requires : tie.Need-bound-requires
 bound-requires c κs = (lowered-places (c .before .before .before .before .before .before .before .before .before .before .before .before .before .before .before .before .before .before .before .before .args .fact) (c .before .before .before .before .before .before .before .before .before .before .before .before .before .before .before .before .before .before .before .before .pre .0) (c .before .before .before .before .before .before .before .before .before .before .before .before .before .before .before .before .before .before .before .before .pre .1 .0) (c .before .before .before .before .before .before .before .before .before .before .before .withdraw-from-formed .ensures), lowered-within (c .before .before .before .before .before .before .before .before .before .before .before .before .before .before .before .before .before .before .before .before .args .fact) (c .before .before .before .before .before .before .before .before .before .before .before .before .before .before .before .before .before .before .before .before .pre .0) (c .before .before .before .before .before .before .before .before .before .before .before .before .before .before .before .before .before .before .before .before .pre .1 .0) (c .before .before .before .before .before .before .before .before .before .before .before .withdraw-from-formed .ensures) _ (c .before .before .before .before .before .before .before .before .before .before .before .before .before .before .before .before .before .before .before .before .pre .1 .1))
 
--- src/entries.rt:83:1
 same-length : tie.Need-same-length
 same-length c = search needs
 
--- src/entries.rt:83:1
 same-length-2 : tie.Need-same-length-2
 same-length-2 c = search needs
 
--- src/entries.rt:83:1
 same-length-3 : tie.Need-same-length-3
 same-length-3 c = search needs
 
--- src/entries.rt:83:1
 same-length-4 : tie.Need-same-length-4
 same-length-4 c = search needs
 
--- src/entries.rt:83:1
 returns : tie.Need-returns
 returns c = (ap (λ (o : Outcome). asPair o) (c .before .before .before .before .before .before .before .before .before .before .before .before .withdraw-from-formed .ensures), (c .bound .ensures .0, lowered-formed (c .before .before .before .before .before .before .before .before .before .before .before .before .before .before .before .before .before .before .before .before .before .args .fact) (c .before .before .before .before .before .before .before .before .before .before .before .before .before .before .before .before .before .before .before .before .before .pre .0) (c .before .before .before .before .before .before .before .before .before .before .before .before .before .before .before .before .before .before .before .before .before .pre .1 .0) (c .before .before .before .before .before .before .before .before .before .before .before .before .withdraw-from-formed .ensures) (c .bound .result) (c .bound .ensures .0) (c .bound .ensures .1)))
 

@@ -8,9 +8,6 @@ use Rattle.deliver.specs.Running.{highest}
 use Rattle.deliver.proofs.Highest.{highest-more, highest-end}
 use Rattle.deliver.proofs.supports.highest.Statement.{statement}
 use Rattle.deliver.proofs.supports.highest.Tie as tie
-use Rattle.deliver.proofs.supports.highest.Reads as reads
-use Rattle.deliver.proofs.supports.highest.Lts as lts
-use Rattle.deliver.proofs.supports.higher.Reads as higher-reads
 
 abbrev Inv-loop : tie.InvT-loop
 Inv-loop supports n most₀ i₀ most i = (i ≤ n) × (max most (highest (drop i (take n supports))) ≡ highest (take n supports))
@@ -18,39 +15,30 @@ Inv-loop supports n most₀ i₀ most i = (i ≤ n) × (max most (highest (drop 
 abbrev μ-loop : tie.MeasureT-loop
 μ-loop supports n most₀ i₀ most i = n - i
 
--- src/supports.rt:25:5
 loop-holds : tie.Need-loop-holds Inv-loop μ-loop
 loop-holds c = (search needs, omega arith)
 
--- src/supports.rt:26:29
 mul-higher : tie.Need-mul-higher Inv-loop μ-loop
 mul-higher c = search needs
 
--- src/supports.rt:26:29
 shared-slice-read-higher : tie.Need-shared-slice-read-higher Inv-loop μ-loop
 shared-slice-read-higher c = search needs
 
--- src/supports.rt:26:29
 cast-higher : tie.Need-cast-higher Inv-loop μ-loop
 cast-higher c = omega (arith, c .shared-slice-known2 .given (c .before .before .loop .i))
 
--- src/supports.rt:26:9
 higher-requires : tie.Need-higher-requires Inv-loop μ-loop
 higher-requires c κs = search needs
 
--- src/supports.rt:27:9
 add-i : tie.Need-add-i Inv-loop μ-loop
 add-i c = search needs
 
--- src/supports.rt:25:5
 loop-less : tie.Need-loop-less Inv-loop μ-loop
 loop-less c = search needs
 
--- src/supports.rt:25:5
 loop-again : tie.Need-loop-again Inv-loop μ-loop
 loop-again c = (search needs, rw (c .higher .ensures) (highest-more (c .before .before .before .before .before .args .n) (c .before .before .before .before .before .args .supports .now) (c .before .before .before .before .before .pre) (c .before .before .before .loop .i) (c .before .before .before .loop .most) (c .before .before .loop-test .taken) (c .before .before .before .loop .inv .1)))
 
--- src/supports.rt:19:1
 returns : tie.Need-returns Inv-loop μ-loop
 returns c = highest-end (c .before .before .before .args .n) (c .before .before .before .args .supports .now) (c .before .before .before .pre) (c .before .loop .i) (c .before .loop .most) (c .loop-test .left) (c .before .loop .inv .1)
 

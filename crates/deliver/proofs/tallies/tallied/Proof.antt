@@ -3,42 +3,31 @@ use Rattle.deliver.proofs.Runs.{applied-tallied, idle-tallied, refused-
 use borrow.Author.Needs.{needs}
 use Rattle.deliver.proofs.tallies.tallied.Statement.{statement}
 use Rattle.deliver.proofs.tallies.tallied.Tie as tie
-use Rattle.deliver.proofs.tallies.tallied.Reads as reads
-use Rattle.deliver.proofs.tallies.tallied.Lts as lts
 
--- src/tallies.rt:27:22
 enum-told : tie.Need-enum-told
 enum-told c = search needs
 
--- src/tallies.rt:27:22
 add-t4 : tie.Need-add-t4
 add-t4 c = search needs
 
--- src/tallies.rt:33:19
 enum-told-2 : tie.Need-enum-told-2
 enum-told-2 c = search needs
 
--- src/tallies.rt:33:19
 add-t5 : tie.Need-add-t5
 add-t5 c = search needs
 
--- src/tallies.rt:39:22
 enum-told-3 : tie.Need-enum-told-3
 enum-told-3 c = search needs
 
--- src/tallies.rt:39:22
 add-t6 : tie.Need-add-t6
 add-t6 c = search needs
 
--- src/tallies.rt:21:1
 returns : tie.Need-returns
 returns c = applied-tallied (c .before .before .before .args .answer) (c .before .before .before .args .counted) (c .before .enum-told .given .1)
 
--- src/tallies.rt:21:1
 returns-2 : tie.Need-returns-2
 returns-2 c = idle-tallied (c .before .before .before .args .answer) (c .before .before .before .args .counted) (c .before .enum-told2 .given .1)
 
--- src/tallies.rt:21:1
 returns-3 : tie.Need-returns-3
 returns-3 c = refused-tallied (c .before .before .before .args .answer) _ (c .before .before .before .args .counted) (c .before .enum-told3 .given .1)
 
