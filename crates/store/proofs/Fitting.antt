@@ -102,7 +102,7 @@ module _ {c : Contents} {T : Tables} (X : Fitting c T) (H : Worded T) where
 -- ---- what well-formed tables hold fits them
 
 module _ {S F K U : List ℕ} (W : FormedStore S F K U) where
-  supports-are : keptSupports (keptOf K U) ≡ take (count K) U
+  pub supports-are : keptSupports (keptOf K U) ≡ take (count K) U
   supports-are = rw (keptOf-entries K U (count K) (length-rows K)) (keptSupports-entries (count K) K U (W .supports .within))
 
   formed-fits : Fitting (contentsOf (tables S F K U)) (tables S F K U)
