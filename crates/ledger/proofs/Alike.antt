@@ -3,12 +3,9 @@ use Prim.Native.Nat.{ℕ, zero, suc}
 use mathlib.Core.Path.{_≡_, refl, ap, ap₂}
 use mathlib.Core.List.{List, [], _∷_}
 use Rattle.rdf.specs.declared.Triple.{Triple}
-use Rattle.store.specs.declared.Answer.{Answer}
 use Rattle.delivery.specs.Message.{Message, numberFields, numberOf}
-use Rattle.deliver.specs.declared.Tally.{Tally}
-use Rattle.deliver.specs.declared.Delivered.{Delivered}
 use Rattle.deliver.specs.Deliver.{tally, tallied, Update, Progress, progress, runEntry, runEntries, runMessage, delivered, conclude}
-use Rattle.ledger.specs.Ledger.{Call, Given, answered, resulted, Run, Entries, call, calls}
+use Rattle.ledger.specs.Ledger.{Call, answered, resulted, Run, Entries, call, calls}
 
 module _ {A B : Type 0} (R : A → B → Type 0) where
   -- Two results are alike: they give the same, and what holds the triples after them is related.

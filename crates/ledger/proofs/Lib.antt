@@ -1,1 +1,3 @@
 pub mod Alike
+pub mod Agreement
+pub mod History
