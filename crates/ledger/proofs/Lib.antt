@@ -1,3 +1,4 @@
 pub mod Alike
 pub mod Agreement
 pub mod History
+pub mod Instances
