@@ -2,3 +2,4 @@ pub mod Alike
 pub mod Agreement
 pub mod History
 pub mod Instances
+pub mod Running
