@@ -1,12 +1,11 @@
 -- Encoded calls, as the code runs them: parts of bytes, replies written one after the other, and each turn of the loop. Assumes nothing.
 use Prim.Native.Nat.{ℕ, zero, suc, _+_, _-_, _*_, _/_, _≤_, _<_, min}
-use mathlib.Core.Path.{_≡_, refl, sym, ap, ap₂, _∙_}
+use mathlib.Core.Path.{_≡_, refl, sym, ap, _∙_}
 use mathlib.Core.Logic.{⊎-elim}
 use mathlib.Core.List.{List, [], _∷_, _++_}
 use native.Mathlib.Omega.{arith}
-use lib.ListN.{length, getD, take, drop, set, length-append, length-drop, drop-of-length-le}
+use lib.ListN.{length, getD, take, drop, set, replicate, length-append, length-drop, drop-of-length-le}
 use lib.Seq.{take-all, sets, length-sets, sets-eq}
-use Rattle.rdf.specs.declared.Triple.{Triple}
 use Rattle.rdf.specs.Triple.{triple}
 use Rattle.sort.proofs.Tables.{le-or}
 use Rattle.store.specs.declared.Answer.{Answer}
@@ -14,8 +13,8 @@ use Rattle.store.specs.Store.{Tables, tables}
 use Rattle.store.specs.Update.{Outcome, outcome, add, withdraw}
 use Rattle.deliver.specs.declared.Delivered.{Delivered}
 use Rattle.deliver.specs.Deliver.{deliver}
-use Rattle.ledger.specs.Ledger.{Call, Given, answered, resulted, Run, call, calls}
-use Rattle.ledger.specs.History.{storeEntries, emptyStore, storeRun, ledgerRun}
+use Rattle.ledger.specs.Ledger.{Given, answered, resulted, call, calls}
+use Rattle.ledger.specs.History.{storeEntries, emptyStore, storeRun}
 use Rattle.ledger.specs.Encoded.{callOf, callsFrom, encoded, givenWords, replyWords, wordedCall, Runnable, Ran}
 use Rattle.ledger.proofs.History.{history}
 
@@ -38,11 +37,16 @@ drop-least a xs =
     (le-or a (length xs))
 
 -- A part whose start and size are cut to what there is.
-pub part-is : (xs : List ℕ) (a b start n : ℕ) → start ≡ min a (length xs) → n ≡ min b (length xs - start) → take (start + n - start) (drop start xs) ≡ take b (drop a xs)
+part-is : (xs : List ℕ) (a b start n : ℕ) → start ≡ min a (length xs) → n ≡ min b (length xs - start) → take (start + n - start) (drop start xs) ≡ take b (drop a xs)
 part-is xs a b start n e f =
     let m : start + n - start ≡ n = omega arith in
     let g : n ≡ min b (length (drop start xs)) = rw (length-drop start xs) f in
     rw (m, g) (take-least b (drop start xs) ∙ ap (take b) (rw e (drop-least a xs)))
+
+-- The delivery of such a part.
+pub part-delivered : (T T' : Tables) (r : Delivered) (xs : List ℕ) (a b start n : ℕ) → start ≡ min a (length xs) → n ≡ min b (length xs - start)
+    → (r, T') ≡ deliver T (take (start + n - start) (drop start xs)) → (r, T') ≡ deliver T (take b (drop a xs))
+part-delivered T T' r xs a b start n e f h = h ∙ ap (deliver T) (part-is xs a b start n e f)
 
 -- ---- one call
 
@@ -95,7 +99,6 @@ sets-append (a ∷ vs) ws l i = let e : i + suc (length vs) ≡ suc i + length v
 -- Words stored from the start on, with what is behind them.
 sets-front : (vs l : List ℕ) → length vs ≤ length l → sets l 0 vs ≡ vs ++ drop (length vs) l
 sets-front vs l h = let e : 0 + length vs ≡ length vs = omega arith in sets-eq vs l 0 (omega arith) ∙ rw e refl
-
 
 -- Each call gives five words.
 replies-length : (words bytes : List ℕ) (at n : ℕ) (T : Tables) → length (replyWords (calls storeEntries (callsFrom words bytes at n) T .given)) ≡ n * 5
@@ -155,13 +158,18 @@ module _ {words bytes replies₀ : List ℕ} {T₀ : Tables} where
 
 -- ---- the whole
 
--- All calls run from empty tables leave and give what the ledger does.
-pub ran : (s f k u : ℕ) (words bytes replies replies' : List ℕ) (T : Tables) → 0 < s → 0 < f → 0 < k → length words / 4 * 5 ≤ length replies
-    → T ≡ calls storeEntries (encoded words bytes) (emptyStore s f k u) .after
-    → replies' ≡ sets replies 0 (replyWords (calls storeEntries (encoded words bytes) (emptyStore s f k u) .given))
-    → Ran s f k u words bytes replies T replies'
-ran s f k u words bytes replies replies' T h i j r e g =
-    let D = history s f k u h i j (encoded words bytes) in
-    let few : length (replyWords (storeRun s f k u (encoded words bytes) .given)) ≤ length replies = omega (arith, replies-length words bytes 0 (length words / 4) (emptyStore s f k u)) in
-    let w : replies' ≡ replyWords (storeRun s f k u (encoded words bytes) .given) ++ drop (length (replyWords (storeRun s f k u (encoded words bytes) .given))) replies = g ∙ sets-front (replyWords (storeRun s f k u (encoded words bytes) .given)) replies few in
-    record { words = e ∙ D .words; given = rw (D .answers) at w }
+-- All calls run from cleared tables leave and give what the ledger does.
+pub ran : (T₀ : Tables) (words bytes replies replies' S F K U : List ℕ) (T : Tables) → Runnable T₀ words replies
+    → S ≡ replicate (length (T₀ .statements)) 0 → F ≡ replicate (length (T₀ .facts)) 0 → K ≡ replicate (length (T₀ .kept)) 0 → U ≡ replicate (length (T₀ .supports)) 0
+    → T ≡ calls storeEntries (encoded words bytes) (tables S F K U) .after
+    → replies' ≡ sets replies 0 (replyWords (calls storeEntries (encoded words bytes) (tables S F K U) .given))
+    → Ran (length (T₀ .statements)) (length (T₀ .facts)) (length (T₀ .kept)) (length (T₀ .supports)) words bytes replies T replies'
+ran T₀ words bytes replies replies' S F K U T R a b c d e g =
+    let s : ℕ = length (T₀ .statements) in
+    let f : ℕ = length (T₀ .facts) in
+    let k : ℕ = length (T₀ .kept) in
+    let u : ℕ = length (T₀ .supports) in
+    let D = history s f k u (R .statement-words) (R .fact-words) (R .kept-words) (encoded words bytes) in
+    let few : length (replyWords (storeRun s f k u (encoded words bytes) .given)) ≤ length replies = omega (arith, R .reply-words, replies-length words bytes 0 (length words / 4) (emptyStore s f k u)) in
+    let w : replies' ≡ replyWords (storeRun s f k u (encoded words bytes) .given) ++ drop (length (replyWords (storeRun s f k u (encoded words bytes) .given))) replies = (rw (a, b, c, d) at g) ∙ sets-front (replyWords (storeRun s f k u (encoded words bytes) .given)) replies few in
+    record { words = (rw (a, b, c, d) at e) ∙ D .words; given = rw (D .answers) at w }
