@@ -1,15 +1,15 @@
 -- A grown store agrees with the ledger of what it holds: its updates and deliveries go as the ledger's. Assumes nothing.
 use Prim.Native.Nat.{ℕ, zero, suc}
-use mathlib.Core.Path.{_≡_, refl, ap, _∙_}
+use mathlib.Core.Path.{_≡_, refl, ap, ap₂, _∙_}
 use mathlib.Core.Bool.{Bool, true, false, _||_, not}
 use mathlib.Core.Logic.{⊎-elim}
-use mathlib.Core.List.{List, _∷_, List·Memᴰ, Memᴰ·cast}
+use mathlib.Core.List.{List, [], _∷_, _++_, List·Memᴰ, Memᴰ·cast}
 use lib.ListN.{length}
 use borrow.Author.Tests.{le-leb}
 use Rattle.rdf.specs.declared.Triple.{Triple}
 use Rattle.rdf.specs.Triple.{isStatement}
 use Rattle.rdf.specs.Order.{Ascending, insert}
-use Rattle.rdf.specs.Refusal.{firstNo}
+use Rattle.rdf.specs.Refusal.{firstNo, tripleQuestions}
 use Rattle.rdf.proofs.Lists.{by-test}
 use Rattle.rdf.proofs.Ascending.{insert-asc, insert-old, insert-cases, ascending-ext}
 use Rattle.table.specs.Table.{capacity}
@@ -110,11 +110,13 @@ yes-passed n b qs e = rw e refl
 
 -- Store and ledger refuse an addition by the same number,
 entry-asked : (T : Tables) (t : Triple) → Sound T → firstNo (entryQuestions (capacitiesOf T) (held (contentsOf T)) t) ≡ firstNo (additionQuestions t T)
-entry-asked T t G = rw (member-there, below-below, entering-fits T t G) (yes-passed 1 (areFormed T) _ (G .formed))
+entry-asked T t G =
+    ap₂ (λ (b d : Bool). firstNo (tripleQuestions t ++ ((4, b) ∷ (5, d) ∷ []))) (ap₂ _||_ (member-there t (contentsOf T)) (below-below t T)) (entering-fits T t G)
+    ∙ yes-passed 1 (areFormed T) _ (G .formed)
 
 -- and a withdrawal.
 removal-asked : (T : Tables) (t : Triple) → Sound T → firstNo (removalQuestions (capacitiesOf T) (held (contentsOf T)) t) ≡ firstNo (withdrawalQuestions t T)
-removal-asked T t G = rw (leaving-fits T t G) (yes-passed 1 (areFormed T) _ (G .formed))
+removal-asked T t G = ap (λ (b : Bool). firstNo (tripleQuestions t ++ ((5, b) ∷ []))) (leaving-fits T t G) ∙ yes-passed 1 (areFormed T) _ (G .formed)
 
 -- ---- updates
 
