@@ -1,0 +1,5 @@
+pub mod Alike
+pub mod Agreement
+pub mod History
+pub mod Instances
+pub mod Running

@@ -95,11 +95,11 @@ yes-first n true qs e = (refl, e)
 yes-first n false qs e = absurd (omega arith)
 
 -- What is not there is not in its table,
-there-false : (t : Triple) (c : Contents) → isThere t c ≡ false → ¬ List·Memᴰ t (cond (isStatement t) (c .statements) (c .facts))
+pub there-false : (t : Triple) (c : Contents) → isThere t c ≡ false → ¬ List·Memᴰ t (cond (isStatement t) (c .statements) (c .facts))
 there-false t c e m = true-not-false (sym (there-yes t c m) ∙ e)
 
 -- and what is there is.
-there-true : (t : Triple) (c : Contents) → isThere t c ≡ true → List·Memᴰ t (cond (isStatement t) (c .statements) (c .facts))
+pub there-true : (t : Triple) (c : Contents) → isThere t c ≡ true → List·Memᴰ t (cond (isStatement t) (c .statements) (c .facts))
 unfolding isThere
 there-true t c =
     choose-elim (λ (b : Bool). b ≡ true → List·Memᴰ t (cond (isStatement t) (c .statements) (c .facts))) (isIn equalTriples t (cond (isStatement t) (c .statements) (c .facts)))
@@ -170,14 +170,14 @@ abbrev pub Saturated : Contents → Type 0
 Saturated c = c .kept ≡ saturation (c .statements) (c .facts)
 
 -- Contents with a triple that was not there, and without one that was, are saturated again.
-with-saturated : (t : Triple) (c : Contents) → ¬ List·Memᴰ t (cond (isStatement t) (c .statements) (c .facts)) → Saturated c → Saturated (withTriple t c)
+pub with-saturated : (t : Triple) (c : Contents) → ¬ List·Memᴰ t (cond (isStatement t) (c .statements) (c .facts)) → Saturated c → Saturated (withTriple t c)
 unfolding withTriple
 with-saturated t c n e =
     by-test (isStatement t)
     (λ s. rw s refl)
     (λ s. rw (s, e) (raise-saturation (c .statements) (c .facts) t (rw s at n)))
 
-without-saturated : (t : Triple) (c : Contents) → List·Memᴰ t (cond (isStatement t) (c .statements) (c .facts)) → Saturated c → Saturated (withoutTriple t c)
+pub without-saturated : (t : Triple) (c : Contents) → List·Memᴰ t (cond (isStatement t) (c .statements) (c .facts)) → Saturated c → Saturated (withoutTriple t c)
 unfolding withoutTriple
 without-saturated t c m e =
     by-test (isStatement t)
