@@ -22,6 +22,10 @@ all-zero i t s z l h =
     ext-getD 0 s (replicate (length t) 0) (l ∙ sym (length-replicate {A = ℕ} (length t) 0))
     (λ w g. z .zeros w (omega arith) (omega arith) ∙ sym (getD-replicate {A = ℕ} (length t) w 0 0 (omega arith)))
 
+-- An output that was cleared.
+pub cleared : (ws : List ℕ) (n : ℕ) → ws ≡ replicate n 0 → ws ≡ replicate (length ws) 0
+cleared ws n e = e ∙ ap (λ (k : ℕ). replicate {A = ℕ} k 0) (sym (ap length e ∙ length-replicate {A = ℕ} n 0))
+
 -- Each of some zero words is zero, and so is what is read behind them.
 pub getD-zeros : (n w : ℕ) → getD (replicate {A = ℕ} n 0) w 0 ≡ 0
 getD-zeros zero w = refl

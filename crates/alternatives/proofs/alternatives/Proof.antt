@@ -6,7 +6,7 @@ use borrow.Author.Tests.{not-true, not-false}
 use lib.ListN.{length}
 use Rattle.output.specs.declared.Reply.the-variants.{Refused}
 use Rattle.output.specs.Output.{replied}
-use Rattle.query.proofs.AskLaws.{cleared}
+use Rattle.output.proofs.Filled.{cleared}
 use Rattle.alternatives.specs.Putting.{giveAlternatives}
 use Rattle.alternatives.proofs.GatherLaws.{refused-1, refused-6, passed}
 use borrow.Author.Needs.{needs}
