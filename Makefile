@@ -1,10 +1,10 @@
-# make run: the worked example and the cases about updates.  make test: everything that is proved and run.  make bench: measured speed.
+# make run: the worked example's delivery.  make test: everything that is proved and run.  make bench: measured speed.
 .PHONY: run test bench toolchain
 
 run: toolchain
 	@echo "proving and building the program (some minutes the first time) .." >&2
-	@rt check update_cases >target/run.log 2>&1 || { cat target/run.log; exit 1; }
-	@target/bin/update_cases
+	@rt check families >target/run.log 2>&1 || { cat target/run.log; exit 1; }
+	@target/bin/families <crates/families/stdin
 
 test: toolchain
 	@rt ci
