@@ -1,7 +1,7 @@
 -- Which updates keep a store well formed, and what a store that is not makes of every entry. Assumes nothing.
 use Prim.Native.Nat.{ℕ, _≤_, _<_}
 use mathlib.Core.Path.{_≡_, refl, sym, ap, subst, _∙_}
-use mathlib.Core.Bool.{Bool, true, false, not}
+use mathlib.Core.Bool.{Bool, true, false}
 use mathlib.Core.List.{List, [], _∷_}
 use native.Mathlib.Omega.{arith}
 use lib.ListN.{length, take}
@@ -21,7 +21,7 @@ use Rattle.store.proofs.Outcomes.{add-malformed, withdraw-malformed}
 use Rattle.store.proofs.Laws.{add-formed, withdraw-statement-formed}
 use Rattle.store.proofs.Lowered.{supportsOf, areSupportsWithin, withdraw-fact-formed, withdraw-fact-within, withdraw-fact-places}
 use Rattle.delivery.specs.Message.{isFact}
-use Rattle.deliver.specs.Deliver.{Update, Progress, asPair, addition, withdrawal, runEntry, runEntries}
+use Rattle.deliver.specs.Deliver.{Progress, asPair, addition, withdrawal, runEntry, runEntries}
 use Rattle.deliver.specs.Running.{highest, updateOf, keepsFormed}
 use Rattle.deliver.proofs.Highest.{within-highest, highest-within}
 

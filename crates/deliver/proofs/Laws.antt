@@ -1,15 +1,13 @@
 -- Laws of deliveries: what a refused one leaves, what the tallies add up to, and what unknown fields change. Assumes nothing.
 use Prim.Native.Nat.{ℕ, zero, suc, _+_}
-use mathlib.Core.Path.{_≡_, refl, sym, ap, _∙_}
+use mathlib.Core.Path.{_≡_, refl, ap, _∙_}
 use mathlib.Core.Bool.{true}
 use mathlib.Core.List.{List, _∷_}
 use native.Mathlib.Omega.{arith}
 use lib.ListN.{length}
-use Rattle.rdf.specs.declared.Triple.{Triple}
 use Rattle.rdf.specs.Refusal.{firstNo}
 use Rattle.store.specs.Store.{Tables, areFormed}
-use Rattle.delivery.specs.Message.{Message, read, isWhole, areSectionsRight, isNumberRight, numberFields, numberOf}
-use Rattle.deliver.specs.declared.Delivered.{Delivered}
+use Rattle.delivery.specs.Message.{Message, read, isWhole, areSectionsRight, numberFields, numberOf}
 use Rattle.deliver.specs.Deliver.{tally, Update, Progress, progress, runEntries, runMessage, addition, withdrawal, delivered, messageQuestions, conclude, deliver}
 use Rattle.deliver.specs.Running.{total}
 use Rattle.deliver.proofs.Runs.{run-total}

@@ -1,6 +1,6 @@
 -- The four sections of a whole delivery, one after the other. Assumes nothing.
-use Prim.Native.Nat.{ℕ, _+_, _*_, _≤_, _<_}
-use mathlib.Core.Path.{_≡_, refl, sym, ap, _∙_}
+use Prim.Native.Nat.{ℕ}
+use mathlib.Core.Path.{_≡_, sym, ap, _∙_}
 use mathlib.Core.Bool.{Bool, true, false}
 use mathlib.Core.List.{List}
 use native.Mathlib.Omega.{arith}
@@ -12,7 +12,7 @@ use Rattle.store.specs.Store.{Tables, areFormed}
 use Rattle.delivery.specs.Message.{read, isWhole, isFact, areSectionsRight}
 use Rattle.deliver.specs.declared.Tally.{Tally}
 use Rattle.deliver.specs.Deliver.{tally, Progress, progress, addition, withdrawal, runEntries, runMessage}
-use Rattle.deliver.specs.Running.{total, updateOf, keepsFormed, section, Next}
+use Rattle.deliver.specs.Running.{updateOf, keepsFormed, section, Next}
 use Rattle.deliver.proofs.Formed.{additions-formed}
 
 -- ---- what is asked of each

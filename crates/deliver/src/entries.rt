@@ -7,7 +7,7 @@ use crate::tallies::tallied;
 use rdf::Triple;
 use store::Answer;
 ghost use mathlib.Core.Path.{_≡_};
-ghost use mathlib.Core.Bool.{Bool, true};
+ghost use mathlib.Core.Bool.{true};
 ghost use Prim.Native.Nat.{_≤_};
 ghost use lib.ListN.{take};
 ghost use Rattle.table.specs.Table.{count, all};

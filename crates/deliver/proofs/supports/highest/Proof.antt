@@ -1,9 +1,9 @@
-use borrow.Author.Needs.{needs}
 -- The invariant: the highest of what is passed with that of what is left is the highest of all. Assumes nothing.
 use Prim.Native.Nat.{_-_, _≤_, max}
 use mathlib.Core.Path.{_≡_}
 use native.Mathlib.Omega.{arith}
 use lib.ListN.{take, drop}
+use borrow.Author.Needs.{needs}
 use Rattle.deliver.specs.Running.{highest}
 use Rattle.deliver.proofs.Highest.{highest-more, highest-end}
 use Rattle.deliver.proofs.supports.highest.Statement.{statement}
@@ -25,7 +25,10 @@ shared-slice-read-higher : tie.Need-shared-slice-read-higher Inv-loop μ-loop
 shared-slice-read-higher c = search needs
 
 cast-higher : tie.Need-cast-higher Inv-loop μ-loop
-cast-higher c = omega (arith, c .shared-slice-known2 .given (c .before .before .loop .i))
+cast-higher c =
+    let at-loop = c .before .before in
+    let after-shared-slice-known2 = c in
+    omega (arith, after-shared-slice-known2 .shared-slice-known2 .given (at-loop .loop .i))
 
 higher-requires : tie.Need-higher-requires Inv-loop μ-loop
 higher-requires c κs = search needs
@@ -37,10 +40,18 @@ loop-less : tie.Need-loop-less Inv-loop μ-loop
 loop-less c = search needs
 
 loop-again : tie.Need-loop-again Inv-loop μ-loop
-loop-again c = (search needs, rw (c .higher .ensures) (highest-more (c .before .before .before .before .before .args .n) (c .before .before .before .before .before .args .supports .now) (c .before .before .before .before .before .pre) (c .before .before .before .loop .i) (c .before .before .before .loop .most) (c .before .before .loop-test .taken) (c .before .before .before .loop .inv .1)))
+loop-again c =
+    let start = c .before .before .before .before .before in
+    let at-loop = c .before .before .before in
+    let in-loop = c .before .before in
+    let after-higher = c in
+    (search needs, rw (after-higher .higher .ensures) (highest-more (start .args .n) (start .args .supports .now) (start .pre) (at-loop .loop .i) (at-loop .loop .most) (in-loop .loop-test .taken) (at-loop .loop .inv .1)))
 
 returns : tie.Need-returns Inv-loop μ-loop
-returns c = highest-end (c .before .before .before .args .n) (c .before .before .before .args .supports .now) (c .before .before .before .pre) (c .before .loop .i) (c .before .loop .most) (c .loop-test .left) (c .before .loop .inv .1)
+returns c =
+    let start = c .before .before .before in
+    let at-loop = c .before in
+    highest-end (start .args .n) (start .args .supports .now) (start .pre) (at-loop .loop .i) (at-loop .loop .most) (c .loop-test .left) (at-loop .loop .inv .1)
 
 pub highest-spec : {M : Type 1} → statement M
 highest-spec =

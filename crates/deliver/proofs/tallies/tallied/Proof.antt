@@ -1,6 +1,6 @@
 -- By the answer. Assumes nothing.
-use Rattle.deliver.proofs.Runs.{applied-tallied, idle-tallied, refused-tallied}
 use borrow.Author.Needs.{needs}
+use Rattle.deliver.proofs.Runs.{applied-tallied, idle-tallied, refused-tallied}
 use Rattle.deliver.proofs.tallies.tallied.Statement.{statement}
 use Rattle.deliver.proofs.tallies.tallied.Tie as tie
 
@@ -23,13 +23,22 @@ add-t6 : tie.Need-add-t6
 add-t6 c = search needs
 
 returns : tie.Need-returns
-returns c = applied-tallied (c .before .before .before .args .answer) (c .before .before .before .args .counted) (c .before .enum-told .given .1)
+returns c =
+    let start = c .before .before .before in
+    let after-enum-told = c .before in
+    applied-tallied (start .args .answer) (start .args .counted) (after-enum-told .enum-told .given .1)
 
 returns-2 : tie.Need-returns-2
-returns-2 c = idle-tallied (c .before .before .before .args .answer) (c .before .before .before .args .counted) (c .before .enum-told2 .given .1)
+returns-2 c =
+    let start = c .before .before .before in
+    let after-enum-told2 = c .before in
+    idle-tallied (start .args .answer) (start .args .counted) (after-enum-told2 .enum-told2 .given .1)
 
 returns-3 : tie.Need-returns-3
-returns-3 c = refused-tallied (c .before .before .before .args .answer) _ (c .before .before .before .args .counted) (c .before .enum-told3 .given .1)
+returns-3 c =
+    let start = c .before .before .before in
+    let after-enum-told3 = c .before in
+    refused-tallied (start .args .answer) _ (start .args .counted) (after-enum-told3 .enum-told3 .given .1)
 
 pub tallied-spec : {M : Type 1} → statement M
 tallied-spec =
