@@ -1,5 +1,5 @@
 -- Answers and replies as numbers. Assumes nothing.
-use Prim.Native.Nat.{ℕ, zero, suc, _^_, _≤_, _<_}
+use Prim.Native.Nat.{ℕ, zero, suc, _%_, _^_, _≤_, _<_}
 use mathlib.Core.Path.{_≡_, refl, ap}
 use mathlib.Core.Bool.{Bool, true, false}
 use mathlib.Core.List.{List, map}
@@ -18,7 +18,8 @@ use Rattle.listing.specs.Listing.{arranged, listingRows, listingQuestions, list
 use Rattle.store.specs.declared.Answer.{Answer}
 use Rattle.store.specs.Store.{Tables}
 use Rattle.store.specs.Update.{Outcome, outcome, answerNumber}
-use Rattle.capi.specs.Numbered.{updated, numberedOutcome, listed, numberedReply}
+use Rattle.deliver.specs.declared.Delivered.{Delivered}
+use Rattle.capi.specs.Numbered.{updated, numberedOutcome, received, resultWords, numberedDelivery, listed, numberedReply, wideReply}
 
 -- An update's number and tables are those of its outcome.
 pub update-numbered : (a : Answer) (n : ℕ) (T : Tables) (o : Outcome) → n ≡ answerNumber a → outcome a T ≡ o → updated n T ≡ numberedOutcome o
@@ -27,6 +28,14 @@ update-numbered a n T o e h = rw e (ap numberedOutcome h)
 -- A reply's number, count and words are those of what was replied.
 pub reply-numbered : (p : Reply) (n c : ℕ) (ws : List ℕ) (o : Replied) → n ≡ replyNumber p → c ≡ replyCount p → replied p ws ≡ o → listed n c ws ≡ numberedReply o
 reply-numbered p n c ws o e f h = rw (e, f) (ap numberedReply h)
+
+-- The same for a count modulo 2^32.
+pub wide-numbered : (p : Reply) (n c : ℕ) (ws : List ℕ) (o : Replied) → n ≡ replyNumber p → c ≡ replyCount p % 2 ^ 32 → replied p ws ≡ o → listed n c ws ≡ wideReply o
+wide-numbered p n c ws o e f h = rw (e, f) (ap wideReply h)
+
+-- A delivery's number, result and tables are those of what was delivered.
+pub delivery-numbered : (d : Delivered) (n : ℕ) (ws : List ℕ) (T : Tables) (o : Delivered × Tables) → n ≡ d .refusal → ws ≡ resultWords d → (d, T) ≡ o → received n ws T ≡ numberedDelivery o
+delivery-numbered d n ws T o e f h = rw (e, f) (ap numberedDelivery h)
 
 -- The count of rows that were given.
 pub rows-below : (p : Reply) (n : ℕ) → p ≡ Rows n → replyCount p < 2 ^ 32 → n < 2 ^ 32

@@ -1,17 +1,21 @@
 // The exported library: each entry under its C name, with numbers for answers (include/families.h).
+use deliver::Delivered;
 use output::Reply;
 use rdf::Triple;
 use store::Answer;
 ghost use mathlib.Core.Path.{_≡_};
-ghost use Prim.Native.Nat.{_^_, _<_};
+ghost use Prim.Native.Nat.{_%_, _^_, _<_};
 ghost use lib.ListN.{length};
 ghost use Rattle.rdf.specs.Triple.{triple};
 ghost use Rattle.table.specs.Table.{isStatementTable, isFactTable, isKeptTable};
 ghost use Rattle.output.specs.Output.{replyNumber, replyCount};
 ghost use Rattle.listing.specs.Listing.{listing};
+ghost use Rattle.query.specs.Ask.{askKept, askRewritten};
+ghost use Rattle.alternatives.specs.Reformulate.{reformulate};
 ghost use Rattle.store.specs.Store.{tables};
 ghost use Rattle.store.specs.Update.{add, withdraw, answerNumber};
-ghost use Rattle.capi.specs.Numbered.{updated, numberedOutcome, listed, numberedReply};
+ghost use Rattle.deliver.specs.Deliver.{deliver};
+ghost use Rattle.capi.specs.Numbered.{updated, numberedOutcome, received, numberedDelivery, resultWords, listed, numberedReply, wideReply};
 
 // The number of an answer.
 fn answer_number(answer: Answer) -> u32
@@ -66,6 +70,32 @@ pub extern "C" fn families_withdraw(
     answer_number(store::withdraw(statements, facts, kept, supports, triple))
 }
 
+// Writes what a delivery gave: its number and tallies. Returns 0 or the number that refused it.
+fn write_result(delivered: Delivered, result: &mut [u32; 4]) -> u32
+    ensures { λ r. ⌜ (r ≡ delivered .refusal) × (now (result .exit) ≡ resultWords delivered) ⌝ }
+{
+    result[0] = delivered.number;
+    result[1] = delivered.applied;
+    result[2] = delivered.idle;
+    result[3] = delivered.refused;
+    delivered.refusal
+}
+
+// Runs a delivery over a store.
+#[no_mangle]
+pub extern "C" fn families_deliver(
+    statements: &mut [u32],
+    facts: &mut [u32],
+    kept: &mut [u32],
+    supports: &mut [u16],
+    bytes: &[u8],
+    result: &mut [u32; 4],
+) -> u32
+    ensures { λ r. ⌜ received r (now (result .exit)) (tables (now (statements .exit)) (now (facts .exit)) (now (kept .exit)) (now (supports .exit))) ≡ numberedDelivery (deliver (tables (now (statements .entry)) (now (facts .entry)) (now (kept .entry)) (now (supports .entry))) (now (bytes .entry))) ⌝ }
+{
+    write_result(deliver::deliver(statements, facts, kept, supports, bytes), result)
+}
+
 // The number of a reply, with its row count written to count, and 0 there where it is a refusal.
 fn reply_number(reply: Reply, count: &mut u32) -> u32
     requires { ⌜ replyCount reply < 2 ^ 32 ⌝ }
@@ -81,6 +111,71 @@ fn reply_number(reply: Reply, count: &mut u32) -> u32
             n
         }
     }
+}
+
+// The number of a reply, with its row count modulo 2^32 written to count, and 0 there where it is a refusal. Only an output of 16 GiB or more
+// holds as many rows.
+fn wide_reply_number(reply: Reply, count: &mut u32) -> u32
+    ensures { λ r. ⌜ (r ≡ replyNumber reply) × (now (count .exit) ≡ replyCount reply % 2 ^ 32) ⌝ }
+{
+    match reply {
+        Reply::Rows(n) => {
+            *count = (n % 4294967296) as u32;
+            0
+        }
+        Reply::Refused(n) => {
+            *count = 0;
+            n
+        }
+    }
+}
+
+// Puts a question to the statements and the kept facts.
+#[no_mangle]
+pub extern "C" fn families_ask_kept(
+    statements: &[u32],
+    kept: &[u32],
+    question: &[u32],
+    rows: &mut [u32],
+    count: &mut u32,
+) -> u32
+    ensures { λ r. ⌜ listed r (now (count .exit)) (now (rows .exit)) ≡ wideReply (askKept (now (statements .entry)) (now (kept .entry)) (now (question .entry)) (length (now (rows .entry)))) ⌝ }
+{
+    wide_reply_number(ask::ask_kept(statements, kept, question, rows), count)
+}
+
+// Puts a question to the statements and the explicit facts.
+#[no_mangle]
+pub extern "C" fn families_ask_rewritten(
+    statements: &[u32],
+    facts: &[u32],
+    question: &[u32],
+    rows: &mut [u32],
+    count: &mut u32,
+) -> u32
+    ensures { λ r. ⌜ listed r (now (count .exit)) (now (rows .exit)) ≡ wideReply (askRewritten (now (statements .entry)) (now (facts .entry)) (now (question .entry)) (length (now (rows .entry)))) ⌝ }
+{
+    wide_reply_number(ask::ask_rewritten(statements, facts, question, rows), count)
+}
+
+// Gives the alternatives of an atom.
+#[no_mangle]
+pub extern "C" fn families_alternatives(
+    statements: &[u32],
+    subject: u32,
+    property: u32,
+    object: u32,
+    rows: &mut [u32],
+    count: &mut u32,
+) -> u32
+    ensures { λ r. ⌜ listed r (now (count .exit)) (now (rows .exit)) ≡ wideReply (reformulate (now (statements .entry)) (triple subject property object) (length (now (rows .entry)))) ⌝ }
+{
+    let atom = Triple {
+        subject: subject,
+        property: property,
+        object: object,
+    };
+    wide_reply_number(alternatives::alternatives(statements, atom, rows), count)
 }
 
 // Lists the statements in a column order.
