@@ -14,7 +14,7 @@ use Rattle.delivery.proofs.Whole.{whole-length}
 use Rattle.deliver.specs.Deliver.{progress, runEntries, withdrawal}
 use Rattle.deliver.specs.Running.{highest, section}
 use Rattle.deliver.proofs.Runs.{Left, left-first, left-tested, left-next, left-none, left-refused}
-use Rattle.deliver.proofs.Formed.{malformed-withdraws}
+use Rattle.deliver.proofs.Formed.{malformed-withdraws, formed-bound}
 use Rattle.deliver.proofs.entries.withdraw_facts.Statement.{statement}
 use Rattle.deliver.proofs.entries.withdraw_facts.Tie as tie
 
@@ -41,28 +41,22 @@ short-at-requires c κs =
     let after-section-start = c in
     omega (arith, start .pre .1 .0 .entries, after-section-start .section-start .ensures .1)
 
-slice-read-highest : tie.Need-slice-read-highest Inv-loop μ-loop
-slice-read-highest c =
-    let start = c .before .before .before .before .before .before .before .before .before in
-    omega (arith, start .pre .0 .kept .laid .fits)
+slice-read-most : tie.Need-slice-read-most Inv-loop μ-loop
+slice-read-most c =
+    let start = c .before .before .before .before .before .before .before .before in
+    omega (arith, start .pre .0 .facts .laid .fits)
 
-cast-highest : tie.Need-cast-highest Inv-loop μ-loop
-cast-highest c =
+cast-most : tie.Need-cast-most Inv-loop μ-loop
+cast-most c =
     let after-slice-known5 = c in
     omega (arith, after-slice-known5 .slice-known5 .given 0)
 
-highest-requires : tie.Need-highest-requires Inv-loop μ-loop
-highest-requires c κs =
-    let start = c .before .before .before .before .before .before .before .before .before in
-    start .pre .0 .supports .within
-
 loop-holds : tie.Need-loop-holds Inv-loop μ-loop
 loop-holds c =
-    let start = c .before .before .before .before .before .before .before .before .before .before in
-    let after-section-start = c .before .before .before .before in
-    let after-short-at = c .before .before .before in
-    let after-highest = c in
-    (left-first _ _ _ _ (start .args .k) (after-section-start .section-start .result) _ _ (start .pre .1 .0) (start .pre .1 .1) (after-section-start .section-start .ensures .0) (after-short-at .short-at .ensures .0), start .pre .0, record { same-statements = refl; same-facts = refl; same-kept = refl; same-supports = refl }, omega (arith, after-highest .highest .ensures))
+    let start = c .before .before .before .before .before .before .before .before in
+    let after-section-start = c .before .before in
+    let after-short-at = c .before in
+    (left-first _ _ _ _ (start .args .k) (after-section-start .section-start .result) _ _ (start .pre .1 .0) (start .pre .1 .1) (after-section-start .section-start .ensures .0) (after-short-at .short-at .ensures .0), start .pre .0, record { same-statements = refl; same-facts = refl; same-kept = refl; same-supports = refl }, formed-bound (start .pre .0))
 
 entry-at-requires : tie.Need-entry-at-requires Inv-loop μ-loop
 entry-at-requires c κs =
@@ -85,7 +79,7 @@ tallied-requires c κs =
 
 add-at-2 : tie.Need-add-at-2 Inv-loop μ-loop
 add-at-2 c =
-    let start = c .before .before .before .before .before .before .before .before .before .before .before .before .before .before .before .before .before .before .before .before .before .before .before .before .before .before .before in
+    let start = c .before .before .before .before .before .before .before .before .before .before .before .before .before .before .before .before .before .before .before .before .before .before .before .before .before in
     let at-loop = c .before .before .before .before .before .before .before .before .before .before .before .before .before .before .before .before in
     let in-loop = c .before .before .before .before .before .before .before .before .before .before .before .before .before .before .before in
     omega (arith, at-loop .loop .inv .0 .inside, in-loop .loop-test .taken, whole-length _ (start .pre .1 .0 .whole))
@@ -188,9 +182,8 @@ withdraw-facts-spec =
     section-start-requires
     add-at
     short-at-requires
-    slice-read-highest
-    cast-highest
-    highest-requires
+    slice-read-most
+    cast-most
     loop-holds
     entry-at-requires
     withdraw-fact-requires
