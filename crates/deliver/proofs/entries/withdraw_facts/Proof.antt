@@ -90,13 +90,7 @@ sub-left c =
     omega (arith, in-loop .loop-test .taken)
 
 refused-requires : tie.Need-refused-requires Inv-loop μ-loop
-refused-requires c κs =
-    let at-loop = c .before .before .before .before .before .before .before .before .before .before .before .before .before .before .before .before .before .before in
-    let in-loop = c .before .before .before .before .before .before .before .before .before .before .before .before .before .before .before .before .before in
-    let after-entry-at = c .before .before .before .before .before .before .before .before .before .before .before .before .before .before .before .before in
-    let after-withdraw-fact = c .before .before .before .before .before .before .before .before .before .before .before in
-    let after-tallied = c .before .before in
-    (left-next (at-loop .loop .left) (at-loop .loop .inv .0) (in-loop .loop-test .taken) (after-entry-at .entry-at .result) (after-entry-at .entry-at .ensures) (after-withdraw-fact .withdraw-fact .result .answer) (after-withdraw-fact .withdraw-fact .ensures .0) (after-tallied .tallied .ensures)) .room
+refused-requires c κs = (left-next (c .before .before .before .before .before .before .before .before .before .before .before .before .before .before .before .before .before .before .loop .left) (c .before .before .before .before .before .before .before .before .before .before .before .before .before .before .before .before .before .before .loop .inv .0) (c .before .before .before .before .before .before .before .before .before .before .before .before .before .before .before .before .before .loop-test .taken) (c .before .before .before .before .before .before .before .before .before .before .before .before .before .before .before .before .entry-at .result) (c .before .before .before .before .before .before .before .before .before .before .before .before .before .before .before .before .entry-at .ensures) (c .before .before .before .before .before .before .before .before .before .before .before .withdraw-fact .result .answer) (c .before .before .before .before .before .before .before .before .before .before .before .withdraw-fact .ensures .0) (c .before .before .tallied .ensures)) .room
 
 same-length : tie.Need-same-length Inv-loop μ-loop
 same-length c =
@@ -123,15 +117,7 @@ same-length-4 c =
     after-withdraw-fact .withdraw-fact .kept .1 .1 .1 .0 ∙ at-loop .loop .inv .2 .same-supports
 
 returns : tie.Need-returns Inv-loop μ-loop
-returns c =
-    let at-loop = c .before .before .before .before .before .before .before .before .before .before .before .before .before .before .before .before .before .before .before in
-    let in-loop = c .before .before .before .before .before .before .before .before .before .before .before .before .before .before .before .before .before .before in
-    let after-entry-at = c .before .before .before .before .before .before .before .before .before .before .before .before .before .before .before .before .before in
-    let after-withdraw-fact = c .before .before .before .before .before .before .before .before .before .before .before .before in
-    let after-tallied = c .before .before .before in
-    let then1 = c .before in
-    let after-refused = c in
-    (left-refused _ (left-next (at-loop .loop .left) (at-loop .loop .inv .0) (in-loop .loop-test .taken) (after-entry-at .entry-at .result) (after-entry-at .entry-at .ensures) (after-withdraw-fact .withdraw-fact .result .answer) (after-withdraw-fact .withdraw-fact .ensures .0) (after-tallied .tallied .ensures)) (malformed-withdraws _ (sym (after-withdraw-fact .withdraw-fact .ensures .1 .1) ∙ not-true _ (then1 .if1 .taken))) (after-refused .refused .ensures), sym (sym (after-withdraw-fact .withdraw-fact .ensures .1 .1) ∙ not-true _ (then1 .if1 .taken)))
+returns c = (left-refused _ (left-next (c .before .before .before .before .before .before .before .before .before .before .before .before .before .before .before .before .before .before .before .loop .left) (c .before .before .before .before .before .before .before .before .before .before .before .before .before .before .before .before .before .before .before .loop .inv .0) (c .before .before .before .before .before .before .before .before .before .before .before .before .before .before .before .before .before .before .loop-test .taken) (c .before .before .before .before .before .before .before .before .before .before .before .before .before .before .before .before .before .entry-at .result) (c .before .before .before .before .before .before .before .before .before .before .before .before .before .before .before .before .before .entry-at .ensures) (c .before .before .before .before .before .before .before .before .before .before .before .before .withdraw-fact .result .answer) (c .before .before .before .before .before .before .before .before .before .before .before .before .withdraw-fact .ensures .0) (c .before .before .before .tallied .ensures)) (malformed-withdraws _ (sym (c .before .before .before .before .before .before .before .before .before .before .before .before .withdraw-fact .ensures .1 .1) ∙ not-true _ (c .before .if1 .taken))) (c .refused .ensures), sym (sym (c .before .before .before .before .before .before .before .before .before .before .before .before .withdraw-fact .ensures .1 .1) ∙ not-true _ (c .before .if1 .taken)))
 
 loop-less : tie.Need-loop-less Inv-loop μ-loop
 loop-less c =
@@ -139,14 +125,7 @@ loop-less c =
     omega (arith, in-loop .loop-test .taken)
 
 loop-again : tie.Need-loop-again Inv-loop μ-loop
-loop-again c =
-    let at-loop = c .before .before .before .before .before .before .before .before .before .before .before .before .before .before .before .before .before .before in
-    let in-loop = c .before .before .before .before .before .before .before .before .before .before .before .before .before .before .before .before .before in
-    let after-entry-at = c .before .before .before .before .before .before .before .before .before .before .before .before .before .before .before .before in
-    let after-withdraw-fact = c .before .before .before .before .before .before .before .before .before .before .before in
-    let after-tallied = c .before .before in
-    let else1 = c in
-    (left-next (at-loop .loop .left) (at-loop .loop .inv .0) (in-loop .loop-test .taken) (after-entry-at .entry-at .result) (after-entry-at .entry-at .ensures) (after-withdraw-fact .withdraw-fact .result .answer) (after-withdraw-fact .withdraw-fact .ensures .0) (after-tallied .tallied .ensures), isStore-formed _ _ _ _ (sym (after-withdraw-fact .withdraw-fact .ensures .1 .1) ∙ not-false _ (else1 .if1 .left)), record { same-statements = after-withdraw-fact .withdraw-fact .kept .0 ∙ at-loop .loop .inv .2 .same-statements; same-facts = after-withdraw-fact .withdraw-fact .kept .1 .0 ∙ at-loop .loop .inv .2 .same-facts; same-kept = after-withdraw-fact .withdraw-fact .kept .1 .1 .0 ∙ at-loop .loop .inv .2 .same-kept; same-supports = after-withdraw-fact .withdraw-fact .kept .1 .1 .1 .0 ∙ at-loop .loop .inv .2 .same-supports }, after-withdraw-fact .withdraw-fact .ensures .1 .0)
+loop-again c = (left-next (c .before .before .before .before .before .before .before .before .before .before .before .before .before .before .before .before .before .before .loop .left) (c .before .before .before .before .before .before .before .before .before .before .before .before .before .before .before .before .before .before .loop .inv .0) (c .before .before .before .before .before .before .before .before .before .before .before .before .before .before .before .before .before .loop-test .taken) (c .before .before .before .before .before .before .before .before .before .before .before .before .before .before .before .before .entry-at .result) (c .before .before .before .before .before .before .before .before .before .before .before .before .before .before .before .before .entry-at .ensures) (c .before .before .before .before .before .before .before .before .before .before .before .withdraw-fact .result .answer) (c .before .before .before .before .before .before .before .before .before .before .before .withdraw-fact .ensures .0) (c .before .before .tallied .ensures), isStore-formed _ _ _ _ (sym (c .before .before .before .before .before .before .before .before .before .before .before .withdraw-fact .ensures .1 .1) ∙ not-false _ (c .if1 .left)), record { same-statements = c .before .before .before .before .before .before .before .before .before .before .before .withdraw-fact .kept .0 ∙ c .before .before .before .before .before .before .before .before .before .before .before .before .before .before .before .before .before .before .loop .inv .2 .same-statements; same-facts = c .before .before .before .before .before .before .before .before .before .before .before .withdraw-fact .kept .1 .0 ∙ c .before .before .before .before .before .before .before .before .before .before .before .before .before .before .before .before .before .before .loop .inv .2 .same-facts; same-kept = c .before .before .before .before .before .before .before .before .before .before .before .withdraw-fact .kept .1 .1 .0 ∙ c .before .before .before .before .before .before .before .before .before .before .before .before .before .before .before .before .before .before .loop .inv .2 .same-kept; same-supports = c .before .before .before .before .before .before .before .before .before .before .before .withdraw-fact .kept .1 .1 .1 .0 ∙ c .before .before .before .before .before .before .before .before .before .before .before .before .before .before .before .before .before .before .loop .inv .2 .same-supports }, c .before .before .before .before .before .before .before .before .before .before .before .withdraw-fact .ensures .1 .0)
 
 same-length-5 : tie.Need-same-length-5 Inv-loop μ-loop
 same-length-5 c =
