@@ -19,7 +19,7 @@ use Rattle.store.specs.Store.{Tables, tables, areFormed}
 use Rattle.store.specs.Update.{Outcome, outcome, add, withdraw}
 use Rattle.store.proofs.Outcomes.{add-malformed, withdraw-malformed}
 use Rattle.store.proofs.Laws.{add-formed, withdraw-statement-formed}
-use Rattle.store.proofs.Lowered.{supportsOf, areSupportsWithin, withdraw-fact-formed, withdraw-fact-within, withdraw-fact-places}
+use Rattle.store.proofs.Lowered.{supportsOf, areSupportsWithin, formed-within, withdraw-fact-formed, withdraw-fact-within, withdraw-fact-places}
 use Rattle.delivery.specs.Message.{isFact}
 use Rattle.deliver.specs.Deliver.{Progress, asPair, addition, withdrawal, runEntry, runEntries}
 use Rattle.deliver.specs.Running.{highest, updateOf, keepsFormed}
@@ -75,6 +75,10 @@ additions-formed [] g = refl
 additions-formed (t ∷ ts) g = additions-formed ts (runEntry addition t g) ∙ adding-formed (g .holder) t
 
 -- ---- a fact withdrawn
+
+-- The number of facts is a bound of the supports of a well-formed store.
+pub formed-bound : {S F K U : List ℕ} → FormedStore S F K U → highest (take (count K) U) ≤ count F
+formed-bound {S} {F} {K} {U} W = within-highest (count F) (take (count K) U) (formed-within (tables S F K U) (formed-isStore W))
 
 -- What the withdrawal of a fact makes of well-formed tables T.
 record Lowered (T T' : Tables) : Type 0 where

@@ -1,7 +1,6 @@
 // The entries of a section, run in order (document 01, "Deliveries").
 use crate::Tally;
 use crate::supports::bound;
-use crate::supports::highest;
 use crate::tallies::refused;
 use crate::tallies::tallied;
 use rdf::Triple;
@@ -107,7 +106,7 @@ fn withdraw_fact(
 }
 
 // Runs the entries of section k over a well-formed store: facts that are withdrawn. Once one has spoilt the store, the others are
-// refused. The supports are passed over before the first, and again only where a known bound of them is above the number of facts.
+// refused. A first bound of the supports is the number of facts; they are passed over only where the bound that is known is above it.
 pub fn withdraw_facts(
     statements: &mut [u32],
     facts: &mut [u32],
@@ -127,7 +126,7 @@ pub fn withdraw_facts(
     let mut at = start + 2;
     let mut left = delivery::short_at(bytes, start);
     let mut sum = counted;
-    let mut most = highest(supports, kept[0] as usize);
+    let mut most = facts[0] as usize;
     while 0 < left {
         let fact = delivery::entry_at(bytes, at);
         let step = withdraw_fact(statements, facts, kept, supports, fact, most);

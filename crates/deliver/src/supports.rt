@@ -12,7 +12,7 @@ fn higher(a: usize, b: usize) -> usize
 }
 
 // The highest of the first n supports, 0 where there is none. One pass.
-pub fn highest(supports: &[u16], n: usize) -> usize
+fn highest(supports: &[u16], n: usize) -> usize
     requires { ⌜ n ≤ length (now supports) ⌝ }
     ensures { λ r. ⌜ r ≡ highest (take n (now (supports .entry))) ⌝ }
 {

@@ -26,12 +26,7 @@ same-length-4 : tie.Need-same-length-4
 same-length-4 c = search needs
 
 returns : tie.Need-returns
-returns c =
-    let start = c .before .before .before .before .before .before .before .before .before .before .before .before in
-    let after-is-store = c .before .before in
-    let then1 = c .before in
-    let after-refuse = c in
-    refused-by-tables _ (start .args .bytes .now) _ (sym (after-is-store .is-store .ensures) ∙ not-true _ (then1 .if1 .taken)) (after-refuse .refuse .ensures)
+returns c = refused-by-tables _ (c .before .before .before .before .before .before .before .before .before .before .before .before .args .bytes .now) _ (sym (c .before .before .is-store .ensures) ∙ not-true _ (c .before .if1 .taken)) (c .refuse .ensures)
 
 is-whole-requires : tie.Need-is-whole-requires
 is-whole-requires c κs = search needs
@@ -52,20 +47,10 @@ same-length-8 : tie.Need-same-length-8
 same-length-8 c = search needs
 
 returns-2 : tie.Need-returns-2
-returns-2 c =
-    let start = c .before .before .before .before .before .before .before .before .before .before .before .before .before .before in
-    let after-is-store = c .before .before .before .before in
-    let else1 = c .before .before .before in
-    let after-is-whole = c .before .before in
-    let then2 = c .before in
-    let after-refuse2 = c in
-    refused-by-length _ (start .args .bytes .now) _ (sym (after-is-store .is-store .ensures) ∙ not-false _ (else1 .if1 .left)) (sym (after-is-whole .is-whole .ensures) ∙ not-true _ (then2 .if2 .taken)) (after-refuse2 .refuse2 .ensures)
+returns-2 c = refused-by-length _ (c .before .before .before .before .before .before .before .before .before .before .before .before .before .before .args .bytes .now) _ (sym (c .before .before .before .before .is-store .ensures) ∙ not-false _ (c .before .before .before .if1 .left)) (sym (c .before .before .is-whole .ensures) ∙ not-true _ (c .before .if2 .taken)) (c .refuse2 .ensures)
 
 are-sections-right-requires : tie.Need-are-sections-right-requires
-are-sections-right-requires c κs =
-    let after-is-whole = c .before in
-    let else2 = c in
-    sym (after-is-whole .is-whole .ensures) ∙ not-false _ (else2 .if2 .left)
+are-sections-right-requires c κs = sym (c .before .is-whole .ensures) ∙ not-false _ (c .if2 .left)
 
 refuse-requires-3 : tie.Need-refuse-requires-3
 refuse-requires-3 c κs = search needs
@@ -83,22 +68,10 @@ same-length-12 : tie.Need-same-length-12
 same-length-12 c = search needs
 
 returns-3 : tie.Need-returns-3
-returns-3 c =
-    let start = c .before .before .before .before .before .before .before .before .before .before .before .before .before .before .before .before in
-    let after-is-store = c .before .before .before .before .before .before in
-    let else1 = c .before .before .before .before .before in
-    let after-is-whole = c .before .before .before .before in
-    let else2 = c .before .before .before in
-    let after-are-sections-right = c .before .before in
-    let then3 = c .before in
-    let after-refuse3 = c in
-    refused-by-section _ (start .args .bytes .now) _ (sym (after-is-store .is-store .ensures) ∙ not-false _ (else1 .if1 .left)) (sym (after-is-whole .is-whole .ensures) ∙ not-false _ (else2 .if2 .left)) (sym (after-are-sections-right .are-sections-right .ensures) ∙ not-true _ (then3 .if3 .taken)) (after-refuse3 .refuse3 .ensures)
+returns-3 c = refused-by-section _ (c .before .before .before .before .before .before .before .before .before .before .before .before .before .before .before .before .args .bytes .now) _ (sym (c .before .before .before .before .before .before .is-store .ensures) ∙ not-false _ (c .before .before .before .before .before .if1 .left)) (sym (c .before .before .before .before .is-whole .ensures) ∙ not-false _ (c .before .before .before .if2 .left)) (sym (c .before .before .are-sections-right .ensures) ∙ not-true _ (c .before .if3 .taken)) (c .refuse3 .ensures)
 
 is-number-right-requires : tie.Need-is-number-right-requires
-is-number-right-requires c κs =
-    let after-is-whole = c .before .before .before in
-    let else2 = c .before .before in
-    sym (after-is-whole .is-whole .ensures) ∙ not-false _ (else2 .if2 .left)
+is-number-right-requires c κs = sym (c .before .before .before .is-whole .ensures) ∙ not-false _ (c .before .before .if2 .left)
 
 refuse-requires-4 : tie.Need-refuse-requires-4
 refuse-requires-4 c κs = search needs
@@ -116,36 +89,13 @@ same-length-16 : tie.Need-same-length-16
 same-length-16 c = search needs
 
 returns-4 : tie.Need-returns-4
-returns-4 c =
-    let start = c .before .before .before .before .before .before .before .before .before .before .before .before .before .before .before .before .before .before in
-    let after-is-store = c .before .before .before .before .before .before .before .before in
-    let else1 = c .before .before .before .before .before .before .before in
-    let after-is-whole = c .before .before .before .before .before .before in
-    let else2 = c .before .before .before .before .before in
-    let after-are-sections-right = c .before .before .before .before in
-    let else3 = c .before .before .before in
-    let after-is-number-right = c .before .before in
-    let then4 = c .before in
-    let after-refuse4 = c in
-    refused-by-number _ (start .args .bytes .now) _ (sym (after-is-store .is-store .ensures) ∙ not-false _ (else1 .if1 .left)) (sym (after-is-whole .is-whole .ensures) ∙ not-false _ (else2 .if2 .left)) (sym (after-are-sections-right .are-sections-right .ensures) ∙ not-false _ (else3 .if3 .left)) (sym (after-is-number-right .is-number-right .ensures) ∙ not-true _ (then4 .if4 .taken)) (after-refuse4 .refuse4 .ensures)
+returns-4 c = refused-by-number _ (c .before .before .before .before .before .before .before .before .before .before .before .before .before .before .before .before .before .before .args .bytes .now) _ (sym (c .before .before .before .before .before .before .before .before .is-store .ensures) ∙ not-false _ (c .before .before .before .before .before .before .before .if1 .left)) (sym (c .before .before .before .before .before .before .is-whole .ensures) ∙ not-false _ (c .before .before .before .before .before .if2 .left)) (sym (c .before .before .before .before .are-sections-right .ensures) ∙ not-false _ (c .before .before .before .if3 .left)) (sym (c .before .before .is-number-right .ensures) ∙ not-true _ (c .before .if4 .taken)) (c .refuse4 .ensures)
 
 run-message-requires : tie.Need-run-message-requires
-run-message-requires c κs =
-    let after-is-store = c .before .before .before .before .before .before .before .before .before .before .before in
-    let else1 = c .before .before .before .before .before .before .before .before .before .before in
-    let after-is-whole = c .before .before .before .before .before .before .before .before .before in
-    let else2 = c .before .before .before .before .before .before .before .before in
-    let after-are-sections-right = c .before .before .before .before .before .before .before in
-    let else3 = c .before .before .before .before .before .before in
-    (isStore-formed _ _ _ _ (sym (after-is-store .is-store .ensures) ∙ not-false _ (else1 .if1 .left)), (sym (after-is-whole .is-whole .ensures) ∙ not-false _ (else2 .if2 .left), sym (after-are-sections-right .are-sections-right .ensures) ∙ not-false _ (else3 .if3 .left)))
+run-message-requires c κs = (isStore-formed _ _ _ _ (sym (c .before .before .before .before .before .before .before .before .before .before .before .is-store .ensures) ∙ not-false _ (c .before .before .before .before .before .before .before .before .before .before .if1 .left)), (sym (c .before .before .before .before .before .before .before .before .before .is-whole .ensures) ∙ not-false _ (c .before .before .before .before .before .before .before .before .if2 .left), sym (c .before .before .before .before .before .before .before .are-sections-right .ensures) ∙ not-false _ (c .before .before .before .before .before .before .if3 .left)))
 
 number-requires : tie.Need-number-requires
-number-requires c κs =
-    let after-is-whole = c .before .before .before .before .before .before .before .before .before .before .before .before .before .before .before .before .before .before in
-    let else2 = c .before .before .before .before .before .before .before .before .before .before .before .before .before .before .before .before .before in
-    let after-is-number-right = c .before .before .before .before .before .before .before .before .before .before .before .before .before .before in
-    let else4 = c .before .before .before .before .before .before .before .before .before .before .before .before .before in
-    (sym (after-is-whole .is-whole .ensures) ∙ not-false _ (else2 .if2 .left), sym (after-is-number-right .is-number-right .ensures) ∙ not-false _ (else4 .if4 .left))
+number-requires c κs = (sym (c .before .before .before .before .before .before .before .before .before .before .before .before .before .before .before .before .before .before .is-whole .ensures) ∙ not-false _ (c .before .before .before .before .before .before .before .before .before .before .before .before .before .before .before .before .before .if2 .left), sym (c .before .before .before .before .before .before .before .before .before .before .before .before .before .before .is-number-right .ensures) ∙ not-false _ (c .before .before .before .before .before .before .before .before .before .before .before .before .before .if4 .left))
 
 same-length-17 : tie.Need-same-length-17
 same-length-17 c = search needs
@@ -160,19 +110,7 @@ same-length-20 : tie.Need-same-length-20
 same-length-20 c = search needs
 
 returns-5 : tie.Need-returns-5
-returns-5 c =
-    let start = c .before .before .before .before .before .before .before .before .before .before .before .before .before .before .before .before .before .before .before .before .before .before .before .before .before .before .before .before .before .before .before in
-    let after-is-store = c .before .before .before .before .before .before .before .before .before .before .before .before .before .before .before .before .before .before .before .before .before in
-    let else1 = c .before .before .before .before .before .before .before .before .before .before .before .before .before .before .before .before .before .before .before .before in
-    let after-is-whole = c .before .before .before .before .before .before .before .before .before .before .before .before .before .before .before .before .before .before .before in
-    let else2 = c .before .before .before .before .before .before .before .before .before .before .before .before .before .before .before .before .before .before in
-    let after-are-sections-right = c .before .before .before .before .before .before .before .before .before .before .before .before .before .before .before .before .before in
-    let else3 = c .before .before .before .before .before .before .before .before .before .before .before .before .before .before .before .before in
-    let after-is-number-right = c .before .before .before .before .before .before .before .before .before .before .before .before .before .before .before in
-    let else4 = c .before .before .before .before .before .before .before .before .before .before .before .before .before .before in
-    let after-run-message = c .before .before .before .before .before .before .before .before .before in
-    let after-number = c in
-    accepted _ (start .args .bytes .now) (after-number .number .result) (sym (after-is-store .is-store .ensures) ∙ not-false _ (else1 .if1 .left)) (sym (after-is-whole .is-whole .ensures) ∙ not-false _ (else2 .if2 .left)) (sym (after-are-sections-right .are-sections-right .ensures) ∙ not-false _ (else3 .if3 .left)) (sym (after-is-number-right .is-number-right .ensures) ∙ not-false _ (else4 .if4 .left)) (after-number .number .ensures) (after-run-message .run-message .ensures)
+returns-5 c = accepted _ (c .before .before .before .before .before .before .before .before .before .before .before .before .before .before .before .before .before .before .before .before .before .before .before .before .before .before .before .before .before .before .before .args .bytes .now) (c .number .result) (sym (c .before .before .before .before .before .before .before .before .before .before .before .before .before .before .before .before .before .before .before .before .before .is-store .ensures) ∙ not-false _ (c .before .before .before .before .before .before .before .before .before .before .before .before .before .before .before .before .before .before .before .before .if1 .left)) (sym (c .before .before .before .before .before .before .before .before .before .before .before .before .before .before .before .before .before .before .before .is-whole .ensures) ∙ not-false _ (c .before .before .before .before .before .before .before .before .before .before .before .before .before .before .before .before .before .before .if2 .left)) (sym (c .before .before .before .before .before .before .before .before .before .before .before .before .before .before .before .before .before .are-sections-right .ensures) ∙ not-false _ (c .before .before .before .before .before .before .before .before .before .before .before .before .before .before .before .before .if3 .left)) (sym (c .before .before .before .before .before .before .before .before .before .before .before .before .before .before .before .is-number-right .ensures) ∙ not-false _ (c .before .before .before .before .before .before .before .before .before .before .before .before .before .before .if4 .left)) (c .number .ensures) (c .before .before .before .before .before .before .before .before .before .run-message .ensures)
 
 pub deliver-spec : {M : Type 1} → statement M
 deliver-spec =

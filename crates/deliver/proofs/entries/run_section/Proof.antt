@@ -77,14 +77,7 @@ loop-less c =
     omega (arith, in-loop .loop-test .taken)
 
 loop-again : tie.Need-loop-again Inv-loop μ-loop
-loop-again c =
-    let start = c .before .before .before .before .before .before .before .before .before .before .before .before .before .before .before .before .before .before .before .before .before .before .before .before in
-    let at-loop = c .before .before .before .before .before .before .before .before .before .before .before .before .before .before .before .before in
-    let in-loop = c .before .before .before .before .before .before .before .before .before .before .before .before .before .before .before in
-    let after-entry-at = c .before .before .before .before .before .before .before .before .before .before .before .before .before .before in
-    let after-update = c .before .before .before .before .before .before .before .before .before in
-    let after-tallied = c in
-    (left-next (at-loop .loop .left) (at-loop .loop .inv .0) (in-loop .loop-test .taken) (after-entry-at .entry-at .result) (after-entry-at .entry-at .ensures) (after-update .update .result) (after-update .update .ensures) (after-tallied .tallied .ensures), stays-formed (start .args .adding) (after-update .update .result) (after-entry-at .entry-at .result) (left-tested (at-loop .loop .left) (at-loop .loop .inv .0) (in-loop .loop-test .taken) (after-entry-at .entry-at .result) (after-entry-at .entry-at .ensures)) (at-loop .loop .inv .1) (after-update .update .ensures), record { same-statements = after-update .update .kept .0 ∙ at-loop .loop .inv .2 .same-statements; same-facts = after-update .update .kept .1 .0 ∙ at-loop .loop .inv .2 .same-facts; same-kept = after-update .update .kept .1 .1 .0 ∙ at-loop .loop .inv .2 .same-kept; same-supports = after-update .update .kept .1 .1 .1 .0 ∙ at-loop .loop .inv .2 .same-supports })
+loop-again c = (left-next (c .before .before .before .before .before .before .before .before .before .before .before .before .before .before .before .before .loop .left) (c .before .before .before .before .before .before .before .before .before .before .before .before .before .before .before .before .loop .inv .0) (c .before .before .before .before .before .before .before .before .before .before .before .before .before .before .before .loop-test .taken) (c .before .before .before .before .before .before .before .before .before .before .before .before .before .before .entry-at .result) (c .before .before .before .before .before .before .before .before .before .before .before .before .before .before .entry-at .ensures) (c .before .before .before .before .before .before .before .before .before .update .result) (c .before .before .before .before .before .before .before .before .before .update .ensures) (c .tallied .ensures), stays-formed (c .before .before .before .before .before .before .before .before .before .before .before .before .before .before .before .before .before .before .before .before .before .before .before .before .args .adding) (c .before .before .before .before .before .before .before .before .before .update .result) (c .before .before .before .before .before .before .before .before .before .before .before .before .before .before .entry-at .result) (left-tested (c .before .before .before .before .before .before .before .before .before .before .before .before .before .before .before .before .loop .left) (c .before .before .before .before .before .before .before .before .before .before .before .before .before .before .before .before .loop .inv .0) (c .before .before .before .before .before .before .before .before .before .before .before .before .before .before .before .loop-test .taken) (c .before .before .before .before .before .before .before .before .before .before .before .before .before .before .entry-at .result) (c .before .before .before .before .before .before .before .before .before .before .before .before .before .before .entry-at .ensures)) (c .before .before .before .before .before .before .before .before .before .before .before .before .before .before .before .before .loop .inv .1) (c .before .before .before .before .before .before .before .before .before .update .ensures), record { same-statements = c .before .before .before .before .before .before .before .before .before .update .kept .0 ∙ c .before .before .before .before .before .before .before .before .before .before .before .before .before .before .before .before .loop .inv .2 .same-statements; same-facts = c .before .before .before .before .before .before .before .before .before .update .kept .1 .0 ∙ c .before .before .before .before .before .before .before .before .before .before .before .before .before .before .before .before .loop .inv .2 .same-facts; same-kept = c .before .before .before .before .before .before .before .before .before .update .kept .1 .1 .0 ∙ c .before .before .before .before .before .before .before .before .before .before .before .before .before .before .before .before .loop .inv .2 .same-kept; same-supports = c .before .before .before .before .before .before .before .before .before .update .kept .1 .1 .1 .0 ∙ c .before .before .before .before .before .before .before .before .before .before .before .before .before .before .before .before .loop .inv .2 .same-supports })
 
 same-length : tie.Need-same-length Inv-loop μ-loop
 same-length c =

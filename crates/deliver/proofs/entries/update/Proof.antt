@@ -20,11 +20,7 @@ same-length-4 : tie.Need-same-length-4
 same-length-4 c = search needs
 
 returns : tie.Need-returns
-returns c =
-    let start = c .before .before .before .before .before .before .before .before .before .before .before .before .before .before .before .before .before .before in
-    let then1 = c .before .before .before .before .before .before .before .before .before .before .before .before .before in
-    let after-add-to-formed = c .before .before .before .before .before .before .before .before in
-    update-adds (start .args .adding) _ _ _ (start .args .triple) (then1 .if1 .taken) (after-add-to-formed .add-to-formed .ensures)
+returns c = update-adds (c .before .before .before .before .before .before .before .before .before .before .before .before .before .before .before .before .before .before .args .adding) _ _ _ (c .before .before .before .before .before .before .before .before .before .before .before .before .before .before .before .before .before .before .args .triple) (c .before .before .before .before .before .before .before .before .before .before .before .before .before .if1 .taken) (c .before .before .before .before .before .before .before .before .add-to-formed .ensures)
 
 withdraw-from-formed-requires : tie.Need-withdraw-from-formed-requires
 withdraw-from-formed-requires c κs = search needs
@@ -42,11 +38,7 @@ same-length-8 : tie.Need-same-length-8
 same-length-8 c = search needs
 
 returns-2 : tie.Need-returns-2
-returns-2 c =
-    let start = c .before .before .before .before .before .before .before .before .before .before .before .before .before .before .before .before .before .before in
-    let else1 = c .before .before .before .before .before .before .before .before .before .before .before .before .before in
-    let after-withdraw-from-formed = c .before .before .before .before .before .before .before .before in
-    update-withdraws (start .args .adding) _ _ _ (start .args .triple) (else1 .if1 .left) (after-withdraw-from-formed .withdraw-from-formed .ensures)
+returns-2 c = update-withdraws (c .before .before .before .before .before .before .before .before .before .before .before .before .before .before .before .before .before .before .args .adding) _ _ _ (c .before .before .before .before .before .before .before .before .before .before .before .before .before .before .before .before .before .before .args .triple) (c .before .before .before .before .before .before .before .before .before .before .before .before .before .if1 .left) (c .before .before .before .before .before .before .before .before .withdraw-from-formed .ensures)
 
 pub update-spec : {M : Type 1} → statement M
 update-spec =

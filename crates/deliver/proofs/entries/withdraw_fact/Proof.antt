@@ -28,10 +28,7 @@ cast-bound c =
     omega (arith, after-slice-known10 .slice-known10 .given 0)
 
 bound-requires : tie.Need-bound-requires
-bound-requires c κs =
-    let start = c .before .before .before .before .before .before .before .before .before .before .before .before .before .before .before .before .before .before .before .before in
-    let after-withdraw-from-formed = c .before .before .before .before .before .before .before .before .before .before .before in
-    (lowered-places (start .args .fact) (start .pre .0) (start .pre .1 .0) (after-withdraw-from-formed .withdraw-from-formed .ensures), lowered-within (start .args .fact) (start .pre .0) (start .pre .1 .0) (after-withdraw-from-formed .withdraw-from-formed .ensures) _ (start .pre .1 .1))
+bound-requires c κs = (lowered-places (c .before .before .before .before .before .before .before .before .before .before .before .before .before .before .before .before .before .before .before .before .args .fact) (c .before .before .before .before .before .before .before .before .before .before .before .before .before .before .before .before .before .before .before .before .pre .0) (c .before .before .before .before .before .before .before .before .before .before .before .before .before .before .before .before .before .before .before .before .pre .1 .0) (c .before .before .before .before .before .before .before .before .before .before .before .withdraw-from-formed .ensures), lowered-within (c .before .before .before .before .before .before .before .before .before .before .before .before .before .before .before .before .before .before .before .before .args .fact) (c .before .before .before .before .before .before .before .before .before .before .before .before .before .before .before .before .before .before .before .before .pre .0) (c .before .before .before .before .before .before .before .before .before .before .before .before .before .before .before .before .before .before .before .before .pre .1 .0) (c .before .before .before .before .before .before .before .before .before .before .before .withdraw-from-formed .ensures) _ (c .before .before .before .before .before .before .before .before .before .before .before .before .before .before .before .before .before .before .before .before .pre .1 .1))
 
 same-length : tie.Need-same-length
 same-length c = search needs
@@ -46,11 +43,7 @@ same-length-4 : tie.Need-same-length-4
 same-length-4 c = search needs
 
 returns : tie.Need-returns
-returns c =
-    let start = c .before .before .before .before .before .before .before .before .before .before .before .before .before .before .before .before .before .before .before .before .before in
-    let after-withdraw-from-formed = c .before .before .before .before .before .before .before .before .before .before .before .before in
-    let after-bound = c in
-    (ap (λ (o : Outcome). asPair o) (after-withdraw-from-formed .withdraw-from-formed .ensures), (after-bound .bound .ensures .0, lowered-formed (start .args .fact) (start .pre .0) (start .pre .1 .0) (after-withdraw-from-formed .withdraw-from-formed .ensures) (after-bound .bound .result) (after-bound .bound .ensures .0) (after-bound .bound .ensures .1)))
+returns c = (ap (λ (o : Outcome). asPair o) (c .before .before .before .before .before .before .before .before .before .before .before .before .withdraw-from-formed .ensures), (c .bound .ensures .0, lowered-formed (c .before .before .before .before .before .before .before .before .before .before .before .before .before .before .before .before .before .before .before .before .before .args .fact) (c .before .before .before .before .before .before .before .before .before .before .before .before .before .before .before .before .before .before .before .before .before .pre .0) (c .before .before .before .before .before .before .before .before .before .before .before .before .before .before .before .before .before .before .before .before .before .pre .1 .0) (c .before .before .before .before .before .before .before .before .before .before .before .before .withdraw-from-formed .ensures) (c .bound .result) (c .bound .ensures .0) (c .bound .ensures .1)))
 
 pub withdraw-fact-spec : {M : Type 1} → statement M
 withdraw-fact-spec =

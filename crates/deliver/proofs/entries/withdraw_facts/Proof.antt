@@ -14,7 +14,7 @@ use Rattle.delivery.proofs.Whole.{whole-length}
 use Rattle.deliver.specs.Deliver.{progress, runEntries, withdrawal}
 use Rattle.deliver.specs.Running.{highest, section}
 use Rattle.deliver.proofs.Runs.{Left, left-first, left-tested, left-next, left-none, left-refused}
-use Rattle.deliver.proofs.Formed.{malformed-withdraws}
+use Rattle.deliver.proofs.Formed.{malformed-withdraws, formed-bound}
 use Rattle.deliver.proofs.entries.withdraw_facts.Statement.{statement}
 use Rattle.deliver.proofs.entries.withdraw_facts.Tie as tie
 
@@ -41,28 +41,22 @@ short-at-requires c κs =
     let after-section-start = c in
     omega (arith, start .pre .1 .0 .entries, after-section-start .section-start .ensures .1)
 
-slice-read-highest : tie.Need-slice-read-highest Inv-loop μ-loop
-slice-read-highest c =
-    let start = c .before .before .before .before .before .before .before .before .before in
-    omega (arith, start .pre .0 .kept .laid .fits)
+slice-read-most : tie.Need-slice-read-most Inv-loop μ-loop
+slice-read-most c =
+    let start = c .before .before .before .before .before .before .before .before in
+    omega (arith, start .pre .0 .facts .laid .fits)
 
-cast-highest : tie.Need-cast-highest Inv-loop μ-loop
-cast-highest c =
+cast-most : tie.Need-cast-most Inv-loop μ-loop
+cast-most c =
     let after-slice-known5 = c in
     omega (arith, after-slice-known5 .slice-known5 .given 0)
 
-highest-requires : tie.Need-highest-requires Inv-loop μ-loop
-highest-requires c κs =
-    let start = c .before .before .before .before .before .before .before .before .before in
-    start .pre .0 .supports .within
-
 loop-holds : tie.Need-loop-holds Inv-loop μ-loop
 loop-holds c =
-    let start = c .before .before .before .before .before .before .before .before .before .before in
-    let after-section-start = c .before .before .before .before in
-    let after-short-at = c .before .before .before in
-    let after-highest = c in
-    (left-first _ _ _ _ (start .args .k) (after-section-start .section-start .result) _ _ (start .pre .1 .0) (start .pre .1 .1) (after-section-start .section-start .ensures .0) (after-short-at .short-at .ensures .0), start .pre .0, record { same-statements = refl; same-facts = refl; same-kept = refl; same-supports = refl }, omega (arith, after-highest .highest .ensures))
+    let start = c .before .before .before .before .before .before .before .before in
+    let after-section-start = c .before .before in
+    let after-short-at = c .before in
+    (left-first _ _ _ _ (start .args .k) (after-section-start .section-start .result) _ _ (start .pre .1 .0) (start .pre .1 .1) (after-section-start .section-start .ensures .0) (after-short-at .short-at .ensures .0), start .pre .0, record { same-statements = refl; same-facts = refl; same-kept = refl; same-supports = refl }, formed-bound (start .pre .0))
 
 entry-at-requires : tie.Need-entry-at-requires Inv-loop μ-loop
 entry-at-requires c κs =
@@ -85,7 +79,7 @@ tallied-requires c κs =
 
 add-at-2 : tie.Need-add-at-2 Inv-loop μ-loop
 add-at-2 c =
-    let start = c .before .before .before .before .before .before .before .before .before .before .before .before .before .before .before .before .before .before .before .before .before .before .before .before .before .before .before in
+    let start = c .before .before .before .before .before .before .before .before .before .before .before .before .before .before .before .before .before .before .before .before .before .before .before .before .before in
     let at-loop = c .before .before .before .before .before .before .before .before .before .before .before .before .before .before .before .before in
     let in-loop = c .before .before .before .before .before .before .before .before .before .before .before .before .before .before .before in
     omega (arith, at-loop .loop .inv .0 .inside, in-loop .loop-test .taken, whole-length _ (start .pre .1 .0 .whole))
@@ -96,13 +90,7 @@ sub-left c =
     omega (arith, in-loop .loop-test .taken)
 
 refused-requires : tie.Need-refused-requires Inv-loop μ-loop
-refused-requires c κs =
-    let at-loop = c .before .before .before .before .before .before .before .before .before .before .before .before .before .before .before .before .before .before in
-    let in-loop = c .before .before .before .before .before .before .before .before .before .before .before .before .before .before .before .before .before in
-    let after-entry-at = c .before .before .before .before .before .before .before .before .before .before .before .before .before .before .before .before in
-    let after-withdraw-fact = c .before .before .before .before .before .before .before .before .before .before .before in
-    let after-tallied = c .before .before in
-    (left-next (at-loop .loop .left) (at-loop .loop .inv .0) (in-loop .loop-test .taken) (after-entry-at .entry-at .result) (after-entry-at .entry-at .ensures) (after-withdraw-fact .withdraw-fact .result .answer) (after-withdraw-fact .withdraw-fact .ensures .0) (after-tallied .tallied .ensures)) .room
+refused-requires c κs = (left-next (c .before .before .before .before .before .before .before .before .before .before .before .before .before .before .before .before .before .before .loop .left) (c .before .before .before .before .before .before .before .before .before .before .before .before .before .before .before .before .before .before .loop .inv .0) (c .before .before .before .before .before .before .before .before .before .before .before .before .before .before .before .before .before .loop-test .taken) (c .before .before .before .before .before .before .before .before .before .before .before .before .before .before .before .before .entry-at .result) (c .before .before .before .before .before .before .before .before .before .before .before .before .before .before .before .before .entry-at .ensures) (c .before .before .before .before .before .before .before .before .before .before .before .withdraw-fact .result .answer) (c .before .before .before .before .before .before .before .before .before .before .before .withdraw-fact .ensures .0) (c .before .before .tallied .ensures)) .room
 
 same-length : tie.Need-same-length Inv-loop μ-loop
 same-length c =
@@ -129,15 +117,7 @@ same-length-4 c =
     after-withdraw-fact .withdraw-fact .kept .1 .1 .1 .0 ∙ at-loop .loop .inv .2 .same-supports
 
 returns : tie.Need-returns Inv-loop μ-loop
-returns c =
-    let at-loop = c .before .before .before .before .before .before .before .before .before .before .before .before .before .before .before .before .before .before .before in
-    let in-loop = c .before .before .before .before .before .before .before .before .before .before .before .before .before .before .before .before .before .before in
-    let after-entry-at = c .before .before .before .before .before .before .before .before .before .before .before .before .before .before .before .before .before in
-    let after-withdraw-fact = c .before .before .before .before .before .before .before .before .before .before .before .before in
-    let after-tallied = c .before .before .before in
-    let then1 = c .before in
-    let after-refused = c in
-    (left-refused _ (left-next (at-loop .loop .left) (at-loop .loop .inv .0) (in-loop .loop-test .taken) (after-entry-at .entry-at .result) (after-entry-at .entry-at .ensures) (after-withdraw-fact .withdraw-fact .result .answer) (after-withdraw-fact .withdraw-fact .ensures .0) (after-tallied .tallied .ensures)) (malformed-withdraws _ (sym (after-withdraw-fact .withdraw-fact .ensures .1 .1) ∙ not-true _ (then1 .if1 .taken))) (after-refused .refused .ensures), sym (sym (after-withdraw-fact .withdraw-fact .ensures .1 .1) ∙ not-true _ (then1 .if1 .taken)))
+returns c = (left-refused _ (left-next (c .before .before .before .before .before .before .before .before .before .before .before .before .before .before .before .before .before .before .before .loop .left) (c .before .before .before .before .before .before .before .before .before .before .before .before .before .before .before .before .before .before .before .loop .inv .0) (c .before .before .before .before .before .before .before .before .before .before .before .before .before .before .before .before .before .before .loop-test .taken) (c .before .before .before .before .before .before .before .before .before .before .before .before .before .before .before .before .before .entry-at .result) (c .before .before .before .before .before .before .before .before .before .before .before .before .before .before .before .before .before .entry-at .ensures) (c .before .before .before .before .before .before .before .before .before .before .before .before .withdraw-fact .result .answer) (c .before .before .before .before .before .before .before .before .before .before .before .before .withdraw-fact .ensures .0) (c .before .before .before .tallied .ensures)) (malformed-withdraws _ (sym (c .before .before .before .before .before .before .before .before .before .before .before .before .withdraw-fact .ensures .1 .1) ∙ not-true _ (c .before .if1 .taken))) (c .refused .ensures), sym (sym (c .before .before .before .before .before .before .before .before .before .before .before .before .withdraw-fact .ensures .1 .1) ∙ not-true _ (c .before .if1 .taken)))
 
 loop-less : tie.Need-loop-less Inv-loop μ-loop
 loop-less c =
@@ -145,14 +125,7 @@ loop-less c =
     omega (arith, in-loop .loop-test .taken)
 
 loop-again : tie.Need-loop-again Inv-loop μ-loop
-loop-again c =
-    let at-loop = c .before .before .before .before .before .before .before .before .before .before .before .before .before .before .before .before .before .before in
-    let in-loop = c .before .before .before .before .before .before .before .before .before .before .before .before .before .before .before .before .before in
-    let after-entry-at = c .before .before .before .before .before .before .before .before .before .before .before .before .before .before .before .before in
-    let after-withdraw-fact = c .before .before .before .before .before .before .before .before .before .before .before in
-    let after-tallied = c .before .before in
-    let else1 = c in
-    (left-next (at-loop .loop .left) (at-loop .loop .inv .0) (in-loop .loop-test .taken) (after-entry-at .entry-at .result) (after-entry-at .entry-at .ensures) (after-withdraw-fact .withdraw-fact .result .answer) (after-withdraw-fact .withdraw-fact .ensures .0) (after-tallied .tallied .ensures), isStore-formed _ _ _ _ (sym (after-withdraw-fact .withdraw-fact .ensures .1 .1) ∙ not-false _ (else1 .if1 .left)), record { same-statements = after-withdraw-fact .withdraw-fact .kept .0 ∙ at-loop .loop .inv .2 .same-statements; same-facts = after-withdraw-fact .withdraw-fact .kept .1 .0 ∙ at-loop .loop .inv .2 .same-facts; same-kept = after-withdraw-fact .withdraw-fact .kept .1 .1 .0 ∙ at-loop .loop .inv .2 .same-kept; same-supports = after-withdraw-fact .withdraw-fact .kept .1 .1 .1 .0 ∙ at-loop .loop .inv .2 .same-supports }, after-withdraw-fact .withdraw-fact .ensures .1 .0)
+loop-again c = (left-next (c .before .before .before .before .before .before .before .before .before .before .before .before .before .before .before .before .before .before .loop .left) (c .before .before .before .before .before .before .before .before .before .before .before .before .before .before .before .before .before .before .loop .inv .0) (c .before .before .before .before .before .before .before .before .before .before .before .before .before .before .before .before .before .loop-test .taken) (c .before .before .before .before .before .before .before .before .before .before .before .before .before .before .before .before .entry-at .result) (c .before .before .before .before .before .before .before .before .before .before .before .before .before .before .before .before .entry-at .ensures) (c .before .before .before .before .before .before .before .before .before .before .before .withdraw-fact .result .answer) (c .before .before .before .before .before .before .before .before .before .before .before .withdraw-fact .ensures .0) (c .before .before .tallied .ensures), isStore-formed _ _ _ _ (sym (c .before .before .before .before .before .before .before .before .before .before .before .withdraw-fact .ensures .1 .1) ∙ not-false _ (c .if1 .left)), record { same-statements = c .before .before .before .before .before .before .before .before .before .before .before .withdraw-fact .kept .0 ∙ c .before .before .before .before .before .before .before .before .before .before .before .before .before .before .before .before .before .before .loop .inv .2 .same-statements; same-facts = c .before .before .before .before .before .before .before .before .before .before .before .withdraw-fact .kept .1 .0 ∙ c .before .before .before .before .before .before .before .before .before .before .before .before .before .before .before .before .before .before .loop .inv .2 .same-facts; same-kept = c .before .before .before .before .before .before .before .before .before .before .before .withdraw-fact .kept .1 .1 .0 ∙ c .before .before .before .before .before .before .before .before .before .before .before .before .before .before .before .before .before .before .loop .inv .2 .same-kept; same-supports = c .before .before .before .before .before .before .before .before .before .before .before .withdraw-fact .kept .1 .1 .1 .0 ∙ c .before .before .before .before .before .before .before .before .before .before .before .before .before .before .before .before .before .before .loop .inv .2 .same-supports }, c .before .before .before .before .before .before .before .before .before .before .before .withdraw-fact .ensures .1 .0)
 
 same-length-5 : tie.Need-same-length-5 Inv-loop μ-loop
 same-length-5 c =
@@ -188,9 +161,8 @@ withdraw-facts-spec =
     section-start-requires
     add-at
     short-at-requires
-    slice-read-highest
-    cast-highest
-    highest-requires
+    slice-read-most
+    cast-most
     loop-holds
     entry-at-requires
     withdraw-fact-requires
