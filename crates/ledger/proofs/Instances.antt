@@ -1,4 +1,5 @@
 -- A list of calls whose answers and words are worked out: the ledger's by computation, the store's by demand 3. Assumes nothing.
+use Prim.Native.Nat.{ℕ}
 use mathlib.Core.Path.{_≡_, refl, ap, _∙_}
 use mathlib.Core.List.{List, [], _∷_}
 use mathlib.Core.Logic.{Dec·and}
@@ -17,6 +18,7 @@ use Rattle.delivery.specs.Message.{short, word, entriesFrom, sectionEnd, sectio
 use Rattle.deliver.specs.Deliver.{tally, tallied, runEntry, runEntries, runMessage, delivered, conclude}
 use Rattle.ledger.specs.Ledger.{Call, Ledger, ledger, entering, leaving, isMember, isBelow, isFitting, settle, enter, remit, receive, Given, answered, resulted, Run, run, call, calls}
 use Rattle.ledger.specs.History.{storeRun, ledgerRun, laidOut}
+use Rattle.ledger.specs.Encoded.{callOf, callsFrom, encoded}
 use Rattle.ledger.proofs.History.{history}
 
 -- Over tables for one statement, two facts and three kept facts: additions that are applied, one that is idle, those that 2, 3, 4
@@ -88,3 +90,26 @@ worked-store =
     let a : storeRun 4 7 10 3 workedCalls .given ≡ workedAnswers = D .answers ∙ ap (λ (r : Run Ledger). r .given) worked-ledger in
     let w : storeRun 4 7 10 3 workedCalls .after ≡ workedTables = D .words ∙ ap (λ (r : Run Ledger). laidOut 4 7 10 3 (r .after)) worked-ledger ∙ worked-words in
     λ i. run (a i) (w i)
+
+-- The same calls, encoded: their words, and the bytes of the two deliveries one after the other.
+abbrev pub workedWords : List ℕ
+workedWords =
+    0 ∷ 16 ∷ 2 ∷ 17
+    ∷ 0 ∷ 32 ∷ 1 ∷ 16
+    ∷ 0 ∷ 32 ∷ 1 ∷ 16
+    ∷ 0 ∷ 0 ∷ 1 ∷ 16
+    ∷ 0 ∷ 16 ∷ 2 ∷ 1
+    ∷ 0 ∷ 17 ∷ 2 ∷ 18
+    ∷ 0 ∷ 33 ∷ 1 ∷ 16
+    ∷ 1 ∷ 40 ∷ 19 ∷ 41
+    ∷ 2 ∷ 0 ∷ 35 ∷ 0
+    ∷ 2 ∷ 35 ∷ 3 ∷ 0
+    ∷ 1 ∷ 32 ∷ 19 ∷ 33
+    ∷ []
+
+abbrev pub workedBytes : List ℕ
+workedBytes = 0 ∷ 0 ∷ 0 ∷ 0 ∷ 0 ∷ 0 ∷ 1 ∷ 0 ∷ 32 ∷ 0 ∷ 0 ∷ 0 ∷ 19 ∷ 0 ∷ 0 ∷ 0 ∷ 33 ∷ 0 ∷ 0 ∷ 0 ∷ 2 ∷ 0 ∷ 7 ∷ 0 ∷ 1 ∷ 0 ∷ 9 ∷ 1 ∷ 0 ∷ 4 ∷ 0 ∷ 5 ∷ 0 ∷ 0 ∷ 0 ∷ 0 ∷ 0 ∷ 0 ∷ []
+
+pub worked-encoded : encoded workedWords workedBytes ≡ workedCalls
+unfolding callOf callsFrom
+worked-encoded = refl
