@@ -1,0 +1,144 @@
+use Prim.Native.Nat.{ℕ, _<_}
+use borrow.Fn.Kinds.{In}
+use borrow.Fn.PlainCycle.{Measures, is, falls, and}
+use Rattle.report.proofs.append.write_number.Reads as write-number
+use Rattle.report.proofs.append.write_number.Kinds as write-number-kinds
+use Rattle.report.proofs.append.+write_number.Lts-write_number as write-number-lts
+use Rattle.report.proofs.append.write_byte.Reads as write-byte-reads
+use Rattle.report.proofs.append.+write_number.{statement}
+use Rattle.report.proofs.append.+write_number.Tie.{close}
+
+abbrev μ-write-number : Measures 1 write-number-kinds.ps ℕ
+μ-write-number κs a = ?
+
+abbrev write-number-at : ℕ → In 1 write-number-kinds.ps
+write-number-at t =
+    and 1 write-number-kinds.ps (is 1 write-number-kinds.ps μ-write-number t) write-number.Pre
+
+abbrev write-number-below : ℕ → In 1 write-number-kinds.ps
+write-number-below t =
+    and
+    1
+    write-number-kinds.ps
+    (falls 1 write-number-kinds.ps _<_ μ-write-number t)
+    write-number.Pre
+
+-- src/append.rt:40:32
+write-number-cast-write-byte : (t : ℕ) → write-number-lts.Need-cast-write-byte (
+  write-byte-reads.Asked,
+  write-byte-reads.Learnt,
+  write-number-below t,
+  write-number.Post,
+) (write-number-at t) write-number.Post
+write-number-cast-write-byte t c = ?
+
+-- src/append.rt:40:27
+write-number-add-write-byte : (t : ℕ) → write-number-lts.Need-add-write-byte (
+  write-byte-reads.Asked,
+  write-byte-reads.Learnt,
+  write-number-below t,
+  write-number.Post,
+) (write-number-at t) write-number.Post
+write-number-add-write-byte t c = ?
+
+-- src/append.rt:40:9
+write-number-write-byte-requires : (t : ℕ) → write-number-lts.Need-write-byte-requires (
+  write-byte-reads.Asked,
+  write-byte-reads.Learnt,
+  write-number-below t,
+  write-number.Post,
+) (write-number-at t) write-number.Post
+write-number-write-byte-requires t c κs = ?
+
+-- src/append.rt:40:9
+write-number-same-length : (t : ℕ) → write-number-lts.Need-same-length (
+  write-byte-reads.Asked,
+  write-byte-reads.Learnt,
+  write-number-below t,
+  write-number.Post,
+) (write-number-at t) write-number.Post
+write-number-same-length t c = ?
+
+-- src/append.rt:40:9
+write-number-returns : (t : ℕ) → write-number-lts.Need-returns (
+  write-byte-reads.Asked,
+  write-byte-reads.Learnt,
+  write-number-below t,
+  write-number.Post,
+) (write-number-at t) write-number.Post
+write-number-returns t c = ?
+
+-- src/append.rt:42:9
+write-number-write-number-requires : (t : ℕ) → write-number-lts.Need-write-number-requires (
+  write-byte-reads.Asked,
+  write-byte-reads.Learnt,
+  write-number-below t,
+  write-number.Post,
+) (write-number-at t) write-number.Post
+write-number-write-number-requires t c κs = ?
+
+-- src/append.rt:43:21
+write-number-cast-write-byte-2 : (t : ℕ) → write-number-lts.Need-cast-write-byte-2 (
+  write-byte-reads.Asked,
+  write-byte-reads.Learnt,
+  write-number-below t,
+  write-number.Post,
+) (write-number-at t) write-number.Post
+write-number-cast-write-byte-2 t c = ?
+
+-- src/append.rt:43:16
+write-number-add-write-byte-2 : (t : ℕ) → write-number-lts.Need-add-write-byte-2 (
+  write-byte-reads.Asked,
+  write-byte-reads.Learnt,
+  write-number-below t,
+  write-number.Post,
+) (write-number-at t) write-number.Post
+write-number-add-write-byte-2 t c = ?
+
+-- src/append.rt:43:5
+write-number-write-byte-requires-2 : (t : ℕ) → write-number-lts.Need-write-byte-requires-2 (
+  write-byte-reads.Asked,
+  write-byte-reads.Learnt,
+  write-number-below t,
+  write-number.Post,
+) (write-number-at t) write-number.Post
+write-number-write-byte-requires-2 t c κs = ?
+
+-- src/append.rt:35:1
+write-number-same-length-2 : (t : ℕ) → write-number-lts.Need-same-length-2 (
+  write-byte-reads.Asked,
+  write-byte-reads.Learnt,
+  write-number-below t,
+  write-number.Post,
+) (write-number-at t) write-number.Post
+write-number-same-length-2 t c = ?
+
+-- src/append.rt:35:1
+write-number-returns-2 : (t : ℕ) → write-number-lts.Need-returns-2 (
+  write-byte-reads.Asked,
+  write-byte-reads.Learnt,
+  write-number-below t,
+  write-number.Post,
+) (write-number-at t) write-number.Post
+write-number-returns-2 t c = ?
+
+pub +write-number-spec : {M : Type 1} → statement M
++write-number-spec = close μ-write-number λ t. write-number-lts.spec (
+  write-byte-reads.Asked,
+  write-byte-reads.Learnt,
+  write-number-below t,
+  write-number.Post,
+)
+    (write-number-at t)
+    write-number.Post
+    (write-number-cast-write-byte t)
+    (write-number-add-write-byte t)
+    (write-number-write-byte-requires t)
+    (write-number-same-length t)
+    (write-number-returns t)
+    (write-number-write-number-requires t)
+    (write-number-cast-write-byte-2 t)
+    (write-number-add-write-byte-2 t)
+    (write-number-write-byte-requires-2 t)
+    (write-number-same-length-2 t)
+    (write-number-returns-2 t)

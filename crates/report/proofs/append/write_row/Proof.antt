@@ -1,0 +1,41 @@
+use borrow.Author.Needs.{needs}
+use Rattle.report.proofs.append.write_row.Statement.{statement}
+use Rattle.report.proofs.append.write_row.Tie as tie
+use Rattle.report.proofs.append.write_row.Reads as reads
+use Rattle.report.proofs.append.write_row.Lts as lts
+use Rattle.report.proofs.append.write_field.Reads as write-field-reads
+
+-- src/append.rt:79:9
+write-field-requires : tie.Need-write-field-requires
+write-field-requires c κs = search needs
+
+-- src/append.rt:80:9
+write-field-requires-2 : tie.Need-write-field-requires-2
+write-field-requires-2 c κs = search needs
+
+-- src/append.rt:81:9
+write-field-requires-3 : tie.Need-write-field-requires-3
+write-field-requires-3 c κs = search needs
+
+-- src/append.rt:82:5
+write-field-requires-4 : tie.Need-write-field-requires-4
+write-field-requires-4 c κs = search needs
+
+-- src/append.rt:67:1
+same-length : tie.Need-same-length
+same-length c = search needs
+
+-- src/append.rt:67:1
+returns : tie.Need-returns
+returns c = ?
+
+pub write-row-spec : {M : Type 1} → statement M
+write-row-spec =
+    tie.close
+    (tie.spec
+    write-field-requires
+    write-field-requires-2
+    write-field-requires-3
+    write-field-requires-4
+    same-length
+    returns)

@@ -1,0 +1,123 @@
+use Rattle.report.proofs.append.write_rows.Statement.{statement}
+use Rattle.report.proofs.append.write_rows.Tie as tie
+use Rattle.report.proofs.append.write_rows.Reads as reads
+use Rattle.report.proofs.append.write_rows.Lts as lts
+use Rattle.report.proofs.append.write_row.Reads as write-row-reads
+
+abbrev Inv-loop : tie.InvT-loop
+Inv-loop kept supports out₀ at n i₀ to₀ out i to = ?
+
+abbrev μ-loop : tie.MeasureT-loop
+μ-loop kept supports out₀ at n i₀ to₀ out i to = ?
+
+-- src/append.rt:90:13
+shared-slice-read-n : tie.Need-shared-slice-read-n Inv-loop μ-loop
+shared-slice-read-n c = ?
+
+-- src/append.rt:90:13
+cast-n : tie.Need-cast-n Inv-loop μ-loop
+cast-n c = ?
+
+-- src/append.rt:93:5
+loop-holds : tie.Need-loop-holds Inv-loop μ-loop
+loop-holds c = ?
+
+-- src/append.rt:94:20
+mul-word : tie.Need-mul-word Inv-loop μ-loop
+mul-word c = ?
+
+-- src/append.rt:94:20
+add-word : tie.Need-add-word Inv-loop μ-loop
+add-word c = ?
+
+-- src/append.rt:95:24
+mul-write-row : tie.Need-mul-write-row Inv-loop μ-loop
+mul-write-row c = ?
+
+-- src/append.rt:95:24
+shared-slice-read-write-row : tie.Need-shared-slice-read-write-row Inv-loop μ-loop
+shared-slice-read-write-row c = ?
+
+-- src/append.rt:95:41
+add-write-row : tie.Need-add-write-row Inv-loop μ-loop
+add-write-row c = ?
+
+-- src/append.rt:95:36
+mul-write-row-2 : tie.Need-mul-write-row-2 Inv-loop μ-loop
+mul-write-row-2 c = ?
+
+-- src/append.rt:95:36
+shared-slice-read-write-row-2 : tie.Need-shared-slice-read-write-row-2 Inv-loop μ-loop
+shared-slice-read-write-row-2 c = ?
+
+-- src/append.rt:95:57
+add-write-row-2 : tie.Need-add-write-row-2 Inv-loop μ-loop
+add-write-row-2 c = ?
+
+-- src/append.rt:95:52
+mul-write-row-3 : tie.Need-mul-write-row-3 Inv-loop μ-loop
+mul-write-row-3 c = ?
+
+-- src/append.rt:95:52
+shared-slice-read-write-row-3 : tie.Need-shared-slice-read-write-row-3 Inv-loop μ-loop
+shared-slice-read-write-row-3 c = ?
+
+-- src/append.rt:95:68
+mul-write-row-4 : tie.Need-mul-write-row-4 Inv-loop μ-loop
+mul-write-row-4 c = ?
+
+-- src/append.rt:95:68
+shared-slice-read-write-row-4 : tie.Need-shared-slice-read-write-row-4 Inv-loop μ-loop
+shared-slice-read-write-row-4 c = ?
+
+-- src/append.rt:95:9
+write-row-requires : tie.Need-write-row-requires Inv-loop μ-loop
+write-row-requires c κs = ?
+
+-- src/append.rt:96:9
+add-i : tie.Need-add-i Inv-loop μ-loop
+add-i c = ?
+
+-- src/append.rt:93:5
+loop-less : tie.Need-loop-less Inv-loop μ-loop
+loop-less c = ?
+
+-- src/append.rt:93:5
+loop-again : tie.Need-loop-again Inv-loop μ-loop
+loop-again c = ?
+
+-- src/append.rt:86:1
+same-length : tie.Need-same-length Inv-loop μ-loop
+same-length c = ?
+
+-- src/append.rt:86:1
+returns : tie.Need-returns Inv-loop μ-loop
+returns c = ?
+
+pub write-rows-spec : {M : Type 1} → statement M
+write-rows-spec =
+    tie.close
+    (tie.spec
+    Inv-loop
+    μ-loop
+    shared-slice-read-n
+    cast-n
+    loop-holds
+    mul-word
+    add-word
+    mul-write-row
+    shared-slice-read-write-row
+    add-write-row
+    mul-write-row-2
+    shared-slice-read-write-row-2
+    add-write-row-2
+    mul-write-row-3
+    shared-slice-read-write-row-3
+    mul-write-row-4
+    shared-slice-read-write-row-4
+    write-row-requires
+    add-i
+    loop-less
+    loop-again
+    same-length
+    returns)

@@ -1,0 +1,65 @@
+use borrow.Author.Needs.{needs}
+use Prim.Native.Nat.{_≤_, _-_}
+use mathlib.Core.Path.{_≡_}
+use lib.ListN.{length, take}
+use native.Mathlib.Omega.{arith}
+use Rattle.report.specs.Appended.{Appended}
+use Rattle.report.proofs.Appending.{none-appended, word-more, word-whole, word-place}
+use Rattle.report.proofs.append.write_word.Statement.{statement}
+use Rattle.report.proofs.append.write_word.Tie as tie
+use Rattle.report.proofs.append.write_word.Reads as reads
+use Rattle.report.proofs.append.write_word.Lts as lts
+use Rattle.report.proofs.append.write_byte.Reads as write-byte-reads
+
+abbrev Inv-loop : tie.InvT-loop
+Inv-loop word out₀ at i₀ to₀ out i to = (i ≤ length word) × Appended (take i word) at out₀ out to × (length out ≡ length out₀)
+
+abbrev μ-loop : tie.MeasureT-loop
+μ-loop word out₀ at i₀ to₀ out i to = length word - i
+
+-- src/append.rt:27:5
+loop-holds : tie.Need-loop-holds Inv-loop μ-loop
+loop-holds c = search needs
+
+-- src/append.rt:28:25
+shared-slice-read-write-byte : tie.Need-shared-slice-read-write-byte Inv-loop μ-loop
+shared-slice-read-write-byte c = search needs
+
+-- src/append.rt:28:9
+write-byte-requires : tie.Need-write-byte-requires Inv-loop μ-loop
+write-byte-requires c κs = search needs
+
+-- src/append.rt:29:9
+add-i : tie.Need-add-i Inv-loop μ-loop
+add-i c = search needs
+
+-- src/append.rt:27:5
+loop-less : tie.Need-loop-less Inv-loop μ-loop
+loop-less c = search needs
+
+-- src/append.rt:27:5
+loop-again : tie.Need-loop-again Inv-loop μ-loop
+loop-again c = search needs
+
+-- src/append.rt:21:1
+same-length : tie.Need-same-length Inv-loop μ-loop
+same-length c = search needs
+
+-- src/append.rt:21:1
+returns : tie.Need-returns Inv-loop μ-loop
+returns c = search needs
+
+pub write-word-spec : {M : Type 1} → statement M
+write-word-spec =
+    tie.close
+    (tie.spec
+    Inv-loop
+    μ-loop
+    loop-holds
+    shared-slice-read-write-byte
+    write-byte-requires
+    add-i
+    loop-less
+    loop-again
+    same-length
+    returns)
