@@ -1,5 +1,5 @@
 -- Laws of text appended to lent bytes. Assumes nothing.
-use Prim.Native.Nat.{ℕ, zero, suc, _+_, _*_, _≤_, _<_}
+use Prim.Native.Nat.{ℕ, zero, suc, _+_, _/_, _%_, _≤_, _<_}
 use native.Mathlib.Nat.{add-zero}
 use mathlib.Core.Path.{_≡_, refl, sym, ap, _∙_, subst}
 use mathlib.Core.List.{List, [], _∷_, _++_, append-nil, append-assoc}
@@ -7,7 +7,9 @@ use native.Mathlib.Numerals.{add-one}
 use native.Mathlib.Omega.{arith}
 use lib.ListN.{length, getD, take, drop, set, length-append}
 use lib.Seq.{take-suc, take-suc-set, drop-set-lt, drop-drop, take-all, length-take-le}
+use Rattle.report.specs.Text.{decimal}
 use Rattle.report.specs.Appended.{Appended}
+use Rattle.report.proofs.Decimal.{decimal-small, decimal-large}
 
 -- One byte.
 pub byte-appended : (b : ℕ) (out : List ℕ) (at : ℕ) → at < length out → Appended (b ∷ []) at out (set out at b) (at + 1)
@@ -53,3 +55,21 @@ word-whole word i h A = text-appended (take-all i word h) A
 -- The place of the next byte is within.
 pub word-place : (word : List ℕ) (i : ℕ) {out out' : List ℕ} {at end : ℕ} → i ≤ length word → Appended (take i word) at out out' end → end ≡ at + i
 word-place word i h A = omega (arith, A .ends, length-take-le i word h)
+
+-- ---- a number, digit by digit
+
+-- It has one digit more than the number without its last digit.
+large-length : (n : ℕ) → 10 ≤ n → length (decimal n) ≡ length (decimal (n / 10)) + 1
+large-length n h = ap length (decimal-large n h) ∙ length-append (decimal (n / 10)) ((48 + n % 10) ∷ [])
+
+-- Where there is room for a number, there is room for its one digit,
+pub small-room : (n at : ℕ) (out : List ℕ) → n < 10 → at + length (decimal n) ≤ length out → at < length out
+small-room n at out h r = let e : length (decimal n) ≡ 1 = ap length (decimal-small n h) in omega arith
+
+-- or for its digits before the last,
+pub large-room : (n at : ℕ) (out : List ℕ) → 10 ≤ n → at + length (decimal n) ≤ length out → at + length (decimal (n / 10)) ≤ length out
+large-room n at out h r = omega (arith, large-length n h)
+
+-- and for the last behind them.
+pub last-room : (n at : ℕ) (out out' : List ℕ) (mid : ℕ) → 10 ≤ n → at + length (decimal n) ≤ length out → mid ≡ at + length (decimal (n / 10)) → length out' ≡ length out → mid < length out'
+last-room n at out out' mid h r e k = omega (arith, large-length n h)

@@ -1,3 +1,8 @@
+-- The number without its last digit is less. Assumes nothing.
+use mathlib.Core.Path.{sym, _∙_}
+use native.Mathlib.Omega.{arith}
+use Rattle.report.proofs.Decimal.{decimal-small, decimal-large}
+use Rattle.report.proofs.Appending.{both-appended, text-appended, small-room, large-room, last-room}
 use Prim.Native.Nat.{ℕ, _<_}
 use borrow.Fn.Kinds.{In}
 use borrow.Fn.PlainCycle.{Measures, is, falls, and}
@@ -9,7 +14,7 @@ use Rattle.report.proofs.append.+write_number.{statement}
 use Rattle.report.proofs.append.+write_number.Tie.{close}
 
 abbrev μ-write-number : Measures 1 write-number-kinds.ps ℕ
-μ-write-number κs a = ?
+μ-write-number κs a = a .0
 
 abbrev write-number-at : ℕ → In 1 write-number-kinds.ps
 write-number-at t =
@@ -30,7 +35,7 @@ write-number-cast-write-byte : (t : ℕ) → write-number-lts.Need-cast-write-by
   write-number-below t,
   write-number.Post,
 ) (write-number-at t) write-number.Post
-write-number-cast-write-byte t c = ?
+write-number-cast-write-byte t c = omega arith
 
 -- src/append.rt:40:27
 write-number-add-write-byte : (t : ℕ) → write-number-lts.Need-add-write-byte (
@@ -39,7 +44,7 @@ write-number-add-write-byte : (t : ℕ) → write-number-lts.Need-add-write-byte
   write-number-below t,
   write-number.Post,
 ) (write-number-at t) write-number.Post
-write-number-add-write-byte t c = ?
+write-number-add-write-byte t c = omega arith
 
 -- src/append.rt:40:9
 write-number-write-byte-requires : (t : ℕ) → write-number-lts.Need-write-byte-requires (
@@ -48,7 +53,7 @@ write-number-write-byte-requires : (t : ℕ) → write-number-lts.Need-write-byt
   write-number-below t,
   write-number.Post,
 ) (write-number-at t) write-number.Post
-write-number-write-byte-requires t c κs = ?
+write-number-write-byte-requires t c κs = small-room (c .before .before .before .args .n) (c .before .before .before .args .at) (c .before .before .before .args .out .now) (c .before .if1 .taken) (c .before .before .before .pre .1)
 
 -- src/append.rt:40:9
 write-number-same-length : (t : ℕ) → write-number-lts.Need-same-length (
@@ -57,7 +62,7 @@ write-number-same-length : (t : ℕ) → write-number-lts.Need-same-length (
   write-number-below t,
   write-number.Post,
 ) (write-number-at t) write-number.Post
-write-number-same-length t c = ?
+write-number-same-length t c = c .before .before .write-byte .kept .1 .0
 
 -- src/append.rt:40:9
 write-number-returns : (t : ℕ) → write-number-lts.Need-returns (
@@ -66,7 +71,7 @@ write-number-returns : (t : ℕ) → write-number-lts.Need-returns (
   write-number-below t,
   write-number.Post,
 ) (write-number-at t) write-number.Post
-write-number-returns t c = ?
+write-number-returns t c = text-appended (sym (decimal-small (c .before .before .before .before .before .before .args .n) (c .before .before .before .before .if1 .taken))) (c .before .before .write-byte .ensures)
 
 -- src/append.rt:42:9
 write-number-write-number-requires : (t : ℕ) → write-number-lts.Need-write-number-requires (
@@ -75,7 +80,7 @@ write-number-write-number-requires : (t : ℕ) → write-number-lts.Need-write-n
   write-number-below t,
   write-number.Post,
 ) (write-number-at t) write-number.Post
-write-number-write-number-requires t c κs = ?
+write-number-write-number-requires t c κs = (omega (arith, c .before .before .before .pre .0), large-room (c .before .before .before .args .n) (c .before .before .before .args .at) (c .before .before .before .args .out .now) (c .before .if1 .left) (c .before .before .before .pre .1))
 
 -- src/append.rt:43:21
 write-number-cast-write-byte-2 : (t : ℕ) → write-number-lts.Need-cast-write-byte-2 (
@@ -84,7 +89,7 @@ write-number-cast-write-byte-2 : (t : ℕ) → write-number-lts.Need-cast-write-
   write-number-below t,
   write-number.Post,
 ) (write-number-at t) write-number.Post
-write-number-cast-write-byte-2 t c = ?
+write-number-cast-write-byte-2 t c = omega arith
 
 -- src/append.rt:43:16
 write-number-add-write-byte-2 : (t : ℕ) → write-number-lts.Need-add-write-byte-2 (
@@ -93,7 +98,7 @@ write-number-add-write-byte-2 : (t : ℕ) → write-number-lts.Need-add-write-by
   write-number-below t,
   write-number.Post,
 ) (write-number-at t) write-number.Post
-write-number-add-write-byte-2 t c = ?
+write-number-add-write-byte-2 t c = omega arith
 
 -- src/append.rt:43:5
 write-number-write-byte-requires-2 : (t : ℕ) → write-number-lts.Need-write-byte-requires-2 (
@@ -102,7 +107,7 @@ write-number-write-byte-requires-2 : (t : ℕ) → write-number-lts.Need-write-b
   write-number-below t,
   write-number.Post,
 ) (write-number-at t) write-number.Post
-write-number-write-byte-requires-2 t c κs = ?
+write-number-write-byte-requires-2 t c κs = last-room (c .before .before .before .before .before .before .before .args .n) (c .before .before .before .before .before .before .before .args .at) (c .before .before .before .before .before .before .before .args .out .now) (c .before .before .before .write-number .last .1 .0) _ (c .before .before .before .before .before .if1 .left) (c .before .before .before .before .before .before .before .pre .1) (c .before .before .before .write-number .ensures .ends) (c .before .before .before .write-number .kept .1 .0)
 
 -- src/append.rt:35:1
 write-number-same-length-2 : (t : ℕ) → write-number-lts.Need-same-length-2 (
@@ -111,7 +116,7 @@ write-number-same-length-2 : (t : ℕ) → write-number-lts.Need-same-length-2 (
   write-number-below t,
   write-number.Post,
 ) (write-number-at t) write-number.Post
-write-number-same-length-2 t c = ?
+write-number-same-length-2 t c = c .before .before .write-byte2 .kept .1 .0 ∙ c .before .before .before .before .before .before .write-number .kept .1 .0
 
 -- src/append.rt:35:1
 write-number-returns-2 : (t : ℕ) → write-number-lts.Need-returns-2 (
@@ -120,7 +125,7 @@ write-number-returns-2 : (t : ℕ) → write-number-lts.Need-returns-2 (
   write-number-below t,
   write-number.Post,
 ) (write-number-at t) write-number.Post
-write-number-returns-2 t c = ?
+write-number-returns-2 t c = text-appended (sym (decimal-large (c .before .before .before .before .before .before .before .before .before .before .args .n) (c .before .before .before .before .before .before .before .before .if1 .left))) (both-appended (c .before .before .before .before .before .before .write-number .ensures) (c .before .before .write-byte2 .ensures))
 
 pub +write-number-spec : {M : Type 1} → statement M
 +write-number-spec = close μ-write-number λ t. write-number-lts.spec (

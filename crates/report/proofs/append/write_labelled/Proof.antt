@@ -1,3 +1,5 @@
+use native.Mathlib.Omega.{arith}
+use Rattle.report.proofs.Appending.{both-appended}
 use borrow.Author.Needs.{needs}
 use Rattle.report.proofs.append.write_labelled.Statement.{statement}
 use Rattle.report.proofs.append.write_labelled.Tie as tie
@@ -20,7 +22,7 @@ same-length c = search needs
 
 -- src/append.rt:57:1
 returns : tie.Need-returns
-returns c = ?
+returns c = (both-appended (c .before .before .before .before .before .before .write-word .ensures) (c .before .before .write-field .ensures .0), omega (arith, c .before .before .before .before .before .before .write-word .ensures .ends, c .before .before .write-field .ensures .1))
 
 pub write-labelled-spec : {M : Type 1} → statement M
 write-labelled-spec =

@@ -1,3 +1,6 @@
+use native.Mathlib.Omega.{arith}
+use Rattle.report.specs.Text.{rowLine}
+use Rattle.report.proofs.Appending.{both-appended}
 use borrow.Author.Needs.{needs}
 use Rattle.report.proofs.append.write_row.Statement.{statement}
 use Rattle.report.proofs.append.write_row.Tie as tie
@@ -27,7 +30,8 @@ same-length c = search needs
 
 -- src/append.rt:67:1
 returns : tie.Need-returns
-returns c = ?
+unfolding rowLine
+returns c = (both-appended (c .before .before .before .before .before .before .before .before .before .before .before .before .before .before .write-field .ensures .0) (both-appended (c .before .before .before .before .before .before .before .before .before .before .write-field2 .ensures .0) (both-appended (c .before .before .before .before .before .before .write-field3 .ensures .0) (c .before .before .write-field4 .ensures .0))), omega (arith, c .before .before .before .before .before .before .before .before .before .before .before .before .before .before .write-field .ensures .1, c .before .before .before .before .before .before .before .before .before .before .write-field2 .ensures .1, c .before .before .before .before .before .before .write-field3 .ensures .1, c .before .before .write-field4 .ensures .1))
 
 pub write-row-spec : {M : Type 1} → statement M
 write-row-spec =

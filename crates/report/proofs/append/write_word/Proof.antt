@@ -1,6 +1,6 @@
 use borrow.Author.Needs.{needs}
-use Prim.Native.Nat.{_≤_, _-_}
-use mathlib.Core.Path.{_≡_}
+use Prim.Native.Nat.{_≤_, _-_, zero-le}
+use mathlib.Core.Path.{_≡_, refl, _∙_}
 use lib.ListN.{length, take}
 use native.Mathlib.Omega.{arith}
 use Rattle.report.specs.Appended.{Appended}
@@ -19,7 +19,7 @@ abbrev μ-loop : tie.MeasureT-loop
 
 -- src/append.rt:27:5
 loop-holds : tie.Need-loop-holds Inv-loop μ-loop
-loop-holds c = search needs
+loop-holds c = (zero-le, none-appended (c .before .before .args .out .now) (c .before .before .args .at), refl)
 
 -- src/append.rt:28:25
 shared-slice-read-write-byte : tie.Need-shared-slice-read-write-byte Inv-loop μ-loop
@@ -27,7 +27,7 @@ shared-slice-read-write-byte c = search needs
 
 -- src/append.rt:28:9
 write-byte-requires : tie.Need-write-byte-requires Inv-loop μ-loop
-write-byte-requires c κs = search needs
+write-byte-requires c κs = omega (arith, word-place (c .before .before .before .before .before .before .args .word .now) (c .before .before .before .loop .i) (c .before .before .before .loop .inv .0) (c .before .before .before .loop .inv .1), c .before .before .before .before .before .before .pre)
 
 -- src/append.rt:29:9
 add-i : tie.Need-add-i Inv-loop μ-loop
@@ -39,7 +39,7 @@ loop-less c = search needs
 
 -- src/append.rt:27:5
 loop-again : tie.Need-loop-again Inv-loop μ-loop
-loop-again c = search needs
+loop-again c = (omega arith, word-more (c .before .before .before .before .before .before .before .before .before .args .word .now) (c .before .before .before .before .before .before .loop .i) (c .before .before .before .before .before .loop-test .taken) (c .before .before .before .before .before .before .loop .inv .1) (c .before .before .write-byte .ensures), c .before .before .write-byte .kept .1 .0 ∙ c .before .before .before .before .before .before .loop .inv .2)
 
 -- src/append.rt:21:1
 same-length : tie.Need-same-length Inv-loop μ-loop
@@ -47,7 +47,7 @@ same-length c = search needs
 
 -- src/append.rt:21:1
 returns : tie.Need-returns Inv-loop μ-loop
-returns c = search needs
+returns c = word-whole (c .before .before .before .before .args .word .now) (c .before .loop .i) (c .loop-test .left) (c .before .loop .inv .1)
 
 pub write-word-spec : {M : Type 1} → statement M
 write-word-spec =
