@@ -19,9 +19,13 @@ fieldRoom = 11
 abbrev pub rowRoom : ℕ
 rowRoom = 44
 
+-- The most bytes of the line of the result.
+abbrev pub resultRoom : ℕ
+resultRoom = 74
+
 -- The most bytes of the lines before the rows.
 abbrev pub headRoom : ℕ
-headRoom = 90
+headRoom = resultRoom + 16
 
 -- "4,096 kept facts": the most bytes of a response.
 abbrev pub responseRoom : ℕ

@@ -1,9 +1,10 @@
 // Numbers, words and lines appended to lent bytes: each function writes from index at on, and returns the index after its text.
 ghost use mathlib.Core.Path.{_≡_};
 ghost use mathlib.Core.List.{[], _∷_, _++_};
-ghost use Prim.Native.Nat.{_+_, _≤_, _<_};
+ghost use Prim.Native.Nat.{_+_, _*_, _≤_, _<_};
 ghost use lib.ListN.{length};
 ghost use Rattle.rdf.specs.Triple.{triple};
+ghost use Rattle.table.specs.Table.{count};
 ghost use Rattle.store.specs.Store.{keptOf};
 ghost use Rattle.report.specs.Text.{decimal, field, labelled, rowLine, rowLines};
 ghost use Rattle.report.specs.Appended.{Appended, Printable, fieldRoom, rowRoom};
@@ -86,6 +87,7 @@ fn write_row(
 pub fn write_rows(kept: &[u32], supports: &[u16], out: &mut [u8], at: usize) -> usize
     requires { ⌜ Printable (now kept) (now supports) (now out) at ⌝ }
     ensures { λ r. ⌜ Appended (rowLines (keptOf (now (kept .entry)) (now (supports .entry)))) at (now (out .entry)) (now (out .exit)) r ⌝ }
+    ensures { λ r. ⌜ r ≤ at + count (now (kept .entry)) * rowRoom ⌝ }
 {
     let n = kept[0] as usize;
     let mut i = 0;

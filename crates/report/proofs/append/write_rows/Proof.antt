@@ -15,7 +15,7 @@ use Rattle.report.proofs.append.write_rows.Lts as lts
 use Rattle.report.proofs.append.write_row.Reads as write-row-reads
 
 abbrev Inv-loop : tie.InvT-loop
-Inv-loop kept supports out₀ at n i₀ to₀ out i to = (i ≤ n) × Appended (rowLines (take i (keptOf kept supports))) at out₀ out to × (length out ≡ length out₀) × (to + (n - i) * rowRoom ≤ length out₀)
+Inv-loop kept supports out₀ at n i₀ to₀ out i to = (i ≤ n) × Appended (rowLines (take i (keptOf kept supports))) at out₀ out to × (length out ≡ length out₀) × (to ≤ at + i * rowRoom)
 
 abbrev μ-loop : tie.MeasureT-loop
 μ-loop kept supports out₀ at n i₀ to₀ out i to = n - i
@@ -82,7 +82,7 @@ shared-slice-read-write-row-4 c = search needs
 
 -- src/append.rt:95:9
 write-row-requires : tie.Need-write-row-requires Inv-loop μ-loop
-write-row-requires c κs = search needs
+write-row-requires c κs = omega (arith, c .before .before .before .before .before .before .loop .inv .3, c .before .before .before .before .before .before .loop .inv .2, c .before .before .before .before .before .loop-test .taken, c .before .before .before .before .before .before .before .before .before .before .before .pre .room)
 
 -- src/append.rt:96:9
 add-i : tie.Need-add-i Inv-loop μ-loop
@@ -102,7 +102,7 @@ same-length c = search needs
 
 -- src/append.rt:86:1
 returns : tie.Need-returns Inv-loop μ-loop
-returns c = rows-whole (c .before .before .before .before .before .before .args .kept .now) (c .before .before .before .before .before .before .args .supports .now) (c .before .before .before .before .before .before .pre .places) (c .before .loop .i) (c .loop-test .left) (c .before .loop .inv .1)
+returns c = (rows-whole (c .before .before .before .before .before .before .args .kept .now) (c .before .before .before .before .before .before .args .supports .now) (c .before .before .before .before .before .before .pre .places) (c .before .loop .i) (c .loop-test .left) (c .before .loop .inv .1), omega (arith, c .before .loop .inv .3, c .before .loop .inv .0))
 
 pub write-rows-spec : {M : Type 1} → statement M
 write-rows-spec =

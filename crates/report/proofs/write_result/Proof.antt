@@ -1,0 +1,61 @@
+use borrow.Author.Needs.{needs}
+use Rattle.report.proofs.write_result.Statement.{statement}
+use Rattle.report.proofs.write_result.Tie as tie
+use Rattle.report.proofs.write_result.Reads as reads
+use Rattle.report.proofs.write_result.Lts as lts
+use Rattle.report.proofs.append.write_labelled.Reads as write-labelled-reads
+
+-- src/lib.rt:57:37
+slice-aggregate-write-labelled : tie.Need-slice-aggregate-write-labelled
+slice-aggregate-write-labelled c = search needs
+
+-- src/lib.rt:57:9
+write-labelled-requires : tie.Need-write-labelled-requires
+write-labelled-requires c κs = search needs
+
+-- src/lib.rt:58:34
+slice-aggregate-write-labelled-2 : tie.Need-slice-aggregate-write-labelled-2
+slice-aggregate-write-labelled-2 c = search needs
+
+-- src/lib.rt:58:9
+write-labelled-requires-2 : tie.Need-write-labelled-requires-2
+write-labelled-requires-2 c κs = search needs
+
+-- src/lib.rt:59:37
+slice-aggregate-write-labelled-3 : tie.Need-slice-aggregate-write-labelled-3
+slice-aggregate-write-labelled-3 c = search needs
+
+-- src/lib.rt:59:9
+write-labelled-requires-3 : tie.Need-write-labelled-requires-3
+write-labelled-requires-3 c κs = search needs
+
+-- src/lib.rt:60:20
+slice-aggregate-write-labelled-4 : tie.Need-slice-aggregate-write-labelled-4
+slice-aggregate-write-labelled-4 c = search needs
+
+-- src/lib.rt:60:5
+write-labelled-requires-4 : tie.Need-write-labelled-requires-4
+write-labelled-requires-4 c κs = search needs
+
+-- src/lib.rt:52:1
+same-length : tie.Need-same-length
+same-length c = search needs
+
+-- src/lib.rt:52:1
+returns : tie.Need-returns
+returns c = ?
+
+pub write-result-spec : {M : Type 1} → statement M
+write-result-spec =
+    tie.close
+    (tie.spec
+    slice-aggregate-write-labelled
+    write-labelled-requires
+    slice-aggregate-write-labelled-2
+    write-labelled-requires-2
+    slice-aggregate-write-labelled-3
+    write-labelled-requires-3
+    slice-aggregate-write-labelled-4
+    write-labelled-requires-4
+    same-length
+    returns)
