@@ -1,3 +1,5 @@
 pub mod Decimal
 pub mod Appending
 pub mod Lines
+pub mod Sound
+pub mod Responding

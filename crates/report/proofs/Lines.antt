@@ -14,7 +14,8 @@ use Rattle.rdfs.specs.Saturation.{Kept}
 use Rattle.store.specs.Store.{keptOf}
 use Rattle.store.specs.Entries.{entries}
 use Rattle.store.proofs.Entries.{noEntry, length-entries, getD-entries, keptOf-entries}
-use Rattle.report.specs.Text.{rowLine, rowLines}
+use Rattle.deliver.specs.declared.Delivered.{Delivered}
+use Rattle.report.specs.Text.{labelled, rowsWord, newline, resultLine, rowsLine, rowLine, rowLines, reportText}
 use Rattle.report.specs.Appended.{Appended}
 use Rattle.report.proofs.Appending.{both-appended, text-appended}
 
@@ -54,3 +55,12 @@ module _ (K U : List ℕ) (places : count K ≤ length U) where
 pub rows-none : (k : Kept) → [] ≡ rowLines (take 0 k)
 unfolding rowLines
 rows-none k = refl
+
+-- ---- the report
+
+-- The line of the result, that of the number of rows, and those of the rows.
+pub report-lines : (d : Delivered) (K U : List ℕ) {out out' out'' out''' : List ℕ} {mid mid' end : ℕ} → count K ≤ length U
+    → Appended (resultLine d) 0 out out' mid → Appended (labelled rowsWord (count K) newline) mid out' out'' mid' → Appended (rowLines (keptOf K U)) mid' out'' out''' end
+    → Appended (reportText d (keptOf K U)) 0 out out''' end
+unfolding reportText rowsLine
+report-lines d K U h A B C = text-appended (rw (length-kept K U h) refl) (both-appended A (both-appended B C))

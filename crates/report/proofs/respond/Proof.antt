@@ -1,3 +1,6 @@
+use native.Mathlib.Omega.{arith}
+use Rattle.report.specs.Text.{refusalText}
+use Rattle.report.proofs.Responding.{FromEmpty, from-zeros, few-rows, printable, refused-response, report-response}
 use borrow.Author.Needs.{needs}
 use Rattle.report.proofs.respond.Statement.{statement}
 use Rattle.report.proofs.respond.Tie as tie
@@ -10,6 +13,14 @@ use Rattle.report.proofs.no_statements.Reads as no-statements-reads
 use Rattle.report.proofs.no_supports.Reads as no-supports-reads
 use Rattle.report.proofs.stub.deliver.Reads as deliver-reads
 use Rattle.report.proofs.write_report.Reads as write-report-reads
+
+-- What the delivery leaves.
+from-empty : (c : tie.After-deliver)
+    → FromEmpty (c .before .before .before .before .before .before .before .before .before .before .before .args .input .now) (c .deliver .result) (c .deliver .last .0) (c .deliver .last .1 .0) (c .deliver .last .1 .1 .0) (c .deliver .last .1 .1 .1 .0)
+from-empty c =
+    from-zeros (c .before .before .before .before .before .before .before .before .before .before .before .args .input .now) (c .deliver .result) (c .deliver .last .0) (c .deliver .last .1 .0) (c .deliver .last .1 .1 .0) (c .deliver .last .1 .1 .1 .0)
+    (c .before .before .before .before .before .before .before .before .no-statements .ensures) (c .before .before .before .before .before .before .before .no-facts .ensures) (c .before .before .before .before .before .before .no-kept .ensures) (c .before .before .before .before .before .no-supports .ensures)
+    (c .deliver .ensures) (c .deliver .kept .1 .1 .1 .0)
 
 -- src/lib.rt:81:26
 no-statements-requires : tie.Need-no-statements-requires
@@ -61,7 +72,8 @@ same-length c = search needs
 
 -- src/lib.rt:93:9
 returns : tie.Need-returns
-returns c = ?
+unfolding refusalText
+returns c = let A = refused-response (from-empty (c .before .before .before .before .before .before .before .before .before .before .before)) (c .before .before .before .before .before .if1 .taken) (c .before .before .write-labelled .ensures .0) in (A .start-and-text, (A .rest, omega (arith, c .before .before .write-labelled .ensures .1)))
 
 -- src/lib.rt:95:26
 slice-aggregate-write-report : tie.Need-slice-aggregate-write-report
@@ -73,7 +85,7 @@ slice-aggregate-write-report-2 c = search needs
 
 -- src/lib.rt:95:5
 write-report-requires : tie.Need-write-report-requires
-write-report-requires c κs = ?
+write-report-requires c κs = printable (from-empty (c .before .before .before .before .before .before .before .before .before)) (c .before .before .before .before .before .before .before .before .before .before .before .before .before .before .before .before .before .before .before .before .args .out .now) (c .before .before .before .before .before .before .before .before .before .before .before .before .before .before .before .before .before .before .before .before .pre)
 
 -- src/lib.rt:75:1
 same-length-2 : tie.Need-same-length-2
@@ -81,7 +93,7 @@ same-length-2 c = search needs
 
 -- src/lib.rt:75:1
 returns-2 : tie.Need-returns-2
-returns-2 c = ?
+returns-2 c = let A = report-response (from-empty (c .before .before .before .before .before .before .before .before .before .before .before .before)) (c .before .before .before .before .before .before .if1 .left) (c .before .before .write-report .ensures .0) in (A .start-and-text, (A .rest, omega (arith, few-rows (from-empty (c .before .before .before .before .before .before .before .before .before .before .before .before)), c .before .before .write-report .ensures .1)))
 
 pub respond-spec : {M : Type 1} → statement M
 respond-spec =

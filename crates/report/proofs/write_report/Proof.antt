@@ -1,3 +1,5 @@
+use native.Mathlib.Omega.{arith}
+use Rattle.report.proofs.Lines.{report-lines}
 use borrow.Author.Needs.{needs}
 use Rattle.report.proofs.write_report.Statement.{statement}
 use Rattle.report.proofs.write_report.Tie as tie
@@ -33,7 +35,7 @@ same-length c = search needs
 
 -- src/lib.rt:64:1
 returns : tie.Need-returns
-returns c = ?
+returns c = (report-lines (c .before .before .before .before .before .before .before .before .before .before .before .before .before .before .before .before .before .args .result) (c .before .before .before .before .before .before .before .before .before .before .before .before .before .before .before .before .before .args .kept .now) (c .before .before .before .before .before .before .before .before .before .before .before .before .before .before .before .before .before .args .supports .now) (c .before .before .before .before .before .before .before .before .before .before .before .before .before .before .before .before .before .pre .places) (c .before .before .before .before .before .before .before .before .before .before .before .before .write-result .ensures .0) (c .before .before .before .before .before .before .write-labelled .ensures .0) (c .before .before .write-rows .ensures .0), omega (arith, c .before .before .before .before .before .before .before .before .before .before .before .before .write-result .ensures .1, c .before .before .before .before .before .before .write-labelled .ensures .1, c .before .before .write-rows .ensures .1))
 
 pub write-report-spec : {M : Type 1} → statement M
 write-report-spec =

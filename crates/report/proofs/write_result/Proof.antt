@@ -1,3 +1,6 @@
+use native.Mathlib.Omega.{arith}
+use Rattle.report.specs.Text.{resultLine}
+use Rattle.report.proofs.Appending.{both-appended}
 use borrow.Author.Needs.{needs}
 use Rattle.report.proofs.write_result.Statement.{statement}
 use Rattle.report.proofs.write_result.Tie as tie
@@ -43,7 +46,8 @@ same-length c = search needs
 
 -- src/lib.rt:52:1
 returns : tie.Need-returns
-returns c = ?
+unfolding resultLine
+returns c = (both-appended (c .before .before .before .before .before .before .before .before .before .before .before .before .before .before .before .before .before .write-labelled .ensures .0) (both-appended (c .before .before .before .before .before .before .before .before .before .before .before .before .write-labelled2 .ensures .0) (both-appended (c .before .before .before .before .before .before .before .write-labelled3 .ensures .0) (c .before .before .write-labelled4 .ensures .0))), omega (arith, c .before .before .before .before .before .before .before .before .before .before .before .before .before .before .before .before .before .write-labelled .ensures .1, c .before .before .before .before .before .before .before .before .before .before .before .before .write-labelled2 .ensures .1, c .before .before .before .before .before .before .before .write-labelled3 .ensures .1, c .before .before .write-labelled4 .ensures .1))
 
 pub write-result-spec : {M : Type 1} → statement M
 write-result-spec =
