@@ -3,3 +3,4 @@ pub mod Appending
 pub mod Lines
 pub mod Sound
 pub mod Responding
+pub mod Worked

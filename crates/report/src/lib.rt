@@ -15,7 +15,7 @@ ghost use Rattle.report.specs.Appended.{Appended, Printable, rowRoom, re
 
 // Room for a response.
 pub fn response_buffer() -> [u8; 180314]
-    ensures { λ r. ⌜ r ≡ replicate 180314 0 ⌝ }
+    ensures { λ r. ⌜ responseRoom ≡ length r ⌝ }
 {
     [0u8; 180314]
 }
