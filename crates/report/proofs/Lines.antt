@@ -1,18 +1,16 @@
 -- Laws of the lines of kept rows, written one behind the other. Assumes nothing.
-use Prim.Native.Nat.{ℕ, zero, suc, _+_, _*_, _≤_, _<_}
-use mathlib.Core.Path.{_≡_, refl, sym, ap, _∙_, subst}
+use Prim.Native.Nat.{ℕ, _+_, _*_, _≤_, _<_}
+use mathlib.Core.Path.{_≡_, refl, sym, ap, _∙_}
 use mathlib.Core.List.{List, [], _∷_, _++_, append-nil, append-assoc}
 use native.Mathlib.Numerals.{add-one}
-use native.Mathlib.Omega.{arith}
 use lib.ListN.{length, getD, take}
 use lib.Seq.{take-suc, take-all}
 use Rattle.rdf.specs.declared.Triple.{Triple}
 use Rattle.rdf.specs.Triple.{triple}
-use Rattle.table.specs.Table.{count, rowAt, rows}
+use Rattle.table.specs.Table.{count, rowAt}
 use Rattle.table.proofs.Rows.{length-rows}
 use Rattle.rdfs.specs.Saturation.{Kept}
 use Rattle.store.specs.Store.{keptOf}
-use Rattle.store.specs.Entries.{entries}
 use Rattle.store.proofs.Entries.{noEntry, length-entries, getD-entries, keptOf-entries}
 use Rattle.deliver.specs.declared.Delivered.{Delivered}
 use Rattle.report.specs.Text.{labelled, rowsWord, newline, resultLine, rowsLine, rowLine, rowLines, reportText}

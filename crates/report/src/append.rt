@@ -94,7 +94,14 @@ pub fn write_rows(kept: &[u32], supports: &[u16], out: &mut [u8], at: usize) -> 
     let mut to = at;
     while i < n {
         let word = i * 3 + 1;
-        to = write_row(kept[word], kept[word + 1], kept[word + 2], supports[i], out, to);
+        to = write_row(
+            kept[word],
+            kept[word + 1],
+            kept[word + 2],
+            supports[i],
+            out,
+            to,
+        );
         i += 1;
     }
     to

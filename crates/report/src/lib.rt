@@ -82,13 +82,7 @@ pub fn respond(input: &[u8], out: &mut [u8]) -> usize
     let mut facts = no_facts();
     let mut kept = no_kept();
     let mut supports = no_supports();
-    let result = stub::deliver(
-        &mut statements,
-        &mut facts,
-        &mut kept,
-        &mut supports,
-        input,
-    );
+    let result = stub::deliver(&mut statements, &mut facts, &mut kept, &mut supports, input);
     if result.refusal != 0 {
         return write_labelled(b"refused ", result.refusal, b'\n', out, 0);
     }

@@ -1,50 +1,38 @@
+-- The four numbers with their words, one behind the other. Assumes nothing.
 use native.Mathlib.Omega.{arith}
 use Rattle.report.specs.Text.{resultLine}
 use Rattle.report.proofs.Appending.{both-appended}
 use borrow.Author.Needs.{needs}
 use Rattle.report.proofs.write_result.Statement.{statement}
 use Rattle.report.proofs.write_result.Tie as tie
-use Rattle.report.proofs.write_result.Reads as reads
-use Rattle.report.proofs.write_result.Lts as lts
-use Rattle.report.proofs.append.write_labelled.Reads as write-labelled-reads
 
--- src/lib.rt:57:37
 slice-aggregate-write-labelled : tie.Need-slice-aggregate-write-labelled
 slice-aggregate-write-labelled c = search needs
 
--- src/lib.rt:57:9
 write-labelled-requires : tie.Need-write-labelled-requires
 write-labelled-requires c κs = search needs
 
--- src/lib.rt:58:34
 slice-aggregate-write-labelled-2 : tie.Need-slice-aggregate-write-labelled-2
 slice-aggregate-write-labelled-2 c = search needs
 
--- src/lib.rt:58:9
 write-labelled-requires-2 : tie.Need-write-labelled-requires-2
 write-labelled-requires-2 c κs = search needs
 
--- src/lib.rt:59:37
 slice-aggregate-write-labelled-3 : tie.Need-slice-aggregate-write-labelled-3
 slice-aggregate-write-labelled-3 c = search needs
 
--- src/lib.rt:59:9
 write-labelled-requires-3 : tie.Need-write-labelled-requires-3
 write-labelled-requires-3 c κs = search needs
 
--- src/lib.rt:60:20
 slice-aggregate-write-labelled-4 : tie.Need-slice-aggregate-write-labelled-4
 slice-aggregate-write-labelled-4 c = search needs
 
--- src/lib.rt:60:5
 write-labelled-requires-4 : tie.Need-write-labelled-requires-4
 write-labelled-requires-4 c κs = search needs
 
--- src/lib.rt:52:1
 same-length : tie.Need-same-length
 same-length c = search needs
 
--- src/lib.rt:52:1
 returns : tie.Need-returns
 unfolding resultLine
 returns c = (both-appended (c .before .before .before .before .before .before .before .before .before .before .before .before .before .before .before .before .before .write-labelled .ensures .0) (both-appended (c .before .before .before .before .before .before .before .before .before .before .before .before .write-labelled2 .ensures .0) (both-appended (c .before .before .before .before .before .before .before .write-labelled3 .ensures .0) (c .before .before .write-labelled4 .ensures .0))), omega (arith, c .before .before .before .before .before .before .before .before .before .before .before .before .before .before .before .before .before .write-labelled .ensures .1, c .before .before .before .before .before .before .before .before .before .before .before .before .write-labelled2 .ensures .1, c .before .before .before .before .before .before .before .write-labelled3 .ensures .1, c .before .before .write-labelled4 .ensures .1))

@@ -1,4 +1,4 @@
--- The number without its last digit is less. Assumes nothing.
+-- The number without its last digit is less, and its digits come first. Assumes nothing.
 use mathlib.Core.Path.{sym, _∙_}
 use native.Mathlib.Omega.{arith}
 use Rattle.report.proofs.Decimal.{decimal-small, decimal-large}
@@ -28,7 +28,6 @@ write-number-below t =
     (falls 1 write-number-kinds.ps _<_ μ-write-number t)
     write-number.Pre
 
--- src/append.rt:40:32
 write-number-cast-write-byte : (t : ℕ) → write-number-lts.Need-cast-write-byte (
   write-byte-reads.Asked,
   write-byte-reads.Learnt,
@@ -37,7 +36,6 @@ write-number-cast-write-byte : (t : ℕ) → write-number-lts.Need-cast-write-by
 ) (write-number-at t) write-number.Post
 write-number-cast-write-byte t c = omega arith
 
--- src/append.rt:40:27
 write-number-add-write-byte : (t : ℕ) → write-number-lts.Need-add-write-byte (
   write-byte-reads.Asked,
   write-byte-reads.Learnt,
@@ -46,7 +44,6 @@ write-number-add-write-byte : (t : ℕ) → write-number-lts.Need-add-write-byte
 ) (write-number-at t) write-number.Post
 write-number-add-write-byte t c = omega arith
 
--- src/append.rt:40:9
 write-number-write-byte-requires : (t : ℕ) → write-number-lts.Need-write-byte-requires (
   write-byte-reads.Asked,
   write-byte-reads.Learnt,
@@ -55,7 +52,6 @@ write-number-write-byte-requires : (t : ℕ) → write-number-lts.Need-write-byt
 ) (write-number-at t) write-number.Post
 write-number-write-byte-requires t c κs = small-room (c .before .before .before .args .n) (c .before .before .before .args .at) (c .before .before .before .args .out .now) (c .before .if1 .taken) (c .before .before .before .pre .1)
 
--- src/append.rt:40:9
 write-number-same-length : (t : ℕ) → write-number-lts.Need-same-length (
   write-byte-reads.Asked,
   write-byte-reads.Learnt,
@@ -64,7 +60,6 @@ write-number-same-length : (t : ℕ) → write-number-lts.Need-same-length (
 ) (write-number-at t) write-number.Post
 write-number-same-length t c = c .before .before .write-byte .kept .1 .0
 
--- src/append.rt:40:9
 write-number-returns : (t : ℕ) → write-number-lts.Need-returns (
   write-byte-reads.Asked,
   write-byte-reads.Learnt,
@@ -73,7 +68,6 @@ write-number-returns : (t : ℕ) → write-number-lts.Need-returns (
 ) (write-number-at t) write-number.Post
 write-number-returns t c = text-appended (sym (decimal-small (c .before .before .before .before .before .before .args .n) (c .before .before .before .before .if1 .taken))) (c .before .before .write-byte .ensures)
 
--- src/append.rt:42:9
 write-number-write-number-requires : (t : ℕ) → write-number-lts.Need-write-number-requires (
   write-byte-reads.Asked,
   write-byte-reads.Learnt,
@@ -82,7 +76,6 @@ write-number-write-number-requires : (t : ℕ) → write-number-lts.Need-write-n
 ) (write-number-at t) write-number.Post
 write-number-write-number-requires t c κs = (omega (arith, c .before .before .before .pre .0), large-room (c .before .before .before .args .n) (c .before .before .before .args .at) (c .before .before .before .args .out .now) (c .before .if1 .left) (c .before .before .before .pre .1))
 
--- src/append.rt:43:21
 write-number-cast-write-byte-2 : (t : ℕ) → write-number-lts.Need-cast-write-byte-2 (
   write-byte-reads.Asked,
   write-byte-reads.Learnt,
@@ -91,7 +84,6 @@ write-number-cast-write-byte-2 : (t : ℕ) → write-number-lts.Need-cast-write-
 ) (write-number-at t) write-number.Post
 write-number-cast-write-byte-2 t c = omega arith
 
--- src/append.rt:43:16
 write-number-add-write-byte-2 : (t : ℕ) → write-number-lts.Need-add-write-byte-2 (
   write-byte-reads.Asked,
   write-byte-reads.Learnt,
@@ -100,7 +92,6 @@ write-number-add-write-byte-2 : (t : ℕ) → write-number-lts.Need-add-write-by
 ) (write-number-at t) write-number.Post
 write-number-add-write-byte-2 t c = omega arith
 
--- src/append.rt:43:5
 write-number-write-byte-requires-2 : (t : ℕ) → write-number-lts.Need-write-byte-requires-2 (
   write-byte-reads.Asked,
   write-byte-reads.Learnt,
@@ -109,7 +100,6 @@ write-number-write-byte-requires-2 : (t : ℕ) → write-number-lts.Need-write-b
 ) (write-number-at t) write-number.Post
 write-number-write-byte-requires-2 t c κs = last-room (c .before .before .before .before .before .before .before .args .n) (c .before .before .before .before .before .before .before .args .at) (c .before .before .before .before .before .before .before .args .out .now) (c .before .before .before .write-number .last .1 .0) _ (c .before .before .before .before .before .if1 .left) (c .before .before .before .before .before .before .before .pre .1) (c .before .before .before .write-number .ensures .ends) (c .before .before .before .write-number .kept .1 .0)
 
--- src/append.rt:35:1
 write-number-same-length-2 : (t : ℕ) → write-number-lts.Need-same-length-2 (
   write-byte-reads.Asked,
   write-byte-reads.Learnt,
@@ -118,7 +108,6 @@ write-number-same-length-2 : (t : ℕ) → write-number-lts.Need-same-length-2 (
 ) (write-number-at t) write-number.Post
 write-number-same-length-2 t c = c .before .before .write-byte2 .kept .1 .0 ∙ c .before .before .before .before .before .before .write-number .kept .1 .0
 
--- src/append.rt:35:1
 write-number-returns-2 : (t : ℕ) → write-number-lts.Need-returns-2 (
   write-byte-reads.Asked,
   write-byte-reads.Learnt,

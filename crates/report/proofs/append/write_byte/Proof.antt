@@ -1,23 +1,18 @@
+-- The byte stands at its place. Assumes nothing.
 use Rattle.report.proofs.Appending.{byte-appended}
 use borrow.Author.Needs.{needs}
 use Rattle.report.proofs.append.write_byte.Statement.{statement}
 use Rattle.report.proofs.append.write_byte.Tie as tie
-use Rattle.report.proofs.append.write_byte.Reads as reads
-use Rattle.report.proofs.append.write_byte.Lts as lts
 
--- src/append.rt:16:5
 slice-write-out : tie.Need-slice-write-out
 slice-write-out c = search needs
 
--- src/append.rt:17:5
 add-result : tie.Need-add-result
 add-result c = search needs
 
--- src/append.rt:12:1
 same-length : tie.Need-same-length
 same-length c = search needs
 
--- src/append.rt:12:1
 returns : tie.Need-returns
 returns c = byte-appended (c .args .byte) (c .args .out .now) (c .args .at) (c .pre)
 

@@ -1,27 +1,20 @@
+-- The digits, then the byte; ten digits at most. Assumes nothing.
 use native.Mathlib.Omega.{arith}
 use Rattle.report.proofs.Decimal.{decimal-length}
 use Rattle.report.proofs.Appending.{both-appended}
 use borrow.Author.Needs.{needs}
 use Rattle.report.proofs.append.write_field.Statement.{statement}
 use Rattle.report.proofs.append.write_field.Tie as tie
-use Rattle.report.proofs.append.write_field.Reads as reads
-use Rattle.report.proofs.append.write_field.Lts as lts
-use Rattle.report.proofs.append.write_byte.Reads as write-byte-reads
-use Rattle.report.proofs.append.write_number.Reads as write-number-reads
 
--- src/append.rt:52:9
 write-number-requires : tie.Need-write-number-requires
 write-number-requires c κs = omega (arith, decimal-length (c .before .before .args .n) (c .before .before .fits .n .fits))
 
--- src/append.rt:53:5
 write-byte-requires : tie.Need-write-byte-requires
 write-byte-requires c κs = omega (arith, decimal-length (c .before .before .before .before .before .before .args .n) (c .before .before .before .before .before .before .fits .n .fits), c .before .before .before .write-number .ensures .ends)
 
--- src/append.rt:47:1
 same-length : tie.Need-same-length
 same-length c = search needs
 
--- src/append.rt:47:1
 returns : tie.Need-returns
 returns c = (both-appended (c .before .before .before .before .before .before .write-number .ensures) (c .before .before .write-byte .ensures), omega (arith, decimal-length (c .before .before .before .before .before .before .before .before .before .args .n) (c .before .before .before .before .before .before .before .before .before .fits .n .fits), c .before .before .before .before .before .before .write-number .ensures .ends, c .before .before .write-byte .ensures .ends))
 

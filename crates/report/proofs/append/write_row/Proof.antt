@@ -1,34 +1,26 @@
+-- The four numbers, one behind the other. Assumes nothing.
 use native.Mathlib.Omega.{arith}
 use Rattle.report.specs.Text.{rowLine}
 use Rattle.report.proofs.Appending.{both-appended}
 use borrow.Author.Needs.{needs}
 use Rattle.report.proofs.append.write_row.Statement.{statement}
 use Rattle.report.proofs.append.write_row.Tie as tie
-use Rattle.report.proofs.append.write_row.Reads as reads
-use Rattle.report.proofs.append.write_row.Lts as lts
-use Rattle.report.proofs.append.write_field.Reads as write-field-reads
 
--- src/append.rt:79:9
 write-field-requires : tie.Need-write-field-requires
 write-field-requires c κs = search needs
 
--- src/append.rt:80:9
 write-field-requires-2 : tie.Need-write-field-requires-2
 write-field-requires-2 c κs = search needs
 
--- src/append.rt:81:9
 write-field-requires-3 : tie.Need-write-field-requires-3
 write-field-requires-3 c κs = search needs
 
--- src/append.rt:82:5
 write-field-requires-4 : tie.Need-write-field-requires-4
 write-field-requires-4 c κs = search needs
 
--- src/append.rt:67:1
 same-length : tie.Need-same-length
 same-length c = search needs
 
--- src/append.rt:67:1
 returns : tie.Need-returns
 unfolding rowLine
 returns c = (both-appended (c .before .before .before .before .before .before .before .before .before .before .before .before .before .before .write-field .ensures .0) (both-appended (c .before .before .before .before .before .before .before .before .before .before .write-field2 .ensures .0) (both-appended (c .before .before .before .before .before .before .write-field3 .ensures .0) (c .before .before .write-field4 .ensures .0))), omega (arith, c .before .before .before .before .before .before .before .before .before .before .before .before .before .before .write-field .ensures .1, c .before .before .before .before .before .before .before .before .before .before .write-field2 .ensures .1, c .before .before .before .before .before .before .write-field3 .ensures .1, c .before .before .write-field4 .ensures .1))

@@ -1,3 +1,4 @@
+-- The first i bytes of the word are appended. Assumes nothing.
 use borrow.Author.Needs.{needs}
 use Prim.Native.Nat.{_≤_, _-_, zero-le}
 use mathlib.Core.Path.{_≡_, refl, _∙_}
@@ -7,9 +8,6 @@ use Rattle.report.specs.Appended.{Appended}
 use Rattle.report.proofs.Appending.{none-appended, word-more, word-whole, word-place}
 use Rattle.report.proofs.append.write_word.Statement.{statement}
 use Rattle.report.proofs.append.write_word.Tie as tie
-use Rattle.report.proofs.append.write_word.Reads as reads
-use Rattle.report.proofs.append.write_word.Lts as lts
-use Rattle.report.proofs.append.write_byte.Reads as write-byte-reads
 
 abbrev Inv-loop : tie.InvT-loop
 Inv-loop word out₀ at i₀ to₀ out i to = (i ≤ length word) × Appended (take i word) at out₀ out to × (length out ≡ length out₀)
@@ -17,35 +15,27 @@ Inv-loop word out₀ at i₀ to₀ out i to = (i ≤ length word) × Appended (t
 abbrev μ-loop : tie.MeasureT-loop
 μ-loop word out₀ at i₀ to₀ out i to = length word - i
 
--- src/append.rt:27:5
 loop-holds : tie.Need-loop-holds Inv-loop μ-loop
 loop-holds c = (zero-le, none-appended (c .before .before .args .out .now) (c .before .before .args .at), refl)
 
--- src/append.rt:28:25
 shared-slice-read-write-byte : tie.Need-shared-slice-read-write-byte Inv-loop μ-loop
 shared-slice-read-write-byte c = search needs
 
--- src/append.rt:28:9
 write-byte-requires : tie.Need-write-byte-requires Inv-loop μ-loop
 write-byte-requires c κs = omega (arith, word-place (c .before .before .before .before .before .before .args .word .now) (c .before .before .before .loop .i) (c .before .before .before .loop .inv .0) (c .before .before .before .loop .inv .1), c .before .before .before .before .before .before .pre)
 
--- src/append.rt:29:9
 add-i : tie.Need-add-i Inv-loop μ-loop
 add-i c = search needs
 
--- src/append.rt:27:5
 loop-less : tie.Need-loop-less Inv-loop μ-loop
 loop-less c = search needs
 
--- src/append.rt:27:5
 loop-again : tie.Need-loop-again Inv-loop μ-loop
 loop-again c = (omega arith, word-more (c .before .before .before .before .before .before .before .before .before .args .word .now) (c .before .before .before .before .before .before .loop .i) (c .before .before .before .before .before .loop-test .taken) (c .before .before .before .before .before .before .loop .inv .1) (c .before .before .write-byte .ensures), c .before .before .write-byte .kept .1 .0 ∙ c .before .before .before .before .before .before .loop .inv .2)
 
--- src/append.rt:21:1
 same-length : tie.Need-same-length Inv-loop μ-loop
 same-length c = search needs
 
--- src/append.rt:21:1
 returns : tie.Need-returns Inv-loop μ-loop
 returns c = word-whole (c .before .before .before .before .args .word .now) (c .before .loop .i) (c .loop-test .left) (c .before .loop .inv .1)
 
