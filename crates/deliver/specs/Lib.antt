@@ -1,1 +1,2 @@
 pub mod Deliver
+pub mod Running

@@ -1,1 +1,3 @@
 pub mod Message
+pub mod Fields
+pub mod Encoding

@@ -12,12 +12,12 @@ use Rattle.rdf.specs.Order.{equalTriples, Ascending, insert, remove}
 use Rattle.rdf.proofs.Order.{choose-elim}
 use Rattle.rdf.proofs.Ascending.{insert-asc, insert-cases, insert-length, remove-asc, remove-sub, remove-length}
 use Rattle.rdfs.specs.Closure.{isIn, carried}
-use Rattle.rdfs.specs.Saturation.{Kept, lookup, raiseAll, lowerAll, saturation, keptSupports}
+use Rattle.rdfs.specs.Saturation.{Kept, lookup, raiseAll, lowerAll, saturation, keptRows, keptSupports}
 use Rattle.rdfs.specs.Counts.{Counts}
 use Rattle.rdfs.proofs.Entailment.{allowed-no-vocabulary, holds-allowed}
 use Rattle.rdfs.proofs.Carried.{carried-ascends, carried-iff}
-use Rattle.rdfs.proofs.Kept.{counts-of, support-of, kept-positive}
-use Rattle.rdfs.proofs.Saturation.{among, raiseAll-counts, lookup-raiseAll, lowerAll-length, saturation-ascends, saturation-allowed, saturation-supports, lower-saturation}
+use Rattle.rdfs.proofs.Kept.{counts-of, support-of, kept-positive, kept-ascends, lookup-kept}
+use Rattle.rdfs.proofs.Saturation.{among, raiseAll-counts, lookup-raiseAll, lookup-lowerAll, lowerAll-counts, lowerAll-length, saturation-ascends, saturation-allowed, saturation-supports, lower-saturation}
 use Rattle.store.specs.Store.{Tables, Contents, contents, statementCapacity, factCapacity, keptCapacity}
 use Rattle.store.specs.Update.{withTriple, withoutTriple}
 use Rattle.store.proofs.Missing.{raiseAll-asc, raiseAll-cases, insert-new-length}
@@ -108,3 +108,45 @@ module _ {c : Contents} {T : Tables} (X : Fitting c T) (t : Triple) where
       let few : length (saturation (c .statements) (remove t (c .facts))) ≤ keptCapacity T = rw (← is) (let h = X .kept-fit in omega (arith, lowerAll-length (carried (c .statements) t) (c .kept))) in
       rw (s, is) (saturation-fitting (c .statements) (remove t (c .facts)) (X .statements-ascend) (remove-asc t (c .facts) (X .facts-ascend))
       (X .statements-allowed) (λ u i. X .facts-allowed u (remove-sub t (c .facts) i)) (X .statements-fit) (let h = X .facts-fit in omega (arith, remove-length t (c .facts))) few)
+
+-- ---- a fact goes, whatever the kept facts are
+
+-- Lowering raises no support,
+lowered-lookup : (ts : List Triple) (k : Kept) → Ascending ts → Counts k → (u : Triple) → lookup (lowerAll ts k) u ≤ lookup k u
+lowered-lookup ts k o a u = omega (arith, lookup-lowerAll ts k u o a)
+
+-- so that no support passes a bound of all,
+pub lowered-supports : (ts : List Triple) (k : Kept) (b : ℕ) → Ascending ts → Counts k → ((n : ℕ) → List·Memᴰ n (keptSupports k) → n ≤ b) → (n : ℕ) → List·Memᴰ n (keptSupports (lowerAll ts k)) → n ≤ b
+lowered-supports ts k b o a h n m =
+    let r = support-of (lowerAll ts k) n (lowerAll-counts ts k a) m in
+    omega (arith, r .supported, lowered-lookup ts k o a (r .row), lookup-bound k b h (r .row))
+
+-- and the rows left are some of those before.
+lowered-rows : (ts : List Triple) (k : Kept) → Ascending ts → Counts k → (u : Triple) → List·Memᴰ u (keptRows (lowerAll ts k)) → List·Memᴰ u (keptRows k)
+lowered-rows ts k o a u m = lookup-kept k u a .0 (omega (arith, lookup-kept (lowerAll ts k) u (lowerAll-counts ts k a) .1 m, lowered-lookup ts k o a u))
+
+-- Kept facts that fit ascend, with supports of at least 1.
+pub fitting-counts : {c : Contents} {T : Tables} → Fitting c T → Counts (c .kept)
+fitting-counts {c} X = counts-of (c .kept) (X .kept-ascend) (λ m i. let b = X .supports-between m i in omega (arith, b .0))
+
+-- What is left fits where no support is above the number of facts left.
+pub fact-leaves : {c : Contents} {T : Tables} → Fitting c T → (t : Triple) → isStatement t ≡ false
+    → ((n : ℕ) → List·Memᴰ n (keptSupports (withoutTriple t c .kept)) → n ≤ length (withoutTriple t c .facts)) → Fitting (withoutTriple t c) T
+unfolding withoutTriple
+fact-leaves {c} {T} X t s h =
+    let ts : List Triple = carried (c .statements) t in
+    let o = carried-ascends (c .statements) t in
+    let a = fitting-counts X in
+    let left = lowerAll-counts ts (c .kept) a in
+    rw s (record {
+      statements-ascend = X .statements-ascend;
+      facts-ascend = remove-asc t (c .facts) (X .facts-ascend);
+      kept-ascend = kept-ascends (lowerAll ts (c .kept)) left;
+      statements-allowed = X .statements-allowed;
+      facts-allowed = λ u i. X .facts-allowed u (remove-sub t (c .facts) i);
+      kept-allowed = λ u i. X .kept-allowed u (lowered-rows ts (c .kept) o a u i);
+      statements-fit = X .statements-fit;
+      facts-fit = let f = X .facts-fit in omega (arith, remove-length t (c .facts));
+      kept-fit = let k = X .kept-fit in omega (arith, lowerAll-length ts (c .kept));
+      supports-between = λ n i. (kept-positive (lowerAll ts (c .kept)) left n i, (rw s at h) n i);
+    })

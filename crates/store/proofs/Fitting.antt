@@ -62,10 +62,10 @@ pub record SameLengths (T T' : Tables) : Type 0 where
   pub same-kept : length (T .kept) ≡ length (T' .kept)
   pub same-supports : length (T .supports) ≡ length (T' .supports)
 
-length-rows-of : (k : Kept) → length (keptRows k) ≡ length k
+pub length-rows-of : (k : Kept) → length (keptRows k) ≡ length k
 length-rows-of k = length-map k (λ (e : Triple × ℕ). e .0)
 
-length-supports-of : (k : Kept) → length (keptSupports k) ≡ length k
+pub length-supports-of : (k : Kept) → length (keptSupports k) ≡ length k
 length-supports-of k = length-map k (λ (e : Triple × ℕ). e .1)
 
 module _ {c : Contents} {T : Tables} (X : Fitting c T) (H : Worded T) where
@@ -102,7 +102,8 @@ module _ {c : Contents} {T : Tables} (X : Fitting c T) (H : Worded T) where
 -- ---- what well-formed tables hold fits them
 
 module _ {S F K U : List ℕ} (W : FormedStore S F K U) where
-  supports-are : keptSupports (keptOf K U) ≡ take (count K) U
+  -- The supports of the rows, as words.
+  pub supports-are : keptSupports (keptOf K U) ≡ take (count K) U
   supports-are = rw (keptOf-entries K U (count K) (length-rows K)) (keptSupports-entries (count K) K U (W .supports .within))
 
   formed-fits : Fitting (contentsOf (tables S F K U)) (tables S F K U)

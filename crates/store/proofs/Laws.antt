@@ -29,7 +29,7 @@ use Rattle.store.proofs.Applied.{fact-enters, statement-enters, stateme
 -- ---- the three answers
 
 -- What holds of each outcome holds of a decision.
-decide-elim : (Q : Outcome → Type 0) (q : ℕ) (b : Bool) (c : Contents) (T : Tables)
+pub decide-elim : (Q : Outcome → Type 0) (q : ℕ) (b : Bool) (c : Contents) (T : Tables)
     → ((n : ℕ) → q ≡ suc n → Q (outcome (Refused (suc n)) T)) → (q ≡ 0 → b ≡ true → Q (outcome Applied (put c T))) → (q ≡ 0 → b ≡ false → Q (outcome Idle T)) → Q (decide q b c T)
 unfolding decide
 decide-elim Q (suc n) b c T r a i = r n refl

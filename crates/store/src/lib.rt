@@ -9,6 +9,7 @@ use rdf::Triple;
 use statement_updates::add_statement;
 use statement_updates::withdraw_statement;
 ghost use mathlib.Core.Path.{_≡_};
+ghost use Rattle.table.specs.Laid.{FormedStore};
 ghost use Rattle.store.specs.Store.{tables};
 ghost use Rattle.store.specs.Update.{outcome, add, withdraw};
 
@@ -17,6 +18,29 @@ pub enum Answer {
     Applied,
     Idle,
     Refused(u32),
+}
+
+// Adds a triple to a store that is well formed, so that question 1 is passed: a statement or a fact.
+pub fn add_to_formed(
+    statements: &mut [u32],
+    facts: &mut [u32],
+    kept: &mut [u32],
+    supports: &mut [u16],
+    triple: Triple,
+) -> Answer
+    requires { ⌜ FormedStore (now statements) (now facts) (now kept) (now supports) ⌝ }
+    ensures { λ r. ⌜ outcome r (tables (now (statements .exit)) (now (facts .exit)) (now (kept .exit)) (now (supports .exit))) ≡ add (tables (now (statements .entry)) (now (facts .entry)) (now (kept .entry)) (now (supports .entry))) triple ⌝ }
+{
+    if !triple.is_triple() {
+        return Answer::Refused(2);
+    }
+    if !triple.is_statement() {
+        return add_fact(statements, facts, kept, supports, triple);
+    }
+    if !triple.are_sides_allowed() {
+        return Answer::Refused(3);
+    }
+    add_statement(statements, facts, kept, supports, triple)
 }
 
 // Adds a triple to a store: a statement or a fact. Questions 1 to 5 in their order; the first "no" refuses, and changes no word.
@@ -32,16 +56,30 @@ pub fn add(
     if !table::is_store(statements, facts, kept, supports) {
         return Answer::Refused(1);
     }
+    add_to_formed(statements, facts, kept, supports, triple)
+}
+
+// Withdraws a triple from a store that is well formed, so that question 1 is passed.
+pub fn withdraw_from_formed(
+    statements: &mut [u32],
+    facts: &mut [u32],
+    kept: &mut [u32],
+    supports: &mut [u16],
+    triple: Triple,
+) -> Answer
+    requires { ⌜ FormedStore (now statements) (now facts) (now kept) (now supports) ⌝ }
+    ensures { λ r. ⌜ outcome r (tables (now (statements .exit)) (now (facts .exit)) (now (kept .exit)) (now (supports .exit))) ≡ withdraw (tables (now (statements .entry)) (now (facts .entry)) (now (kept .entry)) (now (supports .entry))) triple ⌝ }
+{
     if !triple.is_triple() {
         return Answer::Refused(2);
     }
     if !triple.is_statement() {
-        return add_fact(statements, facts, kept, supports, triple);
+        return withdraw_fact(statements, facts, kept, supports, triple);
     }
     if !triple.are_sides_allowed() {
         return Answer::Refused(3);
     }
-    add_statement(statements, facts, kept, supports, triple)
+    withdraw_statement(statements, facts, kept, supports, triple)
 }
 
 // Withdraws a triple from a store. Questions 1 to 3 and 5 in their order; the first "no" refuses, and changes no word.
@@ -57,14 +95,5 @@ pub fn withdraw(
     if !table::is_store(statements, facts, kept, supports) {
         return Answer::Refused(1);
     }
-    if !triple.is_triple() {
-        return Answer::Refused(2);
-    }
-    if !triple.is_statement() {
-        return withdraw_fact(statements, facts, kept, supports, triple);
-    }
-    if !triple.are_sides_allowed() {
-        return Answer::Refused(3);
-    }
-    withdraw_statement(statements, facts, kept, supports, triple)
+    withdraw_from_formed(statements, facts, kept, supports, triple)
 }

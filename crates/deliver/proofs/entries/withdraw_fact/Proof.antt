@@ -1,0 +1,69 @@
+-- What the withdrawal of a fact leaves, and a bound of its supports. Assumes nothing.
+use mathlib.Core.Path.{ap}
+use native.Mathlib.Omega.{arith}
+use borrow.Author.Needs.{needs}
+use Rattle.store.specs.Update.{Outcome}
+use Rattle.deliver.specs.Deliver.{asPair}
+use Rattle.deliver.proofs.Formed.{lowered-places, lowered-within, lowered-formed}
+use Rattle.deliver.proofs.entries.withdraw_fact.Statement.{statement}
+use Rattle.deliver.proofs.entries.withdraw_fact.Tie as tie
+
+withdraw-from-formed-requires : tie.Need-withdraw-from-formed-requires
+withdraw-from-formed-requires c κs = search needs
+
+slice-read-n : tie.Need-slice-read-n
+slice-read-n c = search needs
+
+cast-n : tie.Need-cast-n
+cast-n c =
+    let after-slice-known9 = c in
+    omega (arith, after-slice-known9 .slice-known9 .given 0)
+
+slice-read-bound : tie.Need-slice-read-bound
+slice-read-bound c = search needs
+
+cast-bound : tie.Need-cast-bound
+cast-bound c =
+    let after-slice-known10 = c in
+    omega (arith, after-slice-known10 .slice-known10 .given 0)
+
+bound-requires : tie.Need-bound-requires
+bound-requires c κs =
+    let start = c .before .before .before .before .before .before .before .before .before .before .before .before .before .before .before .before .before .before .before .before in
+    let after-withdraw-from-formed = c .before .before .before .before .before .before .before .before .before .before .before in
+    (lowered-places (start .args .fact) (start .pre .0) (start .pre .1 .0) (after-withdraw-from-formed .withdraw-from-formed .ensures), lowered-within (start .args .fact) (start .pre .0) (start .pre .1 .0) (after-withdraw-from-formed .withdraw-from-formed .ensures) _ (start .pre .1 .1))
+
+same-length : tie.Need-same-length
+same-length c = search needs
+
+same-length-2 : tie.Need-same-length-2
+same-length-2 c = search needs
+
+same-length-3 : tie.Need-same-length-3
+same-length-3 c = search needs
+
+same-length-4 : tie.Need-same-length-4
+same-length-4 c = search needs
+
+returns : tie.Need-returns
+returns c =
+    let start = c .before .before .before .before .before .before .before .before .before .before .before .before .before .before .before .before .before .before .before .before .before in
+    let after-withdraw-from-formed = c .before .before .before .before .before .before .before .before .before .before .before .before in
+    let after-bound = c in
+    (ap (λ (o : Outcome). asPair o) (after-withdraw-from-formed .withdraw-from-formed .ensures), (after-bound .bound .ensures .0, lowered-formed (start .args .fact) (start .pre .0) (start .pre .1 .0) (after-withdraw-from-formed .withdraw-from-formed .ensures) (after-bound .bound .result) (after-bound .bound .ensures .0) (after-bound .bound .ensures .1)))
+
+pub withdraw-fact-spec : {M : Type 1} → statement M
+withdraw-fact-spec =
+    tie.close
+    (tie.spec
+    withdraw-from-formed-requires
+    slice-read-n
+    cast-n
+    slice-read-bound
+    cast-bound
+    bound-requires
+    same-length
+    same-length-2
+    same-length-3
+    same-length-4
+    returns)

@@ -1,0 +1,54 @@
+// Tallies that rise as entries are dealt with.
+use crate::Tally;
+use store::Answer;
+ghost use mathlib.Core.Path.{_≡_};
+ghost use Prim.Native.Nat.{_+_, _^_, _<_};
+ghost use Rattle.deliver.specs.Deliver.{tally, tallied};
+ghost use Rattle.deliver.specs.Running.{total};
+
+// No entry as yet.
+pub fn none() -> Tally
+    ensures { λ r. ⌜ r ≡ tally 0 0 0 ⌝ }
+{
+    Tally {
+        applied: 0,
+        idle: 0,
+        refused: 0,
+    }
+}
+
+// One entry more, with its answer.
+pub fn tallied(counted: Tally, answer: Answer) -> Tally
+    requires { ⌜ total counted + 1 < 2 ^ 32 ⌝ }
+    ensures { λ r. ⌜ r ≡ tallied answer counted ⌝ }
+{
+    match answer {
+        Answer::Applied => Tally {
+            applied: counted.applied + 1,
+            idle: counted.idle,
+            refused: counted.refused,
+        },
+        Answer::Idle => Tally {
+            applied: counted.applied,
+            idle: counted.idle + 1,
+            refused: counted.refused,
+        },
+        Answer::Refused(_) => Tally {
+            applied: counted.applied,
+            idle: counted.idle,
+            refused: counted.refused + 1,
+        },
+    }
+}
+
+// So many entries more, all refused.
+pub fn refused(counted: Tally, entries: usize) -> Tally
+    requires { ⌜ total counted + entries < 2 ^ 32 ⌝ }
+    ensures { λ r. ⌜ r ≡ tally (counted .applied) (counted .idle) (counted .refused + entries) ⌝ }
+{
+    Tally {
+        applied: counted.applied,
+        idle: counted.idle,
+        refused: counted.refused + entries as u32,
+    }
+}
