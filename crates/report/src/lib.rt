@@ -1,6 +1,5 @@
 // The report of a delivery as text (document 01, "Shelf examples"): everything that the program `families` prints.
 pub mod append; // append.rt: numbers, words and lines appended to lent bytes
-mod stub; // stub.rt
 
 use append::write_labelled;
 use append::write_rows;
@@ -82,7 +81,7 @@ pub fn respond(input: &[u8], out: &mut [u8]) -> usize
     let mut facts = no_facts();
     let mut kept = no_kept();
     let mut supports = no_supports();
-    let result = stub::deliver(&mut statements, &mut facts, &mut kept, &mut supports, input);
+    let result = deliver::deliver(&mut statements, &mut facts, &mut kept, &mut supports, input);
     if result.refusal != 0 {
         return write_labelled(b"refused ", result.refusal, b'\n', out, 0);
     }
