@@ -1,0 +1,40 @@
+-- The worked example of document 01, computed. Assumes nothing.
+use mathlib.Core.Path.{_≡_, refl}
+use mathlib.Core.List.{List, [], _∷_, zip, zipWith}
+use mathlib.Core.Logic.{Dec·and}
+use native.Mathlib.Decide.{ℕ-discrete, decLt}
+use Prim.Native.Nat.{ℕ}
+use Rattle.rdf.specs.Term.{isUri, isBlank, isLiteral, isVocabulary}
+use Rattle.rdf.specs.Triple.{isTriple, isStatement, areSidesAllowed, isAllowedStatement, isAllowedFact}
+use Rattle.rdf.specs.Refusal.{firstNo}
+use Rattle.rdf.specs.Order.{compareNumbers, compareTriples, equalTriples, choose, byOrder, isAbove, isAscending, insert, remove, ascend}
+use Rattle.table.specs.Table.{capacity, firstRows, rows, flatten, layout, areZero, all, isTable, isSupportTable, supportLayout, isStore}
+use Rattle.rdfs.specs.Closure.{isIn, add, addAll, keep, leaves, pull, afterPull, explore, spread, reach, objects, properties, subjectClasses, objectClasses, conclusions, carried}
+use Rattle.rdfs.specs.Saturation.{raise, raiseAll, saturation}
+use Rattle.store.specs.Store.{contentsOf, keptOf, put}
+use Rattle.store.specs.Update.{withTriple, isThere, isBelowCapacity, isKeptFitting, decide, add as addition}
+use Rattle.delivery.specs.Message.{short, word, entriesFrom, sectionEnd, sectionStart, fieldEnd, fieldsFrom, fieldsEnd, numberFields, read, isWhole, areSectionsRight, isNumberRight, numberOf}
+use Rattle.deliver.specs.Deliver.{tallied, runEntry, runEntries, runMessage, conclude, deliver}
+use Rattle.report.specs.Text.{digits, decimal, resultLine, rowsLine, rowLine, rowLines, reportText, refusalText, outcomeText, response}
+
+-- The 94 bytes.
+abbrev pub workedDelivery : List ℕ
+workedDelivery =
+    0 ∷ 0 ∷ 0 ∷ 0 ∷ 5 ∷ 0 ∷ 16 ∷ 0 ∷ 0 ∷ 0 ∷ 2 ∷ 0 ∷ 0 ∷ 0 ∷ 17 ∷ 0 ∷ 0 ∷ 0 ∷ 17 ∷ 0 ∷ 0 ∷ 0 ∷ 2 ∷ 0 ∷ 0 ∷ 0 ∷ 18 ∷ 0 ∷
+    0 ∷ 0 ∷ 19 ∷ 0 ∷ 0 ∷ 0 ∷ 3 ∷ 0 ∷ 0 ∷ 0 ∷ 20 ∷ 0 ∷ 0 ∷ 0 ∷ 20 ∷ 0 ∷ 0 ∷ 0 ∷ 4 ∷ 0 ∷ 0 ∷ 0 ∷ 17 ∷ 0 ∷ 0 ∷ 0 ∷ 20 ∷
+    0 ∷ 0 ∷ 0 ∷ 5 ∷ 0 ∷ 0 ∷ 0 ∷ 16 ∷ 0 ∷ 0 ∷ 0 ∷ 2 ∷ 0 ∷ 32 ∷ 0 ∷ 0 ∷ 0 ∷ 19 ∷ 0 ∷ 0 ∷ 0 ∷ 33 ∷ 0 ∷ 0 ∷ 0 ∷ 32 ∷ 0 ∷
+    0 ∷ 0 ∷ 1 ∷ 0 ∷ 0 ∷ 0 ∷ 16 ∷ 0 ∷ 0 ∷ 0 ∷ 0 ∷ 0 ∷ []
+
+-- What is printed for them.
+abbrev pub workedText : List ℕ
+workedText =
+    100 ∷ 101 ∷ 108 ∷ 105 ∷ 118 ∷ 101 ∷ 114 ∷ 121 ∷ 32 ∷ 48 ∷ 32 ∷ 97 ∷ 112 ∷ 112 ∷ 108 ∷ 105 ∷ 101 ∷ 100 ∷ 32 ∷ 55 ∷
+    32 ∷ 105 ∷ 100 ∷ 108 ∷ 101 ∷ 32 ∷ 48 ∷ 32 ∷ 114 ∷ 101 ∷ 102 ∷ 117 ∷ 115 ∷ 101 ∷ 100 ∷ 32 ∷ 48 ∷ 10 ∷ 114 ∷ 111 ∷
+    119 ∷ 115 ∷ 32 ∷ 56 ∷ 10 ∷ 51 ∷ 50 ∷ 32 ∷ 49 ∷ 32 ∷ 49 ∷ 54 ∷ 32 ∷ 49 ∷ 10 ∷ 51 ∷ 50 ∷ 32 ∷ 49 ∷ 32 ∷ 49 ∷ 55 ∷
+    32 ∷ 50 ∷ 10 ∷ 51 ∷ 50 ∷ 32 ∷ 49 ∷ 32 ∷ 49 ∷ 56 ∷ 32 ∷ 50 ∷ 10 ∷ 51 ∷ 50 ∷ 32 ∷ 49 ∷ 57 ∷ 32 ∷ 51 ∷ 51 ∷ 32 ∷ 49 ∷
+    10 ∷ 51 ∷ 50 ∷ 32 ∷ 50 ∷ 48 ∷ 32 ∷ 51 ∷ 51 ∷ 32 ∷ 49 ∷ 10 ∷ 51 ∷ 51 ∷ 32 ∷ 49 ∷ 32 ∷ 49 ∷ 54 ∷ 32 ∷ 49 ∷ 10 ∷ 51 ∷
+    51 ∷ 32 ∷ 49 ∷ 32 ∷ 49 ∷ 55 ∷ 32 ∷ 49 ∷ 10 ∷ 51 ∷ 51 ∷ 32 ∷ 49 ∷ 32 ∷ 49 ∷ 56 ∷ 32 ∷ 49 ∷ 10 ∷ []
+
+pub worked : response workedDelivery ≡ workedText
+unfolding zip zipWith Dec·and ℕ-discrete decLt isUri isBlank isLiteral isVocabulary isTriple isStatement areSidesAllowed isAllowedStatement isAllowedFact firstNo compareNumbers compareTriples equalTriples choose byOrder isAbove isAscending insert remove ascend capacity firstRows rows flatten layout areZero all isTable isSupportTable supportLayout isStore isIn add addAll keep leaves pull afterPull explore spread reach objects properties subjectClasses objectClasses conclusions carried raise raiseAll saturation contentsOf keptOf put withTriple isThere isBelowCapacity isKeptFitting decide addition short word entriesFrom sectionEnd sectionStart fieldEnd fieldsFrom fieldsEnd numberFields read isWhole areSectionsRight isNumberRight numberOf tallied runEntry runEntries runMessage conclude deliver digits decimal resultLine rowsLine rowLine rowLines reportText refusalText outcomeText response
+worked = refl
