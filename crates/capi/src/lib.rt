@@ -93,7 +93,10 @@ pub extern "C" fn families_deliver(
 ) -> u32
     ensures { λ r. ⌜ received r (now (result .exit)) (tables (now (statements .exit)) (now (facts .exit)) (now (kept .exit)) (now (supports .exit))) ≡ numberedDelivery (deliver (tables (now (statements .entry)) (now (facts .entry)) (now (kept .entry)) (now (supports .entry))) (now (bytes .entry))) ⌝ }
 {
-    write_result(deliver::deliver(statements, facts, kept, supports, bytes), result)
+    write_result(
+        deliver::deliver(statements, facts, kept, supports, bytes),
+        result,
+    )
 }
 
 // The number of a reply, with its row count written to count, and 0 there where it is a refusal.
