@@ -33,6 +33,13 @@ reply-numbered p n c ws o e f h = rw (e, f) (ap numberedReply h)
 pub wide-numbered : (p : Reply) (n c : ℕ) (ws : List ℕ) (o : Replied) → n ≡ replyNumber p → c ≡ replyCount p % 2 ^ 32 → replied p ws ≡ o → listed n c ws ≡ wideReply o
 wide-numbered p n c ws o e f h = rw (e, f) (ap wideReply h)
 
+-- What a count modulo 2^32 is of rows that were given, and of a refusal.
+pub rows-wide : (p : Reply) (n : ℕ) → p ≡ Rows n → (0 ≡ replyNumber p) × (n % 4294967296 ≡ replyCount p % 2 ^ 32)
+rows-wide p n e = rw e (refl, refl)
+
+pub refused-wide : (p : Reply) (n : ℕ) → p ≡ Refused n → (n ≡ replyNumber p) × (0 ≡ replyCount p % 2 ^ 32)
+refused-wide p n e = rw e (refl, refl)
+
 -- A delivery's number, result and tables are those of what was delivered.
 pub delivery-numbered : (d : Delivered) (n : ℕ) (ws : List ℕ) (T : Tables) (o : Delivered × Tables) → n ≡ d .refusal → ws ≡ resultWords d → (d, T) ≡ o → received n ws T ≡ numberedDelivery o
 delivery-numbered d n ws T o e f h = rw (e, f) (ap numberedDelivery h)

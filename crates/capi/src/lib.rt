@@ -74,10 +74,12 @@ pub extern "C" fn families_withdraw(
 fn write_result(delivered: Delivered, result: &mut [u32; 4]) -> u32
     ensures { λ r. ⌜ (r ≡ delivered .refusal) × (now (result .exit) ≡ resultWords delivered) ⌝ }
 {
-    result[0] = delivered.number;
-    result[1] = delivered.applied;
-    result[2] = delivered.idle;
-    result[3] = delivered.refused;
+    *result = [
+        delivered.number,
+        delivered.applied,
+        delivered.idle,
+        delivered.refused,
+    ];
     delivered.refusal
 }
 
