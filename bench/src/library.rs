@@ -4,6 +4,9 @@ mod raw {
     extern "C" {
         pub fn families_add(s: *mut u32, sn: usize, f: *mut u32, fnn: usize, k: *mut u32, kn: usize, u: *mut u16, un: usize, subject: u32, property: u32, object: u32) -> u32;
         pub fn families_withdraw(s: *mut u32, sn: usize, f: *mut u32, fnn: usize, k: *mut u32, kn: usize, u: *mut u16, un: usize, subject: u32, property: u32, object: u32) -> u32;
+        pub fn families_deliver(s: *mut u32, sn: usize, f: *mut u32, fnn: usize, k: *mut u32, kn: usize, u: *mut u16, un: usize, bytes: *const u8, bn: usize, result: *mut u32) -> u32;
+        pub fn families_ask_kept(s: *const u32, sn: usize, k: *const u32, kn: usize, q: *const u32, qn: usize, rows: *mut u32, rn: usize, count: *mut u32) -> u32;
+        pub fn families_ask_rewritten(s: *const u32, sn: usize, f: *const u32, fnn: usize, q: *const u32, qn: usize, rows: *mut u32, rn: usize, count: *mut u32) -> u32;
         pub fn families_list_statements(t: *const u32, n: usize, order: u32, rows: *mut u32, rn: usize, count: *mut u32) -> u32;
         pub fn families_list_facts(t: *const u32, n: usize, order: u32, rows: *mut u32, rn: usize, count: *mut u32) -> u32;
         pub fn families_list_kept(t: *const u32, n: usize, order: u32, rows: *mut u32, rn: usize, count: *mut u32) -> u32;
@@ -20,6 +23,13 @@ pub struct Store {
     pub facts: Vec<u32>,
     pub kept: Vec<u32>,
     pub supports: Vec<u16>,
+}
+
+/// By which way a question is answered.
+#[derive(Clone, Copy)]
+pub enum Way {
+    Kept,
+    Rewritten,
 }
 
 /// Which table a listing is of.
@@ -59,6 +69,35 @@ impl Store {
                 self.kept.as_mut_ptr(), self.kept.len(), self.supports.as_mut_ptr(), self.supports.len(), t[0], t[1], t[2],
             )
         }
+    }
+
+    /// Runs a delivery: the number that refused it, and delivery number, applied, idle, refused.
+    pub fn deliver(&mut self, bytes: &[u8]) -> (u32, [u32; 4]) {
+        let mut result = [0; 4];
+        let n = unsafe {
+            raw::families_deliver(
+                self.statements.as_mut_ptr(), self.statements.len(), self.facts.as_mut_ptr(), self.facts.len(),
+                self.kept.as_mut_ptr(), self.kept.len(), self.supports.as_mut_ptr(), self.supports.len(),
+                bytes.as_ptr(), bytes.len(), result.as_mut_ptr(),
+            )
+        };
+        (n, result)
+    }
+
+    /// Puts a question: the number that refused it, and the row count.
+    pub fn ask(&self, way: Way, question: &[u32], rows: &mut [u32]) -> (u32, u32) {
+        let mut count = 0;
+        let n = unsafe {
+            let (f, t): (unsafe extern "C" fn(*const u32, usize, *const u32, usize, *const u32, usize, *mut u32, usize, *mut u32) -> u32, &Vec<u32>) = match way {
+                Way::Kept => (raw::families_ask_kept, &self.kept),
+                Way::Rewritten => (raw::families_ask_rewritten, &self.facts),
+            };
+            f(
+                self.statements.as_ptr(), self.statements.len(), t.as_ptr(), t.len(),
+                question.as_ptr(), question.len(), rows.as_mut_ptr(), rows.len(), &mut count,
+            )
+        };
+        (n, count)
     }
 
     /// Lists a table in a column order: the number that refused, and the row count.

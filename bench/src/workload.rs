@@ -43,8 +43,23 @@ pub fn statements(n: usize) -> Vec<Triple> {
     out
 }
 
+/// Of ten facts, how many give a type, how many have a literal, and how many have a property that the statements speak of; the
+/// others have properties that they do not.
+#[derive(Clone, Copy)]
+pub struct Mix {
+    pub types: u32,
+    pub literals: u32,
+    pub stated: u32,
+}
+
+/// Some two and a half kept rows for each fact.
+pub const PLAIN: Mix = Mix { types: 2, literals: 1, stated: 0 };
+
+/// Some five kept rows for each fact.
+pub const DENSE: Mix = Mix { types: 2, literals: 1, stated: 6 };
+
 /// So many distinct facts about things: types, properties between things, and literals.
-pub fn facts(n: usize, statements: usize, seed: u64) -> Vec<Triple> {
+pub fn facts(n: usize, statements: usize, mix: Mix, seed: u64) -> Vec<Triple> {
     let mut random = Random::new(seed);
     let classes = statements as u32 / 2 + 1;
     let properties = statements as u32 / 4 + 1;
@@ -53,11 +68,51 @@ pub fn facts(n: usize, statements: usize, seed: u64) -> Vec<Triple> {
     while set.len() < n {
         let thing = THING + random.below(things);
         let fact = match random.below(10) {
-            0 | 1 => [thing, 1, CLASS + random.below(classes)],
-            2 => [thing, PROPERTY + random.below(properties), 0x8000_0001 + random.below(things)],
+            x if x < mix.types => [thing, 1, CLASS + random.below(classes)],
+            x if x < mix.types + mix.literals => [thing, PROPERTY + random.below(properties), 0x8000_0001 + random.below(things)],
+            x if x < mix.types + mix.literals + mix.stated => [thing, PROPERTY + random.below(properties), THING + random.below(things)],
             _ => [thing, PROPERTY + 1_000 + random.below(40), THING + random.below(things)],
         };
         set.insert(fact);
     }
     set.into_iter().collect()
+}
+
+/// A delivery that withdraws nothing and adds these statements and facts.
+pub fn delivery(statements: &[Triple], facts: &[Triple]) -> Vec<u8> {
+    let mut bytes = vec![0; 4];
+    for entries in [statements, facts] {
+        bytes.extend((entries.len() as u16).to_le_bytes());
+        bytes.extend(entries.iter().flatten().flat_map(|w| w.to_le_bytes()));
+    }
+    bytes.extend([0, 0]);
+    bytes
+}
+
+/// A variable of a question.
+pub const fn variable(n: u32) -> u32 {
+    0xC000_0000 + n
+}
+
+/// The words of a question.
+pub fn question(atoms: &[Triple], head: &[u32]) -> Vec<u32> {
+    let mut words = vec![atoms.len() as u32, head.len() as u32];
+    words.extend(atoms.iter().flatten());
+    words.extend(head);
+    words
+}
+
+/// Questions of one, two and three atoms, by name; those of one atom ask for a class with few things below it, and for one with many.
+pub fn questions() -> Vec<(&'static str, Vec<u32>)> {
+    let (x, y, z) = (variable(0), variable(1), variable(2));
+    vec![
+        ("x is of a class with few things", question(&[[x, 1, CLASS + 40]], &[x])),
+        ("x is of a class with many things", question(&[[x, 1, CLASS]], &[x])),
+        ("x has a property y", question(&[[x, PROPERTY, y]], &[x, y])),
+        ("a thing is of class y", question(&[[THING + 17, 1, y]], &[y])),
+        ("x is of a class, and has a property y", question(&[[x, 1, CLASS + 1], [x, PROPERTY + 1, y]], &[x, y])),
+        ("x has a property y, and y is of a class", question(&[[x, PROPERTY + 1, y], [y, 1, CLASS + 1]], &[x, y])),
+        ("x is of class y, a subclass of a class", question(&[[y, 2, CLASS], [x, 1, y]], &[x, y])),
+        ("x has y, y has z, and x is of a class", question(&[[x, PROPERTY + 2, y], [y, PROPERTY + 1, z], [x, 1, CLASS + 2]], &[x, z])),
+    ]
 }
