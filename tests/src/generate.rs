@@ -125,7 +125,7 @@ pub fn triple(random: &mut Random, names: &Names) -> Triple {
     } else {
         fact(random, names)
     };
-    if random.once_in(8) {
+    if random.once_in(12) {
         triple[random.below(3)] = any_word(random);
     }
     triple
@@ -139,12 +139,13 @@ fn row_of(random: &mut Random, words: &[u32]) -> Option<Triple> {
     Some([row[0], row[1], row[2]])
 }
 
-/// A lone update; a withdrawal is mostly of what is there.
-pub fn update(random: &mut Random, names: &Names, store: &Store) -> Call {
-    if random.below(5) < 3 {
-        return Call::Add(triple(random, names));
+/// A lone update, once in so many times a withdrawal, and then mostly of what is there.
+pub fn update(random: &mut Random, names: &Names, store: &Store, withdrawals: usize) -> Call {
+    if random.once_in(withdrawals) {
+        Call::Withdraw(withdrawn(random, names, store))
+    } else {
+        Call::Add(triple(random, names))
     }
-    Call::Withdraw(withdrawn(random, names, store))
 }
 
 /// A triple to withdraw.

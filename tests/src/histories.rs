@@ -34,11 +34,11 @@ fn lengths(random: &mut Random) -> [usize; 4] {
 }
 
 /// One update or delivery.
-fn change(random: &mut Random, names: &Names, store: &Store) -> Call {
+fn change(random: &mut Random, names: &Names, store: &Store, withdrawals: usize) -> Call {
     if random.once_in(6) {
         Call::Deliver(generate::delivery(random, names, store))
     } else {
-        generate::update(random, names, store)
+        generate::update(random, names, store, withdrawals)
     }
 }
 
@@ -48,8 +48,10 @@ pub fn grown(harness: &mut Harness, seed: u64) -> Result<(), Failure> {
     let names = Names::random(&mut random);
     let mut session = Session::new(harness);
     session.run(Command::Empty(lengths(&mut random)))?;
-    for _ in 0..random.between(5, 50) {
-        let call = change(&mut random, &names, &session.store);
+    let withdrawals = random.between(2, 12);
+    let length = random.pick(&[10, 30, 60, 120]);
+    for _ in 0..random.between(5, length) {
+        let call = change(&mut random, &names, &session.store, withdrawals);
         session.call(call)?;
         if random.once_in(3) {
             generate::look(&mut random, &names, &mut session)?;
@@ -66,7 +68,7 @@ pub fn lent(harness: &mut Harness, seed: u64) -> Result<(), Failure> {
     let mut session = Session::new(harness);
     session.lend(&store)?;
     for _ in 0..random.between(1, 12) {
-        let call = change(&mut random, &names, &session.store);
+        let call = change(&mut random, &names, &session.store, 3);
         session.call(call)?;
         if random.once_in(2) {
             generate::look(&mut random, &names, &mut session)?;
@@ -85,7 +87,7 @@ pub fn damaged(harness: &mut Harness, seed: u64) -> Result<(), Failure> {
     }
     let mut session = Session::new(harness);
     session.lend(&store)?;
-    let call = change(&mut random, &names, &session.store);
+    let call = change(&mut random, &names, &session.store, 3);
     session.call(call)?;
     for _ in 0..3 {
         generate::look(&mut random, &names, &mut session)?;
@@ -128,7 +130,7 @@ pub fn larger(harness: &mut Harness, seed: u64) -> Result<(), Failure> {
     ]))?;
     session.call(Call::Deliver(filling.bytes()))?;
     for _ in 0..12 {
-        let call = generate::update(&mut random, &names, &session.store);
+        let call = generate::update(&mut random, &names, &session.store, 2);
         session.call(call)?;
         generate::look(&mut random, &names, &mut session)?;
     }

@@ -4,16 +4,30 @@ use super::questions::is_atom;
 use super::tables;
 use super::terms::*;
 use super::Model;
-use std::collections::BTreeSet;
+use std::collections::{BTreeMap, BTreeSet};
 
-/// The terms that zero or more steps of a property lead to.
-fn reached(statements: &Graph, property: u32, from: u32) -> BTreeSet<u32> {
+/// The objects that statements of one property give each subject.
+type Steps = BTreeMap<u32, Vec<u32>>;
+
+/// The steps of one property.
+fn steps(statements: &Graph, property: u32) -> Steps {
+    let mut steps = Steps::new();
+    for [subject, step, object] in statements {
+        if *step == property {
+            steps.entry(*subject).or_default().push(*object);
+        }
+    }
+    steps
+}
+
+/// The terms that zero or more steps lead to.
+fn reached(steps: &Steps, from: u32) -> BTreeSet<u32> {
     let mut all = BTreeSet::from([from]);
     let mut gained = vec![from];
-    while let Some(x) = gained.pop() {
-        for [subject, step, object] in statements {
-            if *subject == x && *step == property && all.insert(*object) {
-                gained.push(*object);
+    while let Some(term) = gained.pop() {
+        for next in steps.get(&term).into_iter().flatten() {
+            if all.insert(*next) {
+                gained.push(*next);
             }
         }
     }
@@ -24,38 +38,30 @@ fn reached(statements: &Graph, property: u32, from: u32) -> BTreeSet<u32> {
 fn all_alternatives(statements: &Graph) -> Graph {
     // "0 0 0: an explicit triple as it is."
     let mut all = Graph::from([[0, 0, 0]]);
+    let subclass = steps(statements, SUBCLASS);
+    let subproperty = steps(statements, SUBPROPERTY);
+    let domain = steps(statements, DOMAIN);
+    let range = steps(statements, RANGE);
     let sources: BTreeSet<u32> = statements.iter().map(|s| s[0]).collect();
     for source in sources {
         // "Kind 1: .. one or more subclass steps lead from source to target and the two differ."
-        for target in reached(statements, SUBCLASS, source) {
+        for target in reached(&subclass, source) {
             if target != source {
                 all.insert([1, source, target]);
             }
         }
-        for property in reached(statements, SUBPROPERTY, source) {
+        for property in reached(&subproperty, source) {
             // "Kind 4: .. by one or more subproperty steps, source and target different."
             if property != source {
                 all.insert([4, source, property]);
             }
-            all.extend(typings(statements, source, property));
-        }
-    }
-    all
-}
-
-/// "Kind 2: .. zero or more subproperty steps, one domain, then zero or more subclass steps lead
-/// there. Kind 3: the same with range". The source leads to the property.
-fn typings(statements: &Graph, source: u32, property: u32) -> Graph {
-    let mut all = Graph::new();
-    for [subject, step, class] in statements {
-        let kind = match *step {
-            DOMAIN => 2,
-            RANGE => 3,
-            _ => continue,
-        };
-        if *subject == property {
-            for target in reached(statements, SUBCLASS, *class) {
-                all.insert([kind, source, target]);
+            // "Kind 2: .. zero or more subproperty steps, one domain, then zero or more subclass
+            // steps lead there. Kind 3: the same with range".
+            for (kind, rule) in [(2, &domain), (3, &range)] {
+                for class in rule.get(&property).into_iter().flatten() {
+                    let targets = reached(&subclass, *class).into_iter();
+                    all.extend(targets.map(|target| [kind, source, target]));
+                }
             }
         }
     }

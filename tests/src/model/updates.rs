@@ -48,7 +48,7 @@ impl Model {
         answer
     }
 
-    /// The same on content: questions 2 to 5, and the change when all are answered "yes".
+    /// The same on content: questions 2 to 5 in order, and the change when none refuses.
     pub fn update_content(
         &self,
         content: &mut Content,
@@ -74,35 +74,57 @@ impl Model {
         if adding && table.len() >= capacity {
             return 4;
         }
-        let changed = self.changed(content, adding, triple);
-        // 5: "will the kept facts fit?"
-        if changed.kept.len() > capacities.kept {
+        if is_statement_property(triple[1]) {
+            self.update_statement(content, capacities.kept, adding, triple)
+        } else {
+            self.update_fact(content, capacities.kept, adding, triple)
+        }
+    }
+
+    /// "A change of statements makes kept facts and supports those worked out afresh", unless 5:
+    /// "will the kept facts fit?"
+    fn update_statement(
+        &self,
+        content: &mut Content,
+        kept_capacity: usize,
+        adding: bool,
+        statement: Triple,
+    ) -> u32 {
+        let mut statements = content.statements.clone();
+        put(&mut statements, adding, statement);
+        let kept = self.supports(&statements, &content.facts);
+        if kept.len() > kept_capacity {
             return 5;
         }
-        *content = changed;
+        content.statements = statements;
+        content.kept = kept;
         0
     }
 
-    /// The content after an applied update.
-    fn changed(&self, content: &Content, adding: bool, triple: Triple) -> Content {
-        let mut after = content.clone();
-        if is_statement_property(triple[1]) {
-            put(&mut after.statements, adding, triple);
-            // "A change of statements makes kept facts and supports those worked out afresh."
-            after.kept = self.supports(&after.statements, &after.facts);
-        } else {
-            put(&mut after.facts, adding, triple);
-            self.change_supports(&mut after, adding, triple);
+    /// The change of a fact, unless 5: "will the kept facts fit?"
+    fn update_fact(
+        &self,
+        content: &mut Content,
+        kept_capacity: usize,
+        adding: bool,
+        fact: Triple,
+    ) -> u32 {
+        let carried = self.carried(&content.statements, fact);
+        let is_missing = |row: &&Triple| !content.kept.contains_key(*row);
+        let missing = carried.iter().filter(is_missing).count();
+        if adding && content.kept.len() + missing > kept_capacity {
+            return 5;
         }
-        after
+        put(&mut content.facts, adding, fact);
+        self.change_supports(content, &carried, adding, fact);
+        0
     }
 
     /// "Adding a fact raises the support of all it carries by 1, missing rows entering with 1.
     /// Withdrawing lowers by 1 those present, and a row at 0 goes."
-    fn change_supports(&self, content: &mut Content, adding: bool, fact: Triple) {
-        let carried = self.carried(&content.statements, fact);
-        for row in &carried {
-            let weight = self.weight(&content.statements, &carried, *row);
+    fn change_supports(&self, content: &mut Content, carried: &Graph, adding: bool, fact: Triple) {
+        for row in carried {
+            let weight = self.weight(&content.statements, carried, *row);
             if adding {
                 *content.kept.entry(*row).or_insert(0) += weight;
             } else if let Some(support) = content.kept.get_mut(row) {
