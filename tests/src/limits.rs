@@ -20,7 +20,7 @@ const V1: u32 = VARIABLE + 1;
 const V2: u32 = VARIABLE + 2;
 
 /// All directed cases, by name.
-pub const CASES: [(&str, fn(&mut Harness) -> Result<(), Failure>); 14] = [
+pub const CASES: [(&str, fn(&mut Harness) -> Result<(), Failure>); 15] = [
     ("chain of subclasses", |h| chain(h, SUBCLASS)),
     ("chain of subproperties", |h| chain(h, SUBPROPERTY)),
     ("chain through a domain", |h| bent_chain(h, DOMAIN)),
@@ -34,6 +34,7 @@ pub const CASES: [(&str, fn(&mut Harness) -> Result<(), Failure>); 14] = [
     ("delivery of the most entries", most_entries),
     ("delivery of the most bytes", most_bytes),
     ("question with the most rows", most_rows),
+    ("tables far past their limits", long_tables),
     ("slices of no element", no_elements),
 ];
 
@@ -50,6 +51,23 @@ fn empty(statements: usize, facts: usize, kept: usize) -> Command {
         Store::words(kept),
         kept,
     ])
+}
+
+/// Lends a store with statements alone, and room for four facts and so many kept facts.
+fn lend_statements(session: &mut Session, rows: &[Triple], kept: usize) -> Result<(), Failure> {
+    let mut store = Store::empty([
+        Store::words(STATEMENTS),
+        Store::words(4),
+        Store::words(kept),
+        kept,
+    ]);
+    let content = Content {
+        statements: rows.iter().copied().collect(),
+        facts: Graph::new(),
+        kept: BTreeMap::new(),
+    };
+    tables::write(&content, &mut store);
+    session.lend(&store)
 }
 
 /// Asks a question of one atom by both ways, into an output for just its rows.
@@ -129,10 +147,7 @@ fn chain(harness: &mut Harness, property: u32) -> Result<(), Failure> {
     session.expect(Call::Withdraw(order[9]), 0)?;
     session.expect(Call::Add(order[9]), 0)?;
 
-    session.run(empty(STATEMENTS, 4, rows - 1))?;
-    for statement in &order {
-        session.expect(Call::Add(*statement), 0)?;
-    }
+    lend_statements(&mut session, &order, rows - 1)?;
     session.expect(Call::Add(entering(property)), 5)?;
     session.expect(Call::Withdraw(order[0]), 0)?;
     session.expect(Call::Add(entering(property)), 0)?;
@@ -146,9 +161,9 @@ fn bent_chain(harness: &mut Harness, bend: u32) -> Result<(), Failure> {
     statements.push([FIRST + 255, bend, class]);
     statements.extend((class..class + 256).map(|c| [c, SUBCLASS, c + 1]));
     let mut session = Session::new(harness);
-    session.run(empty(STATEMENTS, 4, 1000))?;
+    lend_statements(&mut session, &statements[30..], 1000)?;
     session.expect(Call::Add([THING, FIRST, THING + 1]), 0)?;
-    for statement in statements.iter().rev() {
+    for statement in statements[..30].iter().rev() {
         session.expect(Call::Add(*statement), 0)?;
     }
     session.expect(Call::Add([FIRST, bend, class]), 4)?;
@@ -167,11 +182,9 @@ fn ring(harness: &mut Harness, property: u32) -> Result<(), Failure> {
     statements.push([FIRST + LONGEST - 1, property, FIRST]);
     let mut session = Session::new(harness);
     let size = LONGEST as usize;
-    session.run(empty(STATEMENTS, 4, size))?;
-    for statement in &statements {
-        session.expect(Call::Add(*statement), 0)?;
-    }
+    lend_statements(&mut session, &statements[1..], size)?;
     session.expect(Call::Add(entering(property)), 0)?;
+    session.expect(Call::Add(statements[0]), 0)?;
     let other = match property {
         SUBCLASS => [THING, TYPE, FIRST + 100],
         _ => [THING, FIRST + 100, THING + 1],
@@ -181,8 +194,7 @@ fn ring(harness: &mut Harness, property: u32) -> Result<(), Failure> {
     session.run(Command::Expect(Expected::Supports(supports)))?;
     session.expect(Call::Withdraw(other), 0)?;
     alternatives(&mut session, [V0, V1, V2], size * (size - 1) + 1)?;
-    let half: Vec<Triple> = statements.iter().copied().skip(256).take(1).collect();
-    session.expect(Call::Withdraw(half[0]), 0)?;
+    session.expect(Call::Withdraw(statements[256]), 0)?;
     ask_both(&mut session, [THING, V0, V1], &[V0, V1], 257)
 }
 
@@ -389,6 +401,29 @@ fn most_rows(harness: &mut Harness) -> Result<(), Failure> {
     session.run(Command::Expect(Expected::Count(rows as u32)))?;
     session.expect(ask(&words, 2 * rows - 1), 8)?;
     session.expect(ask(&[1, 1, V0, 25, V1, V1], 1), 0)
+}
+
+/// Tables that have far more words than their limits of rows use.
+fn long_tables(harness: &mut Harness) -> Result<(), Failure> {
+    let mut session = Session::new(harness);
+    session.run(Command::Empty([100_000, 300_001, 1_200_002, 500_000]))?;
+    session.expect(Call::Add([16, 2, 17]), 0)?;
+    session.expect(Call::Add([32, 1, 16]), 0)?;
+    session.expect(Call::Add([32, 1, 16]), IDLE)?;
+    ask_both(&mut session, [V0, TYPE, V1], &[V0, V1], 2)?;
+    session.expect(Call::Withdraw([16, 2, 17]), 0)?;
+    let mut store = session.store.clone();
+    for table in Table::ALL {
+        let last = store.table(table).len() - 1;
+        store.table_mut(table)[last] = 1;
+        session.lend(&store)?;
+        session.expect(Call::Withdraw([32, 1, 16]), 1)?;
+        session.expect(Call::List(table, 0, output(9)), 1)?;
+        store.table_mut(table)[last] = 0;
+    }
+    *store.supports.last_mut().expect("there are places") = 1;
+    session.lend(&store)?;
+    session.expect(Call::Withdraw([32, 1, 16]), 1)
 }
 
 /// Slices of no element, with pointers that touch a closed page and with null pointers.
