@@ -8,6 +8,7 @@ use crate::random::Random;
 use crate::script::{Call, Output, Way};
 use crate::session::Session;
 use crate::store::{Store, Table};
+use std::collections::BTreeMap;
 
 pub const BLANK: u32 = 1 << 30;
 pub const LITERAL: u32 = 2 << 30;
@@ -55,38 +56,40 @@ impl Names {
     }
 }
 
-/// Any word: no terms, terms at the edges of their kinds, and arbitrary ones.
+/// Words at the edges of their kinds, terms and not.
+pub const EDGES: [u32; 24] = [
+    0,
+    1,
+    2,
+    3,
+    4,
+    5,
+    6,
+    15,
+    16,
+    17,
+    20,
+    32,
+    BLANK - 1,
+    BLANK,
+    BLANK + 1,
+    LITERAL - 1,
+    LITERAL,
+    LITERAL + 1,
+    VARIABLE - 1,
+    VARIABLE,
+    VARIABLE + 1,
+    VARIABLE + 15,
+    VARIABLE + 16,
+    u32::MAX,
+];
+
+/// Any word, mostly one at an edge.
 pub fn any_word(random: &mut Random) -> u32 {
-    let edges = [
-        0,
-        1,
-        2,
-        3,
-        4,
-        5,
-        6,
-        15,
-        16,
-        17,
-        20,
-        32,
-        BLANK - 1,
-        BLANK,
-        BLANK + 1,
-        LITERAL - 1,
-        LITERAL,
-        LITERAL + 1,
-        VARIABLE - 1,
-        VARIABLE,
-        VARIABLE + 1,
-        VARIABLE + 15,
-        VARIABLE + 16,
-        u32::MAX,
-    ];
     if random.once_in(8) {
         random.word()
     } else {
-        random.pick(&edges)
+        random.pick(&EDGES)
     }
 }
 
@@ -322,16 +325,47 @@ pub fn alternatives_atom(random: &mut Random, names: &Names) -> Triple {
     atom
 }
 
-/// The words of a question, sometimes malformed.
-fn question_words(random: &mut Random, names: &Names) -> Vec<u32> {
-    let numbers = [0, 1, 2, 3, 9, 15];
-    let used = random.between(1, 5);
-    let variables: Vec<u32> = numbers[..used].iter().map(|n| VARIABLE + n).collect();
-    let n = random.pick(&[1, 1, 1, 2, 2, 2, 3, 3, 4, 5, 6]);
-    let mut words = vec![n as u32, 0];
+/// Atoms made from triples, so that there are answers: each term becomes a constant or a variable
+/// of its own, the same in all atoms.
+fn atoms_of(random: &mut Random, triples: &[Triple], variables: &[u32], n: usize) -> Vec<Triple> {
+    let mut named: BTreeMap<u32, u32> = BTreeMap::new();
+    let mut atoms = Vec::new();
     for _ in 0..n {
-        words.extend(atom(random, names, &variables));
+        let mut triple = random.pick(triples);
+        for _ in 0..6 {
+            if atoms.is_empty() || triple.iter().any(|term| named.contains_key(term)) {
+                break;
+            }
+            triple = random.pick(triples);
+        }
+        atoms.push(triple.map(|term| {
+            if let Some(variable) = named.get(&term) {
+                return *variable;
+            }
+            if random.below(5) < 2 && !is_blank(term) {
+                return term;
+            }
+            let variable = variables[named.len() % variables.len()];
+            named.insert(term, variable);
+            variable
+        }));
     }
+    atoms
+}
+
+/// The words of a question, sometimes malformed.
+fn question_words(random: &mut Random, names: &Names, triples: &[Triple]) -> Vec<u32> {
+    let numbers = [0, 1, 2, 3, 9, 15, 7, 8];
+    let used = random.between(1, numbers.len());
+    let variables: Vec<u32> = numbers[..used].iter().map(|n| VARIABLE + n).collect();
+    let n = random.pick(&[1, 1, 2, 2, 2, 3, 3, 4, 5, 6]);
+    let atoms = if triples.is_empty() || random.once_in(4) {
+        (0..n).map(|_| atom(random, names, &variables)).collect()
+    } else {
+        atoms_of(random, triples, &variables, n)
+    };
+    let mut words = vec![n as u32, 0];
+    words.extend(atoms.iter().flatten());
     let found: Vec<u32> = words[2..]
         .iter()
         .copied()
@@ -347,7 +381,7 @@ fn question_words(random: &mut Random, names: &Names) -> Vec<u32> {
         words.push(head);
     }
     words[1] = heads as u32;
-    if random.once_in(6) {
+    if random.once_in(8) {
         spoil_question(random, &mut words);
     }
     words
@@ -396,8 +430,15 @@ pub fn question(random: &mut Random, names: &Names, model: &Model, store: &Store
             .flatten()
             .all(|triples| choices(triples, &question) <= CHOICES),
     };
+    let seen: Graph = [&kept, &rewritten]
+        .into_iter()
+        .flatten()
+        .flatten()
+        .copied()
+        .collect();
+    let seen: Vec<Triple> = seen.into_iter().collect();
     loop {
-        let words = question_words(random, names);
+        let words = question_words(random, names, &seen);
         if short(&words) {
             return words;
         }

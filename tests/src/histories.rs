@@ -7,9 +7,9 @@ use crate::script::{Call, Command};
 use crate::session::{Failure, Harness, Session};
 use crate::store::Store;
 
-/// A number of rows: tight more often than not.
+/// A number of rows, tight now and then.
 fn rows(random: &mut Random, tight: &[usize], roomy: usize) -> usize {
-    if random.once_in(2) {
+    if random.once_in(4) {
         random.pick(tight)
     } else {
         roomy
@@ -21,7 +21,7 @@ fn lengths(random: &mut Random) -> [usize; 4] {
     let statements = rows(random, &[0, 1, 3, 6], 24);
     let facts = rows(random, &[0, 1, 3, 6], 20);
     let kept = rows(random, &[0, 1, 4, 10, 20], 90);
-    let supports = match random.below(4) {
+    let supports = match random.below(8) {
         0 => random.pick(&[0, 1, 3, 8, 30]),
         _ => kept + random.below(3),
     };

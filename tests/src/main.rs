@@ -2,6 +2,7 @@
 //!
 //!     trial [--seed N] [--histories N] [--fault NAME] [--replay FILE]
 
+mod exhaustive;
 mod fence;
 mod generate;
 mod histories;
@@ -128,6 +129,16 @@ fn report(harness: &mut Harness, options: &Options, place: &str, failure: Failur
     exit(1)
 }
 
+/// The directed phases: a name and what runs it.
+type Directed = (&'static str, fn(&mut Harness) -> Result<(), Failure>);
+const EXHAUSTIVE: [Directed; 5] = [
+    ("updates with words at edges", exhaustive::updates),
+    ("atoms with words at edges", exhaustive::atoms),
+    ("rows with words at edges", exhaustive::rows),
+    ("each damage to a store", exhaustive::tables),
+    ("each damage to a delivery", exhaustive::bytes),
+];
+
 /// The random phases: a name, what runs one case, and the cases for each thousand histories.
 type Phase = (
     &'static str,
@@ -148,20 +159,23 @@ fn calls(counts: &Counts) -> u64 {
 
 /// Runs everything; the place and the failure of the first difference.
 fn run(harness: &mut Harness, seed: u64, histories: u64) -> Result<(), (String, Failure)> {
-    let progress = |harness: &Harness, name: &str, cases: u64, start: Instant| {
-        let (calls, time) = (calls(&harness.counts), start.elapsed().as_secs_f64());
-        println!("{name}: {cases} cases, {calls} calls so far, {time:.1} s");
+    let mut before = 0;
+    let mut progress = |harness: &Harness, name: &str, start: Instant| {
+        let all = calls(&harness.counts);
+        let time = start.elapsed().as_secs_f64();
+        println!("{name}: {} calls, {time:.1} s", all - before);
+        before = all;
     };
     let start = Instant::now();
     let examples = script::parse(EXAMPLES).expect("the examples are no script");
     harness
         .replay(&examples)
         .map_err(|f| ("examples".to_string(), f))?;
-    progress(harness, "examples", 1, start);
-    for (name, case) in limits::CASES {
+    progress(harness, "examples", start);
+    for (name, case) in limits::CASES.into_iter().chain(EXHAUSTIVE) {
         let start = Instant::now();
         case(harness).map_err(|f| (name.to_string(), f))?;
-        progress(harness, name, 1, start);
+        progress(harness, name, start);
     }
     for (number, (name, case, share)) in PHASES.into_iter().enumerate() {
         let start = Instant::now();
@@ -170,7 +184,7 @@ fn run(harness: &mut Harness, seed: u64, histories: u64) -> Result<(), (String, 
             case(harness, case_seed(seed, number as u64, i))
                 .map_err(|f| (format!("{name}, case {i}"), f))?;
         }
-        progress(harness, name, cases, start);
+        progress(harness, &format!("{name}, {cases}"), start);
     }
     Ok(())
 }

@@ -10,6 +10,7 @@ use std::collections::BTreeMap;
 use std::fs::File;
 use std::io::Write;
 use std::path::PathBuf;
+use std::time::{Duration, Instant};
 
 /// What a call gave besides the tables.
 #[derive(Clone, Default, PartialEq)]
@@ -28,6 +29,9 @@ pub struct Failure {
 
 /// How often each kind of call gave each answer.
 pub type Counts = BTreeMap<(String, u32), u64>;
+
+/// How long a failing script may be shortened.
+const SHORTENING: Duration = Duration::from_secs(20);
 
 /// What all sessions share.
 pub struct Harness {
@@ -54,12 +58,13 @@ impl Harness {
         script.iter().try_for_each(|c| session.run(c.clone()))
     }
 
-    /// Leaves out commands of a failing script that its failure does not need.
+    /// Leaves out commands of a failing script that its failure does not need, for some time.
     pub fn shortened(&mut self, failure: Failure) -> Failure {
+        let start = Instant::now();
         let mut shortest = failure;
         for i in (0..shortest.script.len()).rev() {
             let mut script = shortest.script.clone();
-            if i < script.len() {
+            if i < script.len() && start.elapsed() < SHORTENING {
                 script.remove(i);
                 if let Err(shorter) = self.replay(&script) {
                     shortest = shorter;
