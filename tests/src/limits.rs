@@ -428,18 +428,17 @@ fn long_tables(harness: &mut Harness) -> Result<(), Failure> {
 
 /// Slices of no element, with pointers that touch a closed page and with null pointers.
 fn no_elements(harness: &mut Harness) -> Result<(), Failure> {
+    let mut session = Session::new(harness);
     for null in [false, true] {
-        harness.library.null_when_empty = null;
-        let checked = without_elements(harness);
-        harness.library.null_when_empty = false;
-        checked?;
+        session.run(Command::Nulls(null))?;
+        without_elements(&mut session)?;
     }
     Ok(())
 }
 
-fn without_elements(harness: &mut Harness) -> Result<(), Failure> {
+/// Calls on stores that lack the words of some tables.
+fn without_elements(session: &mut Session) -> Result<(), Failure> {
     let question = vec![1, 1, V0, TYPE, V1, V0];
-    let mut session = Session::new(harness);
     for without in 0..16 {
         let length = |bit: usize| if without >> bit & 1 == 0 { 4 } else { 0 };
         let lengths = [length(0), length(1), length(2), length(3)];

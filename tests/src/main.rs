@@ -44,7 +44,7 @@ fn usage() -> ! {
 fn options() -> Options {
     let mut options = Options {
         seed: 1,
-        histories: 4000,
+        histories: 10_000,
         fault: None,
         replay: None,
         watched: false,
@@ -190,20 +190,21 @@ fn run(harness: &mut Harness, seed: u64, histories: u64) -> Result<(), (String, 
 }
 
 /// Whether a short run with a planted fault ends in a difference.
-fn finds(fault: Fault, seed: u64) -> bool {
+fn finds(fault: Fault, options: &Options) -> bool {
     if cfg!(feature = "updates-only")
         && matches!(fault, Fault::TypeLiterals | Fault::SkipStatements)
     {
         return true;
     }
     let mut harness = Harness::new(Model { fault: Some(fault) });
-    (0..300).any(|i| histories::grown(&mut harness, case_seed(seed, 0, i)).is_err())
+    harness.trace = options.trace.clone();
+    (0..300).any(|i| histories::grown(&mut harness, case_seed(options.seed, 0, i)).is_err())
 }
 
 /// Shows that differences are found: each planted fault must end in one.
-fn test_itself(seed: u64) {
+fn test_itself(options: &Options) {
     for fault in Fault::ALL {
-        if !finds(fault, seed) {
+        if !finds(fault, options) {
             println!("the planted fault {} was not found", fault.name());
             exit(1);
         }
@@ -252,6 +253,17 @@ fn print_counts(counts: &Counts) {
     }
 }
 
+/// How many calls of each kind there were.
+fn each_kind(counts: &Counts) -> String {
+    let total = |kind: &str| -> u64 {
+        let of_kind = counts.iter().filter(|((k, _), _)| k == kind);
+        of_kind.map(|(_, times)| times).sum()
+    };
+    let kinds = ANSWERS.iter();
+    let totals: Vec<String> = kinds.map(|(k, _)| format!("{k} {}", total(k))).collect();
+    totals.join(", ")
+}
+
 fn main() {
     let options = options();
     if !options.watched {
@@ -274,7 +286,7 @@ fn main() {
         return;
     }
     let start = Instant::now();
-    test_itself(options.seed);
+    test_itself(&options);
     if let Err((place, failure)) = run(&mut harness, options.seed, options.histories) {
         report(&mut harness, &options, &place, failure);
     }
@@ -286,7 +298,8 @@ fn main() {
     }
     let time = start.elapsed().as_secs_f64();
     println!(
-        "{} calls, no difference, {time:.0} s",
-        calls(&harness.counts)
+        "no difference in {} calls in {time:.0} s: {}",
+        calls(&harness.counts),
+        each_kind(&harness.counts)
     );
 }

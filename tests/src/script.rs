@@ -4,6 +4,7 @@
 //! variable, `bN` a blank, `lN` a literal, and `W*N` is the word W repeated N times.
 //!
 //!     empty S F K P             an empty store: words of each table, and support places
+//!     nulls on                  slices of no element are lent as null pointers; or `nulls off`
 //!     lend TABLE WORDS          lends one table's words; TABLE also: supports
 //!     add S P O                 and withdraw
 //!     deliver HEX               the bytes as hexadecimal digits, `-` for none
@@ -50,6 +51,7 @@ pub enum Command {
     Empty([usize; 4]),
     Lend(Table, Vec<u32>),
     LendSupports(Vec<u16>),
+    Nulls(bool),
     Call(Call),
     Expect(Expected),
 }
@@ -166,6 +168,7 @@ impl fmt::Display for Command {
             Command::LendSupports(words) => {
                 write!(f, "lend supports{}", show_all(&widen(words)))
             }
+            Command::Nulls(on) => write!(f, "nulls {}", if *on { "on" } else { "off" }),
             Command::Call(call) => call.fmt(f),
             Command::Expect(expected) => write!(f, "expect {expected}"),
         }
@@ -280,6 +283,8 @@ fn parse_command(texts: &[&str]) -> Option<Command> {
         ["lend", table, words @ ..] => {
             return Some(Command::Lend(parse_table(table)?, parse_words(words)?))
         }
+        ["nulls", "on"] => return Some(Command::Nulls(true)),
+        ["nulls", "off"] => return Some(Command::Nulls(false)),
         ["expect", rest @ ..] => return Some(Command::Expect(parse_expected(rest)?)),
         ["add", triple @ ..] => Call::Add(parse_triple(triple)?),
         ["withdraw", triple @ ..] => Call::Withdraw(parse_triple(triple)?),

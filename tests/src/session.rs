@@ -87,6 +87,7 @@ pub struct Session<'a> {
 
 impl<'a> Session<'a> {
     pub fn new(harness: &'a mut Harness) -> Session<'a> {
+        harness.library.null_when_empty = false;
         let trace = harness.trace.as_ref();
         let trace = trace.map(|path| File::create(path).expect("the trace cannot be written"));
         Session {
@@ -146,6 +147,7 @@ impl<'a> Session<'a> {
                 self.store.supports = words;
                 self.ledger = None;
             }
+            Command::Nulls(on) => self.harness.library.null_when_empty = on,
             Command::Call(call) if self.harness.library.has(&call) => self.compare(&call)?,
             Command::Call(call) => {
                 self.ledger = None;
