@@ -555,7 +555,15 @@ fn damage_rows(random: &mut Random, words: &mut Vec<u32>) {
     let rows = (length - 1) / 3;
     match random.below(9) {
         0 => words[random.below(length)] ^= 1 << random.below(32),
-        1 => words[0] = random.pick(&[0, 1, words[0].wrapping_sub(1), words[0] + 1, u32::MAX]),
+        1 => {
+            words[0] = random.pick(&[
+                0,
+                1,
+                words[0].wrapping_sub(1),
+                words[0].wrapping_add(1),
+                u32::MAX,
+            ])
+        }
         2 => words.truncate(random.below(length)),
         3 => words.clear(),
         4 => words.extend(std::iter::repeat_n(0, random.between(1, 5))),
