@@ -149,7 +149,7 @@ const PHASES: [Phase; 4] = [
     ("grown stores", histories::grown, 1000),
     ("lent stores", histories::lent, 1000),
     ("damaged stores", histories::damaged, 3000),
-    ("larger stores", histories::larger, 5),
+    ("larger stores", histories::larger, 2),
 ];
 
 /// Calls that the counts have so far.
