@@ -1,0 +1,324 @@
+//! The exported library, as include/families.h declares it, behind safe functions.
+
+use crate::fence::Fence;
+use crate::model::terms::Triple;
+use crate::script::{Call, Way};
+use crate::session::Outcome;
+use crate::store::{Store, Table};
+
+/// An addition or a withdrawal: the four tables, then the triple.
+type Update = unsafe extern "C" fn(
+    *mut u32,
+    usize,
+    *mut u32,
+    usize,
+    *mut u32,
+    usize,
+    *mut u16,
+    usize,
+    u32,
+    u32,
+    u32,
+) -> u32;
+
+/// A listing: the table, the order, the output and the count.
+type List = unsafe extern "C" fn(*const u32, usize, u32, *mut u32, usize, *mut u32) -> u32;
+
+/// A question: the statements, the facts of its way, the question, the output and the count.
+type Ask = unsafe extern "C" fn(
+    *const u32,
+    usize,
+    *const u32,
+    usize,
+    *const u32,
+    usize,
+    *mut u32,
+    usize,
+    *mut u32,
+) -> u32;
+
+#[rustfmt::skip]
+mod raw {
+    extern "C" {
+        pub fn families_add(statements: *mut u32, statements_len: usize, facts: *mut u32, facts_len: usize, kept: *mut u32, kept_len: usize, supports: *mut u16, supports_len: usize, subject: u32, property: u32, object: u32) -> u32;
+        pub fn families_withdraw(statements: *mut u32, statements_len: usize, facts: *mut u32, facts_len: usize, kept: *mut u32, kept_len: usize, supports: *mut u16, supports_len: usize, subject: u32, property: u32, object: u32) -> u32;
+        pub fn families_list_statements(table: *const u32, table_len: usize, order: u32, rows: *mut u32, rows_len: usize, count: *mut u32) -> u32;
+        pub fn families_list_facts(table: *const u32, table_len: usize, order: u32, rows: *mut u32, rows_len: usize, count: *mut u32) -> u32;
+        pub fn families_list_kept(table: *const u32, table_len: usize, order: u32, rows: *mut u32, rows_len: usize, count: *mut u32) -> u32;
+    }
+    #[cfg(not(feature = "updates-only"))]
+    extern "C" {
+        pub fn families_deliver(statements: *mut u32, statements_len: usize, facts: *mut u32, facts_len: usize, kept: *mut u32, kept_len: usize, supports: *mut u16, supports_len: usize, bytes: *const u8, bytes_len: usize, result: *mut u32) -> u32;
+        pub fn families_ask_kept(statements: *const u32, statements_len: usize, kept: *const u32, kept_len: usize, question: *const u32, question_len: usize, rows: *mut u32, rows_len: usize, count: *mut u32) -> u32;
+        pub fn families_ask_rewritten(statements: *const u32, statements_len: usize, facts: *const u32, facts_len: usize, question: *const u32, question_len: usize, rows: *mut u32, rows_len: usize, count: *mut u32) -> u32;
+        pub fn families_alternatives(statements: *const u32, statements_len: usize, subject: u32, property: u32, object: u32, rows: *mut u32, rows_len: usize, count: *mut u32) -> u32;
+    }
+}
+
+/// What results and counts hold before a call.
+const RUBBISH: u32 = 0xdead_beef;
+
+/// Room for the longest slice lent.
+const ROOM: usize = 16 << 20;
+
+/// The library, with fenced room for each slice of a call.
+pub struct Library {
+    statements: Fence,
+    facts: Fence,
+    kept: Fence,
+    supports: Fence,
+    input: Fence,
+    output: Fence,
+    small: Fence,
+    /// Whether slices of no element are lent as null pointers, as a C caller may.
+    pub null_when_empty: bool,
+}
+
+impl Library {
+    pub fn new() -> Library {
+        Library {
+            statements: Fence::new(ROOM),
+            facts: Fence::new(ROOM),
+            kept: Fence::new(ROOM),
+            supports: Fence::new(ROOM),
+            input: Fence::new(ROOM),
+            output: Fence::new(ROOM),
+            small: Fence::new(64),
+            null_when_empty: false,
+        }
+    }
+
+    /// Whether the library linked has what the call needs.
+    pub fn has(&self, call: &Call) -> bool {
+        let updates = matches!(call, Call::Add(_) | Call::Withdraw(_) | Call::List(..));
+        updates || !cfg!(feature = "updates-only")
+    }
+
+    /// Makes a call on the store; an error where memory was written that was not lent for writing.
+    pub fn call(&mut self, store: &mut Store, call: &Call) -> Result<Outcome, String> {
+        match call {
+            Call::Add(triple) => self.update(raw::families_add, store, *triple),
+            Call::Withdraw(triple) => self.update(raw::families_withdraw, store, *triple),
+            Call::Deliver(bytes) => self.deliver(store, bytes),
+            Call::Ask(way, question, output) => self.ask(*way, store, question, &output.lent()),
+            Call::Alternatives(atom, output) => {
+                self.alternatives(&store.statements, *atom, &output.lent())
+            }
+            Call::List(table, order, output) => {
+                let f: List = match table {
+                    Table::Statements => raw::families_list_statements,
+                    Table::Facts => raw::families_list_facts,
+                    Table::Kept => raw::families_list_kept,
+                };
+                self.list(f, store.table(*table), *order, &output.lent())
+            }
+        }
+    }
+
+    /// A fenced copy of a slice, or a null pointer where that is wanted.
+    fn lend<T: Copy>(fence: &mut Fence, slice: &[T], null_when_empty: bool) -> *mut T {
+        let pointer = fence.lend(slice);
+        if slice.is_empty() && null_when_empty {
+            return std::ptr::null_mut();
+        }
+        pointer
+    }
+
+    fn lend_store(&mut self, store: &Store) -> (*mut u32, *mut u32, *mut u32, *mut u16) {
+        let null = self.null_when_empty;
+        (
+            Library::lend(&mut self.statements, &store.statements, null),
+            Library::lend(&mut self.facts, &store.facts, null),
+            Library::lend(&mut self.kept, &store.kept, null),
+            Library::lend(&mut self.supports, &store.supports, null),
+        )
+    }
+
+    fn take_store(&self, store: &mut Store) -> Result<(), String> {
+        store.statements.copy_from_slice(self.statements.read());
+        store.facts.copy_from_slice(self.facts.read());
+        store.kept.copy_from_slice(self.kept.read());
+        store.supports.copy_from_slice(self.supports.read());
+        let fences = [&self.statements, &self.facts, &self.kept, &self.supports];
+        whole(&fences)
+    }
+
+    fn update(
+        &mut self,
+        f: Update,
+        store: &mut Store,
+        [s, p, o]: Triple,
+    ) -> Result<Outcome, String> {
+        let (st, fa, ke, su) = self.lend_store(store);
+        // SAFETY: each pointer is that of a slice of the length given, apart from the others.
+        let number = unsafe {
+            f(
+                st,
+                store.statements.len(),
+                fa,
+                store.facts.len(),
+                ke,
+                store.kept.len(),
+                su,
+                store.supports.len(),
+                s,
+                p,
+                o,
+            )
+        };
+        self.take_store(store)?;
+        Ok(Outcome {
+            number,
+            ..Outcome::default()
+        })
+    }
+
+    #[cfg(feature = "updates-only")]
+    fn deliver(&mut self, _: &mut Store, _: &[u8]) -> Result<Outcome, String> {
+        Err("not linked".into())
+    }
+
+    #[cfg(not(feature = "updates-only"))]
+    fn deliver(&mut self, store: &mut Store, bytes: &[u8]) -> Result<Outcome, String> {
+        let (st, fa, ke, su) = self.lend_store(store);
+        let input = Library::lend(&mut self.input, bytes, self.null_when_empty);
+        let result = self.small.lend(&[RUBBISH; 4]);
+        // SAFETY: each pointer is that of a slice of the length given, apart from the others.
+        let number = unsafe {
+            raw::families_deliver(
+                st,
+                store.statements.len(),
+                fa,
+                store.facts.len(),
+                ke,
+                store.kept.len(),
+                su,
+                store.supports.len(),
+                input,
+                bytes.len(),
+                result,
+            )
+        };
+        self.take_store(store)?;
+        whole(&[&self.input, &self.small])?;
+        unchanged(&self.input, bytes)?;
+        let words: &[u32] = self.small.read();
+        Ok(Outcome {
+            number,
+            result: [words[0], words[1], words[2], words[3]],
+            ..Outcome::default()
+        })
+    }
+
+    #[cfg(feature = "updates-only")]
+    fn ask(&mut self, _: Way, _: &Store, _: &[u32], _: &[u32]) -> Result<Outcome, String> {
+        Err("not linked".into())
+    }
+
+    #[cfg(not(feature = "updates-only"))]
+    fn ask(
+        &mut self,
+        way: Way,
+        store: &Store,
+        question: &[u32],
+        output: &[u32],
+    ) -> Result<Outcome, String> {
+        let null = self.null_when_empty;
+        let (f, facts): (Ask, &[u32]) = match way {
+            Way::Kept => (raw::families_ask_kept, &store.kept),
+            Way::Rewritten => (raw::families_ask_rewritten, &store.facts),
+        };
+        let st = Library::lend(&mut self.statements, &store.statements, null);
+        let fa = Library::lend(&mut self.facts, facts, null);
+        let qu = Library::lend(&mut self.input, question, null);
+        let rows = Library::lend(&mut self.output, output, null);
+        let count = self.small.lend(&[RUBBISH]);
+        // SAFETY: each pointer is that of a slice of the length given, apart from the others.
+        let number = unsafe {
+            f(
+                st,
+                store.statements.len(),
+                fa,
+                facts.len(),
+                qu,
+                question.len(),
+                rows,
+                output.len(),
+                count,
+            )
+        };
+        unchanged(&self.statements, &store.statements)?;
+        unchanged(&self.facts, facts)?;
+        unchanged(&self.input, question)?;
+        whole(&[&self.statements, &self.facts, &self.input])?;
+        self.rows(number)
+    }
+
+    #[cfg(feature = "updates-only")]
+    fn alternatives(&mut self, _: &[u32], _: Triple, _: &[u32]) -> Result<Outcome, String> {
+        Err("not linked".into())
+    }
+
+    #[cfg(not(feature = "updates-only"))]
+    fn alternatives(
+        &mut self,
+        statements: &[u32],
+        [s, p, o]: Triple,
+        output: &[u32],
+    ) -> Result<Outcome, String> {
+        let null = self.null_when_empty;
+        let st = Library::lend(&mut self.statements, statements, null);
+        let rows = Library::lend(&mut self.output, output, null);
+        let count = self.small.lend(&[RUBBISH]);
+        // SAFETY: each pointer is that of a slice of the length given, apart from the others.
+        let number = unsafe {
+            raw::families_alternatives(st, statements.len(), s, p, o, rows, output.len(), count)
+        };
+        unchanged(&self.statements, statements)?;
+        whole(&[&self.statements])?;
+        self.rows(number)
+    }
+
+    fn list(
+        &mut self,
+        f: List,
+        table: &[u32],
+        order: u32,
+        output: &[u32],
+    ) -> Result<Outcome, String> {
+        let null = self.null_when_empty;
+        let words = Library::lend(&mut self.statements, table, null);
+        let rows = Library::lend(&mut self.output, output, null);
+        let count = self.small.lend(&[RUBBISH]);
+        // SAFETY: each pointer is that of a slice of the length given, apart from the others.
+        let number = unsafe { f(words, table.len(), order, rows, output.len(), count) };
+        unchanged(&self.statements, table)?;
+        whole(&[&self.statements])?;
+        self.rows(number)
+    }
+
+    /// The outcome of a call with an output of rows.
+    fn rows(&self, number: u32) -> Result<Outcome, String> {
+        whole(&[&self.output, &self.small])?;
+        Ok(Outcome {
+            number,
+            count: self.small.read::<u32>()[0],
+            output: self.output.read().to_vec(),
+            ..Outcome::default()
+        })
+    }
+}
+
+fn whole(fences: &[&Fence]) -> Result<(), String> {
+    match fences.iter().all(|fence| fence.margin_is_whole()) {
+        true => Ok(()),
+        false => Err("the library wrote in front of a slice".into()),
+    }
+}
+
+fn unchanged<T: Copy + PartialEq>(fence: &Fence, lent: &[T]) -> Result<(), String> {
+    match fence.read::<T>() == lent {
+        true => Ok(()),
+        false => Err("the library wrote to a slice that is lent for reading".into()),
+    }
+}

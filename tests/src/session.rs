@@ -1,0 +1,327 @@
+//! Commands run on library and model side by side, everything compared after each.
+
+use crate::library::Library;
+use crate::model::ledger::Ledger;
+use crate::model::questions::write_rows;
+use crate::model::{Model, IDLE};
+use crate::script::{Call, Command, Expected, Way};
+use crate::store::{Store, Table};
+use std::collections::BTreeMap;
+use std::fs::File;
+use std::io::Write;
+use std::path::PathBuf;
+use std::time::{Duration, Instant};
+
+/// What a call gave besides the tables.
+#[derive(Clone, Default, PartialEq)]
+pub struct Outcome {
+    pub number: u32,
+    pub result: [u32; 4],
+    pub count: u32,
+    pub output: Vec<u32>,
+}
+
+/// A difference, and the commands up to it.
+pub struct Failure {
+    pub what: String,
+    pub script: Vec<Command>,
+}
+
+/// How often each kind of call gave each answer.
+pub type Counts = BTreeMap<(String, u32), u64>;
+
+/// How long a failing script may be shortened.
+const SHORTENING: Duration = Duration::from_secs(20);
+
+/// What all sessions share.
+pub struct Harness {
+    pub model: Model,
+    pub library: Library,
+    pub counts: Counts,
+    /// A file that gets each command of the present session before it is run.
+    pub trace: Option<PathBuf>,
+}
+
+impl Harness {
+    pub fn new(model: Model) -> Harness {
+        Harness {
+            model,
+            library: Library::new(),
+            counts: Counts::new(),
+            trace: None,
+        }
+    }
+
+    /// Runs a script by itself.
+    pub fn replay(&mut self, script: &[Command]) -> Result<(), Failure> {
+        let mut session = Session::new(self);
+        script.iter().try_for_each(|c| session.run(c.clone()))
+    }
+
+    /// Leaves out commands of a failing script that its failure does not need, for some time.
+    pub fn shortened(&mut self, failure: Failure) -> Failure {
+        let start = Instant::now();
+        let mut shortest = failure;
+        for i in (0..shortest.script.len()).rev() {
+            let mut script = shortest.script.clone();
+            if i < script.len() && start.elapsed() < SHORTENING {
+                script.remove(i);
+                if let Err(shorter) = self.replay(&script) {
+                    shortest = shorter;
+                }
+            }
+        }
+        shortest
+    }
+}
+
+/// A store, and the commands that made it what it is.
+pub struct Session<'a> {
+    pub harness: &'a mut Harness,
+    pub store: Store,
+    pub last: Outcome,
+    ledger: Option<Ledger>,
+    script: Vec<Command>,
+    trace: Option<File>,
+}
+
+impl<'a> Session<'a> {
+    pub fn new(harness: &'a mut Harness) -> Session<'a> {
+        harness.library.null_when_empty = false;
+        let trace = harness.trace.as_ref();
+        let trace = trace.map(|path| File::create(path).expect("the trace cannot be written"));
+        Session {
+            harness,
+            store: Store::default(),
+            last: Outcome::default(),
+            ledger: None,
+            script: Vec::new(),
+            trace,
+        }
+    }
+
+    /// Runs a command; a difference comes with the script so far.
+    pub fn run(&mut self, command: Command) -> Result<(), Failure> {
+        self.script.push(command.clone());
+        if let Some(file) = &mut self.trace {
+            writeln!(file, "{command}").expect("the trace cannot be written");
+        }
+        self.step(command).map_err(|what| Failure {
+            what,
+            script: self.script.clone(),
+        })
+    }
+
+    /// Runs a call.
+    pub fn call(&mut self, call: Call) -> Result<(), Failure> {
+        self.run(Command::Call(call))
+    }
+
+    /// Runs a call of which document 01 says the number.
+    pub fn expect(&mut self, call: Call, number: u32) -> Result<(), Failure> {
+        self.call(call)?;
+        self.run(Command::Expect(Expected::Number(number)))
+    }
+
+    /// Lends a whole store.
+    pub fn lend(&mut self, store: &Store) -> Result<(), Failure> {
+        for table in Table::ALL {
+            self.run(Command::Lend(table, store.table(table).clone()))?;
+        }
+        self.run(Command::LendSupports(store.supports.clone()))
+    }
+
+    fn step(&mut self, command: Command) -> Result<(), String> {
+        match command {
+            Command::Empty(lengths) => {
+                self.store = Store::empty(lengths);
+                // The ledger "never asks 1": tables of rows with no word have none.
+                let words = lengths[..3].iter().all(|length| *length > 0);
+                self.ledger = words.then(|| Ledger::new(self.harness.model, &self.store));
+            }
+            Command::Lend(table, words) => {
+                *self.store.table_mut(table) = words;
+                self.ledger = None;
+            }
+            Command::LendSupports(words) => {
+                self.store.supports = words;
+                self.ledger = None;
+            }
+            Command::Nulls(on) => self.harness.library.null_when_empty = on,
+            Command::Call(call) if self.harness.library.has(&call) => self.compare(&call)?,
+            Command::Call(call) => {
+                self.ledger = None;
+                self.last = self.harness.model.call(&mut self.store, &call);
+            }
+            Command::Expect(expected) => self.check(&expected)?,
+        }
+        Ok(())
+    }
+
+    /// Makes a call on library, model and ledger, and compares all that they give and leave.
+    fn compare(&mut self, call: &Call) -> Result<(), String> {
+        let mut expected_store = self.store.clone();
+        let expected = self.harness.model.call(&mut expected_store, call);
+        let found = self.harness.library.call(&mut self.store, call)?;
+        *self
+            .harness
+            .counts
+            .entry((call.kind(), found.number))
+            .or_default() += 1;
+        differ_outcome(&found, &expected, "the model")?;
+        differ_store(&self.store, &expected_store, "the model")?;
+        if let Some(ledger) = &mut self.ledger {
+            if let Some(expected) = ledger_call(ledger, call) {
+                differ_outcome(&found, &expected, "the ledger")?;
+                differ_store(&self.store, &ledger.store(&self.store), "the ledger")?;
+            }
+        }
+        self.last = found;
+        Ok(())
+    }
+
+    /// Compares the last call with what document 01 says of it.
+    fn check(&self, expected: &Expected) -> Result<(), String> {
+        let paper = "document 01";
+        let last = &self.last;
+        match expected {
+            Expected::Number(number) => differ("the answer", last.number, *number, paper),
+            Expected::Count(count) => differ("the row count", last.count, *count, paper),
+            Expected::Result(result) => differ_words("the result", &last.result, result, paper),
+            Expected::Output(words) => differ_words("the output", &last.output, words, paper),
+            Expected::Table(table, words) => {
+                differ_words(table.name(), self.store.table(*table), words, paper)
+            }
+            Expected::Supports(words) => {
+                differ_words("supports", &self.store.supports, words, paper)
+            }
+        }
+    }
+}
+
+impl Model {
+    /// What the model says of a call.
+    pub fn call(&self, store: &mut Store, call: &Call) -> Outcome {
+        match call {
+            Call::Add(triple) => Outcome {
+                number: self.update(store, true, *triple),
+                ..Outcome::default()
+            },
+            Call::Withdraw(triple) => Outcome {
+                number: self.update(store, false, *triple),
+                ..Outcome::default()
+            },
+            Call::Deliver(bytes) => {
+                let (number, result) = self.deliver(store, bytes);
+                Outcome {
+                    number,
+                    result,
+                    ..Outcome::default()
+                }
+            }
+            Call::Ask(way, question, output) => {
+                let width = question.get(1).map_or(1, |m| (*m).max(1) as usize);
+                let answer = self.ask_way(store, *way, question);
+                rows_outcome(|words| write_rows(answer, width, words), output.lent())
+            }
+            Call::Alternatives(atom, output) => {
+                let answer = self.alternatives(&store.statements, *atom);
+                rows_outcome(|words| write_rows(answer, 3, words), output.lent())
+            }
+            Call::List(table, order, output) => {
+                let answer = self.list(*table, store.table(*table), *order);
+                rows_outcome(|words| write_rows(answer, 3, words), output.lent())
+            }
+        }
+    }
+
+    /// The rows of a question by one of the two ways.
+    pub fn ask_way(
+        &self,
+        store: &Store,
+        way: Way,
+        question: &[u32],
+    ) -> Result<crate::model::questions::Rows, u32> {
+        let triples = match way {
+            Way::Kept => self.kept_triples(&store.statements, &store.kept),
+            Way::Rewritten => self.rewritten_triples(&store.statements, &store.facts),
+        };
+        self.ask(triples, question)
+    }
+}
+
+/// The outcome of a call with an output of rows.
+fn rows_outcome(write: impl FnOnce(&mut [u32]) -> (u32, u32), mut output: Vec<u32>) -> Outcome {
+    let (number, count) = write(&mut output);
+    Outcome {
+        number,
+        count,
+        output,
+        ..Outcome::default()
+    }
+}
+
+/// What the ledger says of a call, if it is one that the ledger is fed.
+fn ledger_call(ledger: &mut Ledger, call: &Call) -> Option<Outcome> {
+    let (number, result) = match call {
+        Call::Add(triple) => (ledger.update(true, *triple), [0; 4]),
+        Call::Withdraw(triple) => (ledger.update(false, *triple), [0; 4]),
+        Call::Deliver(bytes) => ledger.deliver(bytes),
+        _ => return None,
+    };
+    Some(Outcome {
+        number,
+        result,
+        ..Outcome::default()
+    })
+}
+
+/// An answer in words.
+fn answer(number: u32) -> String {
+    match number {
+        0 => "0".into(),
+        IDLE => "idle".into(),
+        number => format!("{number}"),
+    }
+}
+
+fn differ(what: &str, found: u32, expected: u32, by: &str) -> Result<(), String> {
+    if found == expected {
+        return Ok(());
+    }
+    let (found, expected) = (answer(found), answer(expected));
+    Err(format!(
+        "{what}: the library gives {found}, {by} {expected}"
+    ))
+}
+
+fn differ_words<T>(what: &str, found: &[T], expected: &[T], by: &str) -> Result<(), String>
+where
+    T: Copy + PartialEq + std::fmt::Display,
+{
+    if found.len() != expected.len() {
+        let (found, expected) = (found.len(), expected.len());
+        return Err(format!("{what}: {found} words, by {by} {expected}"));
+    }
+    match found.iter().zip(expected).position(|(f, e)| f != e) {
+        None => Ok(()),
+        Some(i) => Err(format!(
+            "{what}, word {i}: the library gives {}, {by} {}",
+            found[i], expected[i]
+        )),
+    }
+}
+
+fn differ_outcome(found: &Outcome, expected: &Outcome, by: &str) -> Result<(), String> {
+    differ("the answer", found.number, expected.number, by)?;
+    differ("the row count", found.count, expected.count, by)?;
+    differ_words("the result", &found.result, &expected.result, by)?;
+    differ_words("the output", &found.output, &expected.output, by)
+}
+
+fn differ_store(found: &Store, expected: &Store, by: &str) -> Result<(), String> {
+    for table in Table::ALL {
+        differ_words(table.name(), found.table(table), expected.table(table), by)?;
+    }
+    differ_words("supports", &found.supports, &expected.supports, by)
+}
