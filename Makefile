@@ -1,20 +1,34 @@
-# make run: the worked example's delivery.  make test: everything that is proved and run.  make bench: measured speed.
-.PHONY: run test bench toolchain
+# make run: the worked example's delivery.  make test: everything that is proved, run and tried.  make bench: measured speed.
+SHELL := /bin/bash
+.SHELLFLAGS := -eu -o pipefail -c
+.PHONY: run test trial bench library cargo toolchain
 
 run: toolchain
 	@echo "proving and building the program (some minutes the first time) .." >&2
 	@rt check families >target/run.log 2>&1 || { cat target/run.log; exit 1; }
 	@target/bin/families <crates/families/stdin
 
-test: toolchain
-	@rt ci
+# The last line is that of the toolchain's gate, which is held back until the trial of the library has passed too.
+test: toolchain cargo
+	@log=$$(mktemp); trap 'rm -f "$$log"' EXIT; \
+	rt ci | tee "$$log" | sed '$$d'; \
+	$(MAKE) --no-print-directory trial; \
+	tail -n 1 "$$log"
 
-# Needs cargo and rustc besides, and no crate from a registry.
-bench: toolchain
-	@command -v cargo >/dev/null || { apt-get update -qq && apt-get install -y -qq cargo; } >&2
+# The exported library against an independent model.
+trial: library cargo
+	@CARGO_TARGET_DIR=target/tests cargo run --release --offline --quiet --manifest-path tests/Cargo.toml
+
+bench: library cargo
+	@CARGO_TARGET_DIR=target/bench cargo run --release --offline --quiet --manifest-path bench/Cargo.toml
+
+library: toolchain
 	@echo "proving and building the exported library (some minutes the first time) .." >&2
 	@rt staticlib capi >target/staticlib.log 2>&1 || { cat target/staticlib.log; exit 1; }
-	@CARGO_TARGET_DIR=target/bench cargo run --release --offline --quiet --manifest-path bench/Cargo.toml
+
+# Rust's compiler and its build tool; no crate from a registry is used.
+cargo:
+	@command -v cargo >/dev/null || { apt-get update -qq && apt-get install -y -qq cargo; } >&2
 
 # What all need: the Rattle toolchain's command `rt`, and a place for what it makes.
 toolchain:

@@ -56,7 +56,7 @@ pub struct Mix {
 pub const PLAIN: Mix = Mix { types: 2, literals: 1, stated: 0 };
 
 /// Some five kept rows for each fact.
-pub const DENSE: Mix = Mix { types: 2, literals: 1, stated: 6 };
+pub const DENSE: Mix = Mix { types: 2, literals: 1, stated: 3 };
 
 /// So many distinct facts about things: types, properties between things, and literals.
 pub fn facts(n: usize, statements: usize, mix: Mix, seed: u64) -> Vec<Triple> {
