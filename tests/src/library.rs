@@ -45,9 +45,6 @@ mod raw {
         pub fn families_list_statements(table: *const u32, table_len: usize, order: u32, rows: *mut u32, rows_len: usize, count: *mut u32) -> u32;
         pub fn families_list_facts(table: *const u32, table_len: usize, order: u32, rows: *mut u32, rows_len: usize, count: *mut u32) -> u32;
         pub fn families_list_kept(table: *const u32, table_len: usize, order: u32, rows: *mut u32, rows_len: usize, count: *mut u32) -> u32;
-    }
-    #[cfg(not(feature = "updates-only"))]
-    extern "C" {
         pub fn families_deliver(statements: *mut u32, statements_len: usize, facts: *mut u32, facts_len: usize, kept: *mut u32, kept_len: usize, supports: *mut u16, supports_len: usize, bytes: *const u8, bytes_len: usize, result: *mut u32) -> u32;
         pub fn families_ask_kept(statements: *const u32, statements_len: usize, kept: *const u32, kept_len: usize, question: *const u32, question_len: usize, rows: *mut u32, rows_len: usize, count: *mut u32) -> u32;
         pub fn families_ask_rewritten(statements: *const u32, statements_len: usize, facts: *const u32, facts_len: usize, question: *const u32, question_len: usize, rows: *mut u32, rows_len: usize, count: *mut u32) -> u32;
@@ -86,12 +83,6 @@ impl Library {
             small: Fence::new(64),
             null_when_empty: false,
         }
-    }
-
-    /// Whether the library linked has what the call needs.
-    pub fn has(&self, call: &Call) -> bool {
-        let updates = matches!(call, Call::Add(_) | Call::Withdraw(_) | Call::List(..));
-        updates || !cfg!(feature = "updates-only")
     }
 
     /// Makes a call on the store; an error where memory was written that was not lent for writing.
@@ -173,12 +164,6 @@ impl Library {
         })
     }
 
-    #[cfg(feature = "updates-only")]
-    fn deliver(&mut self, _: &mut Store, _: &[u8]) -> Result<Outcome, String> {
-        Err("not linked".into())
-    }
-
-    #[cfg(not(feature = "updates-only"))]
     fn deliver(&mut self, store: &mut Store, bytes: &[u8]) -> Result<Outcome, String> {
         let (st, fa, ke, su) = self.lend_store(store);
         let input = Library::lend(&mut self.input, bytes, self.null_when_empty);
@@ -210,12 +195,6 @@ impl Library {
         })
     }
 
-    #[cfg(feature = "updates-only")]
-    fn ask(&mut self, _: Way, _: &Store, _: &[u32], _: &[u32]) -> Result<Outcome, String> {
-        Err("not linked".into())
-    }
-
-    #[cfg(not(feature = "updates-only"))]
     fn ask(
         &mut self,
         way: Way,
@@ -254,12 +233,6 @@ impl Library {
         self.rows(number)
     }
 
-    #[cfg(feature = "updates-only")]
-    fn alternatives(&mut self, _: &[u32], _: Triple, _: &[u32]) -> Result<Outcome, String> {
-        Err("not linked".into())
-    }
-
-    #[cfg(not(feature = "updates-only"))]
     fn alternatives(
         &mut self,
         statements: &[u32],

@@ -191,11 +191,6 @@ fn run(harness: &mut Harness, seed: u64, histories: u64) -> Result<(), (String, 
 
 /// Whether a short run with a planted fault ends in a difference.
 fn finds(fault: Fault, options: &Options) -> bool {
-    if cfg!(feature = "updates-only")
-        && matches!(fault, Fault::TypeLiterals | Fault::SkipStatements)
-    {
-        return true;
-    }
     let mut harness = Harness::new(Model { fault: Some(fault) });
     harness.trace = options.trace.clone();
     (0..300).any(|i| histories::grown(&mut harness, case_seed(options.seed, 0, i)).is_err())

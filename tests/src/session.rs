@@ -148,11 +148,7 @@ impl<'a> Session<'a> {
                 self.ledger = None;
             }
             Command::Nulls(on) => self.harness.library.null_when_empty = on,
-            Command::Call(call) if self.harness.library.has(&call) => self.compare(&call)?,
-            Command::Call(call) => {
-                self.ledger = None;
-                self.last = self.harness.model.call(&mut self.store, &call);
-            }
+            Command::Call(call) => self.compare(&call)?,
             Command::Expect(expected) => self.check(&expected)?,
         }
         Ok(())

@@ -61,10 +61,11 @@ module _ {A : Type 0} where
 abbrev pub asPair : Outcome → Answer × Tables
 asPair o = (o .answer, o .after)
 
--- A store's updates.
+-- A store's addition.
 abbrev pub addition : Update Tables
 addition T t = asPair (add T t)
 
+-- A store's withdrawal.
 abbrev pub withdrawal : Update Tables
 withdrawal T t = asPair (withdraw T t)
 

@@ -14,6 +14,7 @@ use Rattle.store.specs.Update.{Outcome, outcome, add, withdraw}
 use Rattle.deliver.specs.declared.Delivered.{Delivered}
 use Rattle.deliver.specs.Deliver.{deliver}
 use Rattle.ledger.specs.Ledger.{Given, answered, resulted, call, calls}
+use Rattle.query.specs.Ask.{askKept, askRewritten}
 use Rattle.ledger.specs.History.{storeEntries, emptyStore, storeRun}
 use Rattle.ledger.specs.Encoded.{callOf, callsFrom, encoded, givenWords, replyWords, wordedCall, Runnable, Ran}
 use Rattle.ledger.proofs.History.{history}
@@ -172,4 +173,10 @@ ran T₀ words bytes replies replies' S F K U T R a b c d e g =
     let D = history s f k u (R .statement-words) (R .fact-words) (R .kept-words) (encoded words bytes) in
     let few : length (replyWords (storeRun s f k u (encoded words bytes) .given)) ≤ length replies = omega (arith, R .reply-words, replies-length words bytes 0 (length words / 4) (emptyStore s f k u)) in
     let w : replies' ≡ replyWords (storeRun s f k u (encoded words bytes) .given) ++ drop (length (replyWords (storeRun s f k u (encoded words bytes) .given))) replies = (rw (a, b, c, d) at g) ∙ sets-front (replyWords (storeRun s f k u (encoded words bytes) .given)) replies few in
-    record { words = (rw (a, b, c, d) at e) ∙ D .words; given = rw (D .answers) at w }
+    let left : T ≡ storeRun s f k u (encoded words bytes) .after = rw (a, b, c, d) at e in
+    record {
+      words = left ∙ D .words;
+      given = rw (D .answers) at w;
+      kept-way = λ q len. ap (λ (z : Tables). askKept (z .statements) (z .kept) q len) left ∙ D .kept-way q len;
+      rewritten-way = λ q len. ap (λ (z : Tables). askRewritten (z .statements) (z .facts) q len) left ∙ D .rewritten-way q len;
+    }
