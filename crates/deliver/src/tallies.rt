@@ -17,8 +17,8 @@ pub fn none() -> Tally
     }
 }
 
-// One entry more, with its answer.
-pub fn tallied(counted: Tally, answer: Answer) -> Tally
+// One entry more, with its answer: the tally of that answer, by 1.
+fn raised(counted: Tally, answer: Answer) -> Tally
     requires { ⌜ total counted + 1 < 2 ^ 32 ⌝ }
     ensures { λ r. ⌜ r ≡ tallied answer counted ⌝ }
 {
@@ -39,6 +39,24 @@ pub fn tallied(counted: Tally, answer: Answer) -> Tally
             refused: counted.refused + 1,
         },
     }
+}
+
+// Counts one entry more, with its answer, in tallies that are lent.
+fn count(tally: &mut Tally, answer: Answer)
+    requires { ⌜ total (now tally) + 1 < 2 ^ 32 ⌝ }
+    ensures { λ _. ⌜ now (tally .exit) ≡ tallied answer (now (tally .entry)) ⌝ }
+{
+    *tally = raised(*tally, answer);
+}
+
+// One entry more, with its answer, for callers that hold tallies by value: a copy of them is lent.
+pub fn tallied(counted: Tally, answer: Answer) -> Tally
+    requires { ⌜ total counted + 1 < 2 ^ 32 ⌝ }
+    ensures { λ r. ⌜ r ≡ tallied answer counted ⌝ }
+{
+    let mut sum = counted;
+    count(&mut sum, answer);
+    sum
 }
 
 // So many entries more, all refused.

@@ -10,8 +10,7 @@ use lib.Dec.{leb, eqb}
 use borrow.Author.Tests.{leb-true, eqb-true, lt-leb, le-leb}
 use Rattle.rdf.proofs.Ascending.{and-left, and-right}
 use Rattle.delivery.specs.Message.{short, sectionEnd, sectionStart, fieldsEnd, mostBytes, isWhole}
-use Rattle.delivery.specs.declared.Fields.{Fields}
-use Rattle.delivery.specs.Fields.{ExtraFields}
+use Rattle.delivery.specs.Fields.{countedEnd}
 use Rattle.delivery.proofs.Walk.{fields-end-from}
 
 -- ---- the test
@@ -21,10 +20,15 @@ pub too-long : (bs : List ℕ) → mostBytes < length bs → isWhole bs ≡ fals
 unfolding isWhole
 too-long bs h = rw (lt-leb _ _ h)
 
--- Not too many: the end of the fields decides.
-pub ends-there : (bs : List ℕ) (f : Fields) (e : ℕ) → length bs ≤ mostBytes → ExtraFields bs f → e ≡ fieldsEnd bs (f .at) (f .count) → eqb e (length bs) ≡ isWhole bs
-unfolding isWhole
-ends-there bs f e h x q = rw (le-leb _ _ h, q, x .begins, x .counted)
+-- Counted fields end where the fields after the count do.
+pub counted-end : (bs : List ℕ) (at n e : ℕ) → n ≡ short bs at → e ≡ fieldsEnd bs (at + 2) n → e ≡ countedEnd bs at
+unfolding countedEnd
+counted-end bs at n e h q = rw (q, h)
+
+-- Not too many: the end of the fields that the fifth section counts decides.
+pub ends-there : (bs : List ℕ) (at e : ℕ) → length bs ≤ mostBytes → at ≡ sectionStart bs 4 → e ≡ countedEnd bs at → eqb e (length bs) ≡ isWhole bs
+unfolding isWhole countedEnd
+ends-there bs at e h x q = rw (le-leb _ _ h, q, x)
 
 -- ---- places
 

@@ -13,6 +13,10 @@ unfoldable pub isRightIn : Bool → Triple → Bool
 isRightIn true = isStatement
 isRightIn false = isFact
 
+-- Where the fields end whose count stands at index at.
+unfoldable pub countedEnd : List ℕ → ℕ → ℕ
+countedEnd bs at = fieldsEnd bs (at + 2) (short bs at)
+
 -- Fields r are the extra fields of a delivery's bytes: where its fifth section begins, after the count, and how many are counted.
 pub record ExtraFields (bs : List ℕ) (r : Fields) : Type 0 where
   pub begins : r .at ≡ sectionStart bs 4 + 2

@@ -8,14 +8,14 @@ use Rattle.delivery.proofs.is_whole.Tie as tie
 returns : tie.Need-returns
 returns c = sym (too-long (c .before .before .args .bytes .now) (c .if1 .taken))
 
-extra-fields-requires : tie.Need-extra-fields-requires
-extra-fields-requires c κs = search needs
+section-start-requires : tie.Need-section-start-requires
+section-start-requires c κs = search needs
 
-fields-end-requires : tie.Need-fields-end-requires
-fields-end-requires c κs = search needs
+walked-end-requires : tie.Need-walked-end-requires
+walked-end-requires c κs = search needs
 
 returns-2 : tie.Need-returns-2
-returns-2 c = ends-there (c .before .before .before .before .args .bytes .now) _ _ (c .before .before .if1 .left) (c .before .extra-fields .ensures) (c .fields-end .ensures)
+returns-2 c = ends-there (c .before .before .before .before .args .bytes .now) _ _ (c .before .before .if1 .left) (c .before .section-start .ensures .0) (c .walked-end .ensures)
 
 pub is-whole-spec : {M : Type 1} → statement M
-is-whole-spec = tie.close (tie.spec returns extra-fields-requires fields-end-requires returns-2)
+is-whole-spec = tie.close (tie.spec returns section-start-requires walked-end-requires returns-2)

@@ -4,8 +4,8 @@ use mathlib.Core.Path.{_≡_, refl, sym, _∙_}
 use Prim.Native.Nat.{_+_, _*_, _≤_}
 use Rattle.delivery.specs.Message.{fieldsEnd}
 use Rattle.delivery.proofs.Walk.{fields-end-more, fields-end-none}
-use Rattle.delivery.proofs.fields_end.Statement.{statement}
-use Rattle.delivery.proofs.fields_end.Tie as tie
+use Rattle.delivery.proofs.extra.fields_end.Statement.{statement}
+use Rattle.delivery.proofs.extra.fields_end.Tie as tie
 
 abbrev Inv-loop : tie.InvT-loop
 Inv-loop bytes at n end₀ left₀ end left = (left ≤ n) × ((fieldsEnd bytes end left ≡ fieldsEnd bytes at n) × (end + left * 65539 ≤ at + n * 65539))
