@@ -44,7 +44,7 @@ fn usage() -> ! {
 fn options() -> Options {
     let mut options = Options {
         seed: 1,
-        histories: 10_000,
+        histories: 15_000,
         fault: None,
         replay: None,
         watched: false,
