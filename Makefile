@@ -11,7 +11,7 @@ run: toolchain
 # The last line is that of the toolchain's gate, which is held back until the trial of the library has passed too.
 test: toolchain cargo
 	@log=$$(mktemp); trap 'rm -f "$$log"' EXIT; \
-	rt ci | tee "$$log" | sed '$$d'; \
+	rt ci | tee "$$log" | sed -u '$$d' || { tail -n 1 "$$log"; exit 1; }; \
 	$(MAKE) --no-print-directory trial; \
 	tail -n 1 "$$log"
 
