@@ -25,13 +25,15 @@ use Rattle.capi.specs.Numbered.{updated, numberedOutcome, received, resu
 pub update-numbered : (a : Answer) (n : ℕ) (T : Tables) (o : Outcome) → n ≡ answerNumber a → outcome a T ≡ o → updated n T ≡ numberedOutcome o
 update-numbered a n T o e h = rw e (ap numberedOutcome h)
 
--- A reply's number, count and words are those of what was replied.
-pub reply-numbered : (p : Reply) (n c : ℕ) (ws : List ℕ) (o : Replied) → n ≡ replyNumber p → c ≡ replyCount p → replied p ws ≡ o → listed n c ws ≡ numberedReply o
-reply-numbered p n c ws o e f h = rw (e, f) (ap numberedReply h)
-
--- The same for a count modulo 2^32.
+-- A reply's number, count modulo 2^32 and words are those of what was replied.
 pub wide-numbered : (p : Reply) (n c : ℕ) (ws : List ℕ) (o : Replied) → n ≡ replyNumber p → c ≡ replyCount p % 2 ^ 32 → replied p ws ≡ o → listed n c ws ≡ wideReply o
 wide-numbered p n c ws o e f h = rw (e, f) (ap wideReply h)
+
+-- A count below 2^32 is the number of rows.
+pub reply-numbered : (p : Reply) (n c : ℕ) (ws : List ℕ) (o : Replied) → replyCount p < 2 ^ 32 → n ≡ replyNumber p → c ≡ replyCount p % 2 ^ 32 → replied p ws ≡ o → listed n c ws ≡ numberedReply o
+reply-numbered p n c ws o l e f h =
+    let g : c ≡ replyCount p = omega arith in
+    rw (e, g) (ap numberedReply h)
 
 -- What a count modulo 2^32 is of rows that were given, and of a refusal.
 pub rows-wide : (p : Reply) (n : ℕ) → p ≡ Rows n → (0 ≡ replyNumber p) × (n % 4294967296 ≡ replyCount p % 2 ^ 32)
@@ -43,10 +45,6 @@ refused-wide p n e = rw e (refl, refl)
 -- A delivery's number, result and tables are those of what was delivered.
 pub delivery-numbered : (d : Delivered) (n : ℕ) (ws : List ℕ) (T : Tables) (o : Delivered × Tables) → n ≡ d .refusal → ws ≡ resultWords d → (d, T) ≡ o → received n ws T ≡ numberedDelivery o
 delivery-numbered d n ws T o e f h = rw (e, f) (ap numberedDelivery h)
-
--- The count of rows that were given.
-pub rows-below : (p : Reply) (n : ℕ) → p ≡ Rows n → replyCount p < 2 ^ 32 → n < 2 ^ 32
-rows-below p n e h = rw e at h
 
 -- No more rows are counted than there are.
 give-count : (n : ℕ) (R : List (List ℕ)) (len : ℕ) → replyCount (give n R len .reply) ≤ length R

@@ -101,26 +101,9 @@ pub extern "C" fn families_deliver(
     )
 }
 
-// The number of a reply, with its row count written to count, and 0 there where it is a refusal.
-fn reply_number(reply: Reply, count: &mut u32) -> u32
-    requires { ⌜ replyCount reply < 2 ^ 32 ⌝ }
-    ensures { λ r. ⌜ (r ≡ replyNumber reply) × (now (count .exit) ≡ replyCount reply) ⌝ }
-{
-    match reply {
-        Reply::Rows(n) => {
-            *count = n as u32;
-            0
-        }
-        Reply::Refused(n) => {
-            *count = 0;
-            n
-        }
-    }
-}
-
 // The number of a reply, with its row count modulo 2^32 written to count, and 0 there where it is a refusal. Only an output of 16 GiB or more
 // holds as many rows.
-fn wide_reply_number(reply: Reply, count: &mut u32) -> u32
+fn reply_number(reply: Reply, count: &mut u32) -> u32
     ensures { λ r. ⌜ (r ≡ replyNumber reply) × (now (count .exit) ≡ replyCount reply % 2 ^ 32) ⌝ }
 {
     match reply {
@@ -146,7 +129,7 @@ pub extern "C" fn families_ask_kept(
 ) -> u32
     ensures { λ r. ⌜ listed r (now (count .exit)) (now (rows .exit)) ≡ wideReply (askKept (now (statements .entry)) (now (kept .entry)) (now (question .entry)) (length (now (rows .entry)))) ⌝ }
 {
-    wide_reply_number(ask::ask_kept(statements, kept, question, rows), count)
+    reply_number(ask::ask_kept(statements, kept, question, rows), count)
 }
 
 // Puts a question to the statements and the explicit facts.
@@ -160,7 +143,7 @@ pub extern "C" fn families_ask_rewritten(
 ) -> u32
     ensures { λ r. ⌜ listed r (now (count .exit)) (now (rows .exit)) ≡ wideReply (askRewritten (now (statements .entry)) (now (facts .entry)) (now (question .entry)) (length (now (rows .entry)))) ⌝ }
 {
-    wide_reply_number(ask::ask_rewritten(statements, facts, question, rows), count)
+    reply_number(ask::ask_rewritten(statements, facts, question, rows), count)
 }
 
 // Gives the alternatives of an atom.
@@ -180,7 +163,7 @@ pub extern "C" fn families_alternatives(
         property: property,
         object: object,
     };
-    wide_reply_number(alternatives::alternatives(statements, atom, rows), count)
+    reply_number(alternatives::alternatives(statements, atom, rows), count)
 }
 
 // Lists the statements in a column order.

@@ -6,15 +6,15 @@ use Rattle.capi.proofs.families_ask_kept.Tie as tie
 use Rattle.capi.proofs.families_ask_kept.Reads as reads
 use Rattle.capi.proofs.families_ask_kept.Lts as lts
 use Rattle.ask.proofs.ask_kept.Reads as ask-kept-reads
-use Rattle.capi.proofs.wide_reply_number.Reads as wide-reply-number-reads
+use Rattle.capi.proofs.reply_number.Reads as reply-number-reads
 
 -- src/lib.rt:147:23
 ask-kept-requires : tie.Need-ask-kept-requires
 ask-kept-requires c κs = search needs
 
 -- src/lib.rt:147:5
-wide-reply-number-requires : tie.Need-wide-reply-number-requires
-wide-reply-number-requires c κs = search needs
+reply-number-requires : tie.Need-reply-number-requires
+reply-number-requires c κs = search needs
 
 -- src/lib.rt:137:1
 same-length : tie.Need-same-length
@@ -22,8 +22,8 @@ same-length c = search needs
 
 -- src/lib.rt:137:1
 returns : tie.Need-returns
-returns c = wide-numbered _ _ _ _ _ (c .wide-reply-number .ensures .0) (c .wide-reply-number .ensures .1) (c .before .before .before .before .ask-kept .ensures)
+returns c = wide-numbered _ _ _ _ _ (c .reply-number .ensures .0) (c .reply-number .ensures .1) (c .before .before .before .before .ask-kept .ensures)
 
 pub families-ask-kept-spec : {M : Type 1} → statement M
 families-ask-kept-spec =
-    tie.close (tie.spec ask-kept-requires wide-reply-number-requires same-length returns)
+    tie.close (tie.spec ask-kept-requires reply-number-requires same-length returns)

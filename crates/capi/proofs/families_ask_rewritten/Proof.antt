@@ -6,15 +6,15 @@ use Rattle.capi.proofs.families_ask_rewritten.Tie as tie
 use Rattle.capi.proofs.families_ask_rewritten.Reads as reads
 use Rattle.capi.proofs.families_ask_rewritten.Lts as lts
 use Rattle.ask.proofs.ask_rewritten.Reads as ask-rewritten-reads
-use Rattle.capi.proofs.wide_reply_number.Reads as wide-reply-number-reads
+use Rattle.capi.proofs.reply_number.Reads as reply-number-reads
 
 -- src/lib.rt:161:23
 ask-rewritten-requires : tie.Need-ask-rewritten-requires
 ask-rewritten-requires c κs = search needs
 
 -- src/lib.rt:161:5
-wide-reply-number-requires : tie.Need-wide-reply-number-requires
-wide-reply-number-requires c κs = search needs
+reply-number-requires : tie.Need-reply-number-requires
+reply-number-requires c κs = search needs
 
 -- src/lib.rt:151:1
 same-length : tie.Need-same-length
@@ -22,8 +22,8 @@ same-length c = search needs
 
 -- src/lib.rt:151:1
 returns : tie.Need-returns
-returns c = wide-numbered _ _ _ _ _ (c .wide-reply-number .ensures .0) (c .wide-reply-number .ensures .1) (c .before .before .before .before .ask-rewritten .ensures)
+returns c = wide-numbered _ _ _ _ _ (c .reply-number .ensures .0) (c .reply-number .ensures .1) (c .before .before .before .before .ask-rewritten .ensures)
 
 pub families-ask-rewritten-spec : {M : Type 1} → statement M
 families-ask-rewritten-spec =
-    tie.close (tie.spec ask-rewritten-requires wide-reply-number-requires same-length returns)
+    tie.close (tie.spec ask-rewritten-requires reply-number-requires same-length returns)

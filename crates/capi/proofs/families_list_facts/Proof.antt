@@ -14,13 +14,14 @@ list-facts-requires : tie.Need-list-facts-requires
 list-facts-requires c κs = search needs
 
 reply-number-requires : tie.Need-reply-number-requires
-reply-number-requires c κs = listing-count isAllowedFact 65535 _ _ _ (omega arith) _ _ (c .before .before .before .list-facts .ensures)
+reply-number-requires c κs = search needs
 
 same-length : tie.Need-same-length
 same-length c = search needs
 
 returns : tie.Need-returns
-returns c = reply-numbered _ _ _ _ _ (c .reply-number .ensures .0) (c .reply-number .ensures .1) (c .before .before .before .before .list-facts .ensures)
+returns c =
+    reply-numbered _ _ _ _ _ (listing-count isAllowedFact 65535 _ _ _ (omega arith) _ _ (c .before .before .before .before .list-facts .ensures)) (c .reply-number .ensures .0) (c .reply-number .ensures .1) (c .before .before .before .before .list-facts .ensures)
 
 pub families-list-facts-spec : {M : Type 1} → statement M
 families-list-facts-spec =

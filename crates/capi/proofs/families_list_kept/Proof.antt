@@ -14,13 +14,14 @@ list-kept-requires : tie.Need-list-kept-requires
 list-kept-requires c κs = search needs
 
 reply-number-requires : tie.Need-reply-number-requires
-reply-number-requires c κs = listing-count isAllowedFact 262143 _ _ _ (omega arith) _ _ (c .before .before .before .list-kept .ensures)
+reply-number-requires c κs = search needs
 
 same-length : tie.Need-same-length
 same-length c = search needs
 
 returns : tie.Need-returns
-returns c = reply-numbered _ _ _ _ _ (c .reply-number .ensures .0) (c .reply-number .ensures .1) (c .before .before .before .before .list-kept .ensures)
+returns c =
+    reply-numbered _ _ _ _ _ (listing-count isAllowedFact 262143 _ _ _ (omega arith) _ _ (c .before .before .before .before .list-kept .ensures)) (c .reply-number .ensures .0) (c .reply-number .ensures .1) (c .before .before .before .before .list-kept .ensures)
 
 pub families-list-kept-spec : {M : Type 1} → statement M
 families-list-kept-spec =

@@ -14,13 +14,14 @@ list-statements-requires : tie.Need-list-statements-requires
 list-statements-requires c κs = search needs
 
 reply-number-requires : tie.Need-reply-number-requires
-reply-number-requires c κs = listing-count isAllowedStatement 512 _ _ _ (omega arith) _ _ (c .before .before .before .list-statements .ensures)
+reply-number-requires c κs = search needs
 
 same-length : tie.Need-same-length
 same-length c = search needs
 
 returns : tie.Need-returns
-returns c = reply-numbered _ _ _ _ _ (c .reply-number .ensures .0) (c .reply-number .ensures .1) (c .before .before .before .before .list-statements .ensures)
+returns c =
+    reply-numbered _ _ _ _ _ (listing-count isAllowedStatement 512 _ _ _ (omega arith) _ _ (c .before .before .before .before .list-statements .ensures)) (c .reply-number .ensures .0) (c .reply-number .ensures .1) (c .before .before .before .before .list-statements .ensures)
 
 pub families-list-statements-spec : {M : Type 1} → statement M
 families-list-statements-spec =
