@@ -35,7 +35,7 @@ use Rattle.kept.proofs.Formed.{kept-tables, keptRows-keptOf, length-keptOf, kep
 use Rattle.raise.specs.Raising.{Raisable}
 use Rattle.lower.specs.Lowering.{Lowerable}
 
--- ---- kept facts of a well-formed store
+-- ---- facts of a well-formed store
 
 module _ {S F K U : List ℕ} (W : FormedStore S F K U) where
   -- What `find` asks of the facts.
