@@ -15,9 +15,9 @@ use Rattle.output.specs.declared.Reply.{Reply}
 use Rattle.output.specs.declared.Reply.the-variants.{Rows, Refused}
 use Rattle.output.specs.Output.{Replied, replied, give, replyNumber, replyCount}
 use Rattle.listing.specs.Listing.{arranged, listingRows, listingQuestions, listing}
-use Rattle.store.specs.declared.Answer.{Answer}
-use Rattle.store.specs.Store.{Tables}
-use Rattle.store.specs.Update.{Outcome, outcome, answerNumber}
+use Rattle.update.specs.declared.Answer.{Answer}
+use Rattle.update.specs.Store.{Tables}
+use Rattle.update.specs.Update.{Outcome, outcome, answerNumber}
 use Rattle.deliver.specs.declared.Delivered.{Delivered}
 use Rattle.capi.specs.Numbered.{updated, numberedOutcome, received, resultWords, numberedDelivery, listed, numberedReply, wideReply}
 

@@ -2,8 +2,8 @@
 use Prim.Native.Nat.{ℕ, _%_, _^_}
 use mathlib.Core.List.{List, [], _∷_}
 use Rattle.output.specs.Output.{Replied, replyNumber, replyCount}
-use Rattle.store.specs.Store.{Tables}
-use Rattle.store.specs.Update.{Outcome, answerNumber}
+use Rattle.update.specs.Store.{Tables}
+use Rattle.update.specs.Update.{Outcome, answerNumber}
 use Rattle.deliver.specs.declared.Delivered.{Delivered}
 
 -- The number of an update's answer, and the tables after it.

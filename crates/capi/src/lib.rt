@@ -2,7 +2,7 @@
 use deliver::Delivered;
 use output::Reply;
 use rdf::Triple;
-use store::Answer;
+use update::Answer;
 ghost use mathlib.Core.Path.{_≡_};
 ghost use Prim.Native.Nat.{_%_, _^_, _<_};
 ghost use lib.ListN.{length};
@@ -12,8 +12,8 @@ ghost use Rattle.output.specs.Output.{replyNumber, replyCount};
 ghost use Rattle.listing.specs.Listing.{listing};
 ghost use Rattle.query.specs.Ask.{askKept, askRewritten};
 ghost use Rattle.alternatives.specs.Reformulate.{reformulate};
-ghost use Rattle.store.specs.Store.{tables};
-ghost use Rattle.store.specs.Update.{add, withdraw, answerNumber};
+ghost use Rattle.update.specs.Store.{tables};
+ghost use Rattle.update.specs.Update.{add, withdraw, answerNumber};
 ghost use Rattle.deliver.specs.Deliver.{deliver};
 ghost use Rattle.capi.specs.Numbered.{updated, numberedOutcome, received, numberedDelivery, resultWords, listed, numberedReply, wideReply};
 

@@ -4,7 +4,7 @@ use mathlib.Core.Path.{_≡_, refl, sym, ap, _∙_}
 use mathlib.Core.Bool.{true, false}
 use mathlib.Core.List.{List}
 use Rattle.rdf.specs.Refusal.{firstNo}
-use Rattle.store.specs.Store.{Tables, areFormed}
+use Rattle.update.specs.Store.{Tables, areFormed}
 use Rattle.delivery.specs.Message.{read, isWhole, areSectionsRight, isNumberRight, numberFields, numberOf}
 use Rattle.deliver.specs.declared.Tally.{Tally}
 use Rattle.deliver.specs.declared.Delivered.{Delivered}

@@ -13,11 +13,11 @@ use Rattle.rdf.proofs.Lists.{true-not-false, by-test}
 use Rattle.table.specs.Table.{count, all}
 use Rattle.table.specs.Laid.{FormedStore}
 use Rattle.table.proofs.Store.{isStore-formed, formed-isStore}
-use Rattle.store.specs.declared.Answer.{Answer}
-use Rattle.store.specs.declared.Answer.the-variants.{Refused}
-use Rattle.store.specs.Store.{Tables, tables, areFormed}
-use Rattle.store.specs.Update.{Outcome, outcome, add, withdraw}
-use Rattle.store.proofs.Outcomes.{add-malformed, withdraw-malformed}
+use Rattle.update.specs.declared.Answer.{Answer}
+use Rattle.update.specs.declared.Answer.the-variants.{Refused}
+use Rattle.update.specs.Store.{Tables, tables, areFormed}
+use Rattle.update.specs.Update.{Outcome, outcome, add, withdraw}
+use Rattle.update.proofs.Outcomes.{add-malformed, withdraw-malformed}
 use Rattle.store.proofs.Laws.{add-formed, withdraw-statement-formed}
 use Rattle.store.proofs.Lowered.{supportsOf, areSupportsWithin, formed-within, withdraw-fact-formed, withdraw-fact-within, withdraw-fact-places}
 use Rattle.delivery.specs.Message.{isFact}

@@ -6,7 +6,7 @@ use mathlib.Core.List.{List, _∷_}
 use native.Mathlib.Omega.{arith}
 use lib.ListN.{length}
 use Rattle.rdf.specs.Refusal.{firstNo}
-use Rattle.store.specs.Store.{Tables, areFormed}
+use Rattle.update.specs.Store.{Tables, areFormed}
 use Rattle.delivery.specs.Message.{Message, read, isWhole, areSectionsRight, numberFields, numberOf}
 use Rattle.deliver.specs.Deliver.{tally, Update, Progress, progress, runEntries, runMessage, addition, withdrawal, delivered, messageQuestions, conclude, deliver}
 use Rattle.deliver.specs.Running.{total}

@@ -9,9 +9,9 @@ use lib.ListN.{length}
 use Rattle.rdf.specs.declared.Triple.{Triple}
 use Rattle.rdf.proofs.Ascending.{and-left, and-right}
 use Rattle.table.specs.Table.{all}
-use Rattle.store.specs.declared.Answer.{Answer}
-use Rattle.store.specs.declared.Answer.the-variants.{Applied, Idle, Refused}
-use Rattle.store.specs.Store.{Tables}
+use Rattle.update.specs.declared.Answer.{Answer}
+use Rattle.update.specs.declared.Answer.the-variants.{Applied, Idle, Refused}
+use Rattle.update.specs.Store.{Tables}
 use Rattle.delivery.specs.Message.{short, entryAt, entriesFrom, sectionStart}
 use Rattle.delivery.proofs.Whole.{section-within, section-small}
 use Rattle.deliver.specs.declared.Tally.{Tally}

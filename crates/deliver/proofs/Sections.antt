@@ -8,7 +8,7 @@ use Rattle.rdf.specs.declared.Triple.{Triple}
 use Rattle.rdf.specs.Triple.{isStatement}
 use Rattle.rdf.proofs.Ascending.{and-left, and-right}
 use Rattle.table.specs.Table.{all}
-use Rattle.store.specs.Store.{Tables, areFormed}
+use Rattle.update.specs.Store.{Tables, areFormed}
 use Rattle.delivery.specs.Message.{read, isWhole, isFact, areSectionsRight}
 use Rattle.deliver.specs.declared.Tally.{Tally}
 use Rattle.deliver.specs.Deliver.{tally, Progress, progress, addition, withdrawal, runEntries, runMessage}

@@ -4,10 +4,10 @@ use mathlib.Core.Bool.{Bool}
 use mathlib.Core.List.{List, [], _∷_}
 use Rattle.rdf.specs.declared.Triple.{Triple}
 use Rattle.rdf.specs.Refusal.{firstNo}
-use Rattle.store.specs.declared.Answer.{Answer}
-use Rattle.store.specs.declared.Answer.the-variants.{Applied, Idle, Refused}
-use Rattle.store.specs.Store.{Tables, areFormed}
-use Rattle.store.specs.Update.{Outcome, add, withdraw}
+use Rattle.update.specs.declared.Answer.{Answer}
+use Rattle.update.specs.declared.Answer.the-variants.{Applied, Idle, Refused}
+use Rattle.update.specs.Store.{Tables, areFormed}
+use Rattle.update.specs.Update.{Outcome, add, withdraw}
 use Rattle.delivery.specs.Message.{Message, read, isWhole, areSectionsRight, isNumberRight, numberFields, numberOf}
 use Rattle.deliver.specs.declared.Tally.{Tally}
 use Rattle.deliver.specs.declared.Delivered.{Delivered}

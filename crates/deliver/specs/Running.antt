@@ -5,7 +5,7 @@ use mathlib.Core.Bool.{Bool, true, false}
 use mathlib.Core.List.{List, [], _∷_}
 use Rattle.rdf.specs.declared.Triple.{Triple}
 use Rattle.rdf.specs.Triple.{isStatement}
-use Rattle.store.specs.Store.{Tables}
+use Rattle.update.specs.Store.{Tables}
 use Rattle.delivery.specs.Message.{sectionAt, sectionStart, isWhole}
 use Rattle.deliver.specs.declared.Tally.{Tally}
 use Rattle.deliver.specs.Deliver.{Update, addition, withdrawal}

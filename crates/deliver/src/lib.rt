@@ -10,7 +10,7 @@ use tallies::none;
 ghost use mathlib.Core.Path.{_≡_};
 ghost use mathlib.Core.Bool.{true};
 ghost use Rattle.table.specs.Laid.{FormedStore};
-ghost use Rattle.store.specs.Store.{tables};
+ghost use Rattle.update.specs.Store.{tables};
 ghost use Rattle.delivery.specs.Message.{read, isWhole, areSectionsRight};
 ghost use Rattle.deliver.specs.Deliver.{tally, progress, addition, withdrawal, runMessage, delivered, deliver};
 

@@ -1,6 +1,6 @@
 // Tallies that rise as entries are dealt with.
 use crate::Tally;
-use store::Answer;
+use update::Answer;
 ghost use mathlib.Core.Path.{_≡_};
 ghost use Prim.Native.Nat.{_+_, _^_, _<_};
 ghost use Rattle.deliver.specs.Deliver.{tally, tallied};

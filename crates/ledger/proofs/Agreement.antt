@@ -14,9 +14,9 @@ use Rattle.rdf.proofs.Lists.{by-test}
 use Rattle.rdf.proofs.Ascending.{insert-asc, insert-old, insert-cases, ascending-ext}
 use Rattle.table.specs.Table.{capacity}
 use Rattle.table.proofs.Change.{remove-absent}
-use Rattle.store.specs.declared.Answer.{Answer}
-use Rattle.store.specs.Store.{Tables, areFormed, Contents, contentsOf}
-use Rattle.store.specs.Update.{withTriple, withoutTriple, isThere, isBelowCapacity, isKeptFitting, additionQuestions, withdrawalQuestions, decide, add, withdraw}
+use Rattle.update.specs.declared.Answer.{Answer}
+use Rattle.update.specs.Store.{Tables, areFormed, Contents, contentsOf}
+use Rattle.update.specs.Update.{withTriple, withoutTriple, isThere, isBelowCapacity, isKeptFitting, additionQuestions, withdrawalQuestions, decide, add, withdraw}
 use Rattle.store.proofs.Fitting.{contentsOf-put, Fitting, SameLengths, formed-fitting}
 use Rattle.store.proofs.Laws.{there-false, there-true, with-saturated, without-saturated, Saturated, add-lengths, withdraw-lengths, Sound, add-sound, withdraw-sound}
 use Rattle.deliver.specs.Deliver.{addition, withdrawal, messageQuestions, deliver}

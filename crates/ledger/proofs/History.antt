@@ -13,8 +13,8 @@ use Rattle.rdfs.specs.Entailment.{NoVocabulary}
 use Rattle.rdfs.specs.Saturation.{saturation, keptRows, keptSupports}
 use Rattle.rdfs.proofs.Entailment.{allowed-no-vocabulary}
 use Rattle.rdfs.proofs.Saturation.{saturation-kept, saturation-support, support-is}
-use Rattle.store.specs.Store.{Tables, tables, contents, contentsOf}
-use Rattle.store.proofs.Facts.{keptRows-keptOf}
+use Rattle.update.specs.Store.{Tables, tables, contents, contentsOf}
+use Rattle.kept.proofs.Formed.{keptRows-keptOf}
 use Rattle.store.proofs.Fitting.{Fitting, formed-fitting, supports-are}
 use Rattle.store.proofs.Laws.{Saturated, empty-sound, empty-contents}
 use Rattle.query.specs.Question.{atoms, head}

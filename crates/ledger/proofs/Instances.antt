@@ -12,8 +12,8 @@ use Rattle.rdf.specs.Order.{compareNumbers, compareTriples, equalTriples, choos
 use Rattle.table.specs.Table.{all, flatten, layout, supportLayout}
 use Rattle.rdfs.specs.Closure.{isIn, add, addAll, keep, leaves, pull, afterPull, explore, spread, reach, objects, properties, subjectClasses, objectClasses, conclusions, carried}
 use Rattle.rdfs.specs.Saturation.{raise, raiseAll, saturation}
-use Rattle.store.specs.declared.Answer.the-variants.{Applied, Idle, Refused}
-use Rattle.store.specs.Store.{Tables, tables}
+use Rattle.update.specs.declared.Answer.the-variants.{Applied, Idle, Refused}
+use Rattle.update.specs.Store.{Tables, tables}
 use Rattle.delivery.specs.Message.{short, word, entriesFrom, sectionEnd, sectionStart, fieldEnd, fieldsFrom, fieldsEnd, numberFields, read, isWhole, areSectionsRight, isNumberRight, numberOf}
 use Rattle.deliver.specs.Deliver.{tally, tallied, runEntry, runEntries, runMessage, delivered, conclude}
 use Rattle.ledger.specs.Ledger.{Call, Ledger, ledger, entering, leaving, isMember, isBelow, isFitting, settle, enter, remit, receive, Given, answered, resulted, Run, run, call, calls}

@@ -8,9 +8,9 @@ use lib.ListN.{length, getD, take, drop, set, replicate, length-append, length-d
 use lib.Seq.{take-all, sets, length-sets, sets-eq}
 use Rattle.rdf.specs.Triple.{triple}
 use Rattle.sort.proofs.Tables.{le-or}
-use Rattle.store.specs.declared.Answer.{Answer}
-use Rattle.store.specs.Store.{Tables, tables}
-use Rattle.store.specs.Update.{Outcome, outcome, add, withdraw}
+use Rattle.update.specs.declared.Answer.{Answer}
+use Rattle.update.specs.Store.{Tables, tables}
+use Rattle.update.specs.Update.{Outcome, outcome, add, withdraw}
 use Rattle.deliver.specs.declared.Delivered.{Delivered}
 use Rattle.deliver.specs.Deliver.{deliver}
 use Rattle.ledger.specs.Ledger.{Given, answered, resulted, call, calls}

@@ -4,8 +4,8 @@ use mathlib.Core.Path.{_≡_}
 use mathlib.Core.List.{List, [], _∷_, _++_}
 use lib.ListN.{length, getD, take, drop}
 use Rattle.rdf.specs.Triple.{triple}
-use Rattle.store.specs.Store.{Tables}
-use Rattle.store.specs.Update.{answerNumber}
+use Rattle.update.specs.Store.{Tables}
+use Rattle.update.specs.Update.{answerNumber}
 use Rattle.query.specs.Ask.{askKept, askRewritten}
 use Rattle.ledger.specs.Ledger.{Call, addition, withdrawal, delivery, Given, answered, resulted, call}
 use Rattle.ledger.specs.History.{storeEntries, ledgerRun, laidOut, ledgerReply}

@@ -13,7 +13,7 @@ use Rattle.sort.specs.Rows as sorted-rows
 use Rattle.rdfs.specs.Entailment.{Holds, InGraph}
 use Rattle.rdfs.specs.Saturation.{saturation, keptRows, keptSupports, lookup, carriers}
 use Rattle.output.specs.Output.{Replied, areFitting, give}
-use Rattle.store.specs.Store.{Tables, tables}
+use Rattle.update.specs.Store.{Tables, tables}
 use Rattle.deliver.specs.Deliver.{addition, withdrawal, deliver}
 use Rattle.query.specs.Question.{headCount, atoms, head, isQuestion, isHeadBound}
 use Rattle.query.specs.Answer.{IsAnswer, rewrittenGraph}

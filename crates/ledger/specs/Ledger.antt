@@ -12,8 +12,8 @@ use Rattle.rdf.specs.Refusal.{firstNo, tripleQuestions}
 use Rattle.table.specs.Table.{mostStatements, mostFacts, mostKept}
 use Rattle.rdfs.specs.Closure.{isIn}
 use Rattle.rdfs.specs.Saturation.{saturation, keptRows}
-use Rattle.store.specs.declared.Answer.{Answer}
-use Rattle.store.specs.declared.Answer.the-variants.{Applied, Idle, Refused}
+use Rattle.update.specs.declared.Answer.{Answer}
+use Rattle.update.specs.declared.Answer.the-variants.{Applied, Idle, Refused}
 use Rattle.delivery.specs.Message.{read}
 use Rattle.deliver.specs.declared.Delivered.{Delivered}
 use Rattle.deliver.specs.Deliver.{messageQuestions, conclude}

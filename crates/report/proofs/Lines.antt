@@ -10,8 +10,8 @@ use Rattle.rdf.specs.Triple.{triple}
 use Rattle.table.specs.Table.{count, rowAt}
 use Rattle.table.proofs.Rows.{length-rows}
 use Rattle.rdfs.specs.Saturation.{Kept}
-use Rattle.store.specs.Store.{keptOf}
-use Rattle.store.proofs.Entries.{noEntry, length-entries, getD-entries, keptOf-entries}
+use Rattle.update.specs.Store.{keptOf}
+use Rattle.kept.proofs.Entries.{noEntry, length-entries, getD-entries, keptOf-entries}
 use Rattle.deliver.specs.declared.Delivered.{Delivered}
 use Rattle.report.specs.Text.{labelled, rowsWord, newline, resultLine, rowsLine, rowLine, rowLines, reportText}
 use Rattle.report.specs.Appended.{Appended}

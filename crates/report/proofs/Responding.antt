@@ -8,7 +8,7 @@ use borrow.Author.Tests.{eq-eqb, ne-eqb}
 use Rattle.table.specs.Table.{count}
 use Rattle.table.specs.Laid.{FormedStore}
 use Rattle.table.proofs.Store.{isStore-formed}
-use Rattle.store.specs.Store.{Tables, tables, keptOf}
+use Rattle.update.specs.Store.{Tables, tables, keptOf}
 use Rattle.store.proofs.Laws.{Sound, empty-sound}
 use Rattle.deliver.specs.declared.Delivered.{Delivered}
 use Rattle.deliver.specs.Deliver.{deliver}

@@ -3,7 +3,7 @@ use Prim.Native.Nat.{ℕ, zero, suc}
 use mathlib.Core.List.{List, [], _∷_}
 use Rattle.rdf.specs.declared.Triple.{Triple}
 use Rattle.rdf.specs.Refusal.{firstNo}
-use Rattle.store.specs.Store.{Tables, areFormed}
+use Rattle.update.specs.Store.{Tables, areFormed}
 use Rattle.store.proofs.Laws.{Sound, add-sound, withdraw-sound}
 use Rattle.delivery.specs.Message.{Message, read}
 use Rattle.deliver.specs.Deliver.{Update, Progress, progress, tally, runEntry, runEntries, runMessage, addition, withdrawal, messageQuestions, conclude, deliver}

@@ -11,8 +11,8 @@ use Rattle.rdf.specs.Order.{compareNumbers, compareTriples, equalTriples, choos
 use Rattle.table.specs.Table.{capacity, firstRows, rows, flatten, layout, areZero, all, isTable, isSupportTable, supportLayout, isStore}
 use Rattle.rdfs.specs.Closure.{isIn, add, addAll, keep, leaves, pull, afterPull, explore, spread, reach, objects, properties, subjectClasses, objectClasses, conclusions, carried}
 use Rattle.rdfs.specs.Saturation.{raise, raiseAll, saturation}
-use Rattle.store.specs.Store.{contentsOf, keptOf, put}
-use Rattle.store.specs.Update.{withTriple, isThere, isBelowCapacity, isKeptFitting, decide, add as addition}
+use Rattle.update.specs.Store.{contentsOf, keptOf, put}
+use Rattle.update.specs.Update.{withTriple, isThere, isBelowCapacity, isKeptFitting, decide, add as addition}
 use Rattle.delivery.specs.Message.{short, word, entriesFrom, sectionEnd, sectionStart, fieldEnd, fieldsFrom, fieldsEnd, numberFields, read, isWhole, areSectionsRight, isNumberRight, numberOf}
 use Rattle.deliver.specs.Deliver.{tallied, runEntry, runEntries, runMessage, conclude, deliver}
 use Rattle.report.specs.Text.{digits, decimal, resultLine, rowsLine, rowLine, rowLines, reportText, refusalText, outcomeText, response}

@@ -6,7 +6,7 @@ use lib.ListN.{length, replicate}
 use lib.Dec.{eqb, ltb}
 use Rattle.rdf.specs.declared.Triple.{Triple}
 use Rattle.rdfs.specs.Saturation.{Kept}
-use Rattle.store.specs.Store.{Tables, tables, keptOf}
+use Rattle.update.specs.Store.{Tables, tables, keptOf}
 use Rattle.deliver.specs.declared.Delivered.{Delivered}
 use Rattle.deliver.specs.Deliver.{deliver}
 

@@ -5,7 +5,7 @@ ghost use Prim.Native.Nat.{_+_, _*_, _≤_, _<_};
 ghost use lib.ListN.{length};
 ghost use Rattle.rdf.specs.Triple.{triple};
 ghost use Rattle.table.specs.Table.{count};
-ghost use Rattle.store.specs.Store.{keptOf};
+ghost use Rattle.update.specs.Store.{keptOf};
 ghost use Rattle.report.specs.Text.{decimal, field, labelled, rowLine, rowLines};
 ghost use Rattle.report.specs.Appended.{Appended, Printable, fieldRoom, rowRoom};
 

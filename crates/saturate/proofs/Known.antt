@@ -19,8 +19,8 @@ use Rattle.schema.specs.Compiled.{Compiled, Keyed, objectAt}
 use Rattle.schema.proofs.Tables.{fact-words, rows-ascend, row-subject, row-property, row-object, plain-below}
 use Rattle.schema.proofs.Counted.{marks-even, no-type, class-support, class-support-none, property-support, property-support-none, absent-support}
 use Rattle.schema.proofs.Made.{compiled-made, keyed-made}
-use Rattle.subject.specs.Prepared.{Prepared, Facts}
-use Rattle.subject.specs.Supported.{Supported, Small}
+use Rattle.counts.specs.Prepared.{Prepared, Facts}
+use Rattle.counts.specs.Supported.{Supported, Small}
 use Rattle.saturate.specs.Saturated.{Exists, Domains, Ranges}
 
 -- The facts of a well-formed table.

@@ -26,9 +26,9 @@ use Rattle.merge.proofs.Output.{put-append}
 use Rattle.merge.proofs.Between.{between-none, between-skip}
 use Rattle.merge.proofs.Streams.{lesser-left, lesser-right}
 use Rattle.merge.proofs.Whole.{between-join, between-all}
-use Rattle.subject.specs.Index.{objectOf, Once, Sorted}
-use Rattle.subject.specs.Prepared.{Facts}
-use Rattle.subject.specs.Supported.{Supported, Range}
+use Rattle.index.specs.Index.{objectOf, Once, Sorted}
+use Rattle.counts.specs.Prepared.{Facts}
+use Rattle.counts.specs.Supported.{Supported, Range}
 use Rattle.saturate.specs.Run.{EndOf, subjectFrom, thingFrom, nextSubject}
 
 -- ---- the search for an end

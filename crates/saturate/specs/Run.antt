@@ -6,7 +6,7 @@ use Prim.Native.Nat.{ℕ, _^_, _≤_, _<_}
 use lib.Dec.{ltb}
 use Rattle.merge.specs.Streams.{lesserOf}
 use Rattle.schema.specs.Compiled.{subjectAt}
-use Rattle.subject.specs.Index.{objectOf}
+use Rattle.index.specs.Index.{objectOf}
 
 -- The places i .. e are those from i on, below n, where key is x, up to the first where it is not.
 pub record EndOf (key : ℕ → ℕ) (n x i e : ℕ) : Type 0 where

@@ -10,7 +10,7 @@ use Rattle.rdfs.specs.Saturation.{Kept, saturation, keptRows, keptSupports}
 use Rattle.rdfs.specs.Counts.{Counts}
 use Rattle.schema.specs.Nodes.{edges}
 use Rattle.schema.specs.Squares.{Bits, Closed, Cleared}
-use Rattle.subject.specs.Supported.{Supported}
+use Rattle.counts.specs.Supported.{Supported}
 
 -- Whether the rows fit, and the words of the kept table and the supports.
 pub record Result : Type 0 where

@@ -11,9 +11,9 @@ ghost use Rattle.rdfs.specs.Counts.{Counts};
 ghost use Rattle.schema.specs.Nodes.{Columns};
 ghost use Rattle.schema.specs.Squares.{at};
 ghost use Rattle.schema.specs.Ascent.{termOf};
-ghost use Rattle.subject.specs.Index.{Index, Once, Sorted};
-ghost use Rattle.subject.specs.Prepared.{Prepared, Facts};
-ghost use Rattle.subject.specs.Supported.{Supported, Small};
+ghost use Rattle.index.specs.Index.{Index, Once, Sorted};
+ghost use Rattle.counts.specs.Prepared.{Prepared, Facts};
+ghost use Rattle.counts.specs.Supported.{Supported, Small};
 ghost use Rattle.saturate.specs.Saturated.{result, written, saturated, Exists, zeroFrom, Domains, Ranges};
 
 mod run; // run.rt: the run over the subjects
@@ -103,7 +103,7 @@ fn index_of(facts: &[u32]) -> [u32; 65536]
 {
     let n = facts[0] as usize;
     let mut ix = no_places();
-    subject::index::by_object(facts, &mut ix, n);
+    index::by_object(facts, &mut ix, n);
     ix
 }
 

@@ -1,9 +1,9 @@
 // The run over the subjects, ascending: the subjects of facts, and the objects that are no literals.
+use counts::words::subject_at;
 use merge::lesser;
 use merge::object_at;
 use merge::wide;
 use subject::rows::subject_rows;
-use subject::words::subject_at;
 ghost use mathlib.Core.Path.{_≡_};
 ghost use Prim.Native.Nat.{_+_, _*_, _^_, _≤_, _<_};
 ghost use lib.ListN.{length, getD};
@@ -12,9 +12,9 @@ ghost use Rattle.rdfs.specs.Saturation.{Kept};
 ghost use Rattle.rdfs.specs.Counts.{Counts};
 ghost use Rattle.merge.specs.Output.{output, putAll};
 ghost use Rattle.schema.specs.Compiled.{subjectAt};
-ghost use Rattle.subject.specs.Index.{objectOf, Index, Once, Sorted};
-ghost use Rattle.subject.specs.Prepared.{Prepared, Facts};
-ghost use Rattle.subject.specs.Supported.{Supported, Small};
+ghost use Rattle.index.specs.Index.{objectOf, Index, Once, Sorted};
+ghost use Rattle.counts.specs.Prepared.{Prepared, Facts};
+ghost use Rattle.counts.specs.Supported.{Supported, Small};
 ghost use Rattle.saturate.specs.Run.{EndOf, subjectFrom, thingFrom, nextSubject};
 
 // The end of the facts from i on, below n, whose subject is x.

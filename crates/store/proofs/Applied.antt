@@ -2,7 +2,7 @@
 use Prim.Native.Nat.{ℕ, suc, _≤_, _<_}
 use mathlib.Core.Path.{_≡_, refl}
 use mathlib.Core.Bool.{Bool, true, false}
-use mathlib.Core.Logic.{_⊎_, ⊎-elim}
+use mathlib.Core.Logic.{⊎-elim}
 use mathlib.Core.List.{List, [], _∷_, List·Memᴰ, List·Memᴰ·head, List·Memᴰ·tail, List·Memᴰ·eq-of-singleton}
 use native.Mathlib.Omega.{arith}
 use lib.ListN.{length}
@@ -18,9 +18,9 @@ use Rattle.rdfs.proofs.Entailment.{allowed-no-vocabulary, holds-allowed}
 use Rattle.rdfs.proofs.Carried.{carried-ascends, carried-iff}
 use Rattle.rdfs.proofs.Kept.{counts-of, support-of, kept-positive, kept-ascends, lookup-kept}
 use Rattle.rdfs.proofs.Saturation.{among, raiseAll-counts, lookup-raiseAll, lookup-lowerAll, lowerAll-counts, lowerAll-length, saturation-ascends, saturation-allowed, saturation-supports, lower-saturation}
-use Rattle.store.specs.Store.{Tables, Contents, contents, statementCapacity, factCapacity, keptCapacity}
-use Rattle.store.specs.Update.{withTriple, withoutTriple}
-use Rattle.store.proofs.Missing.{raiseAll-asc, raiseAll-cases, insert-new-length}
+use Rattle.update.specs.Store.{Tables, Contents, contents, statementCapacity, factCapacity, keptCapacity}
+use Rattle.update.specs.Update.{withTriple, withoutTriple}
+use Rattle.raise.proofs.Missing.{raiseAll-asc, raiseAll-cases, insert-new-length}
 use Rattle.store.proofs.Fitting.{Fitting}
 
 -- ---- supports

@@ -1,5 +1,5 @@
 -- Contents that tables can hold: what they are, put into the tables and read again. Assumes nothing.
-use Prim.Native.Nat.{ℕ, _+_, _-_, _*_, _≤_, _<_}
+use Prim.Native.Nat.{ℕ, _-_, _*_, _≤_, _<_}
 use mathlib.Core.Path.{_≡_, refl, ap, subst}
 use mathlib.Core.Bool.{true}
 use mathlib.Core.List.{List, [], _∷_, _++_, zip, zipWith, List·Memᴰ}
@@ -16,9 +16,9 @@ use Rattle.table.proofs.Supports.{length-supportLayout, supportLayout-is, isSup
 use Rattle.table.proofs.All.{all-member, member-all}
 use Rattle.table.proofs.Store.{isStore-formed}
 use Rattle.rdfs.specs.Saturation.{Kept, keptRows, keptSupports}
-use Rattle.store.specs.Store.{Tables, tables, areFormed, Contents, contents, keptOf, contentsOf, put, statementCapacity, factCapacity, keptCapacity}
-use Rattle.store.proofs.Entries.{keptSupports-entries, keptOf-entries}
-use Rattle.store.proofs.Facts.{kept-tables, keptRows-keptOf, length-keptOf}
+use Rattle.update.specs.Store.{Tables, tables, areFormed, Contents, contents, keptOf, contentsOf, put, statementCapacity, factCapacity, keptCapacity}
+use Rattle.kept.proofs.Entries.{keptSupports-entries, keptOf-entries}
+use Rattle.kept.proofs.Formed.{kept-tables, keptRows-keptOf, length-keptOf}
 
 -- ---- contents read again
 

@@ -1,5 +1,5 @@
 -- Laws of updates: what each answer says, and what an update keeps true of a store. Assumes nothing.
-use Prim.Native.Nat.{ℕ, zero, suc, _+_, _≤_, _<_}
+use Prim.Native.Nat.{ℕ, zero, suc, _≤_, _<_}
 use mathlib.Core.Path.{_≡_, refl, sym, ap, _∙_}
 use mathlib.Core.Bool.{Bool, true, false, _||_, not, cond}
 use mathlib.Core.Logic.{⊎-elim}
@@ -19,10 +19,10 @@ use Rattle.table.proofs.Store.{layout-empty, empty-isStore}
 use Rattle.rdfs.specs.Closure.{isIn}
 use Rattle.rdfs.specs.Saturation.{saturation}
 use Rattle.rdfs.proofs.Saturation.{raise-saturation, lower-saturation}
-use Rattle.store.specs.declared.Answer.the-variants.{Applied, Idle, Refused}
-use Rattle.store.specs.Store.{Tables, tables, areFormed, Contents, contents, contentsOf, keptOf, put, statementCapacity, factCapacity, keptCapacity}
-use Rattle.store.specs.Update.{withTriple, withoutTriple, isThere, isBelowCapacity, isKeptFitting, additionQuestions, withdrawalQuestions, Outcome, outcome, decide, add, withdraw}
-use Rattle.store.proofs.Outcomes.{there-yes}
+use Rattle.update.specs.declared.Answer.the-variants.{Applied, Idle, Refused}
+use Rattle.update.specs.Store.{Tables, tables, areFormed, Contents, contents, contentsOf, keptOf, put, statementCapacity, factCapacity, keptCapacity}
+use Rattle.update.specs.Update.{withTriple, withoutTriple, isThere, isBelowCapacity, isKeptFitting, additionQuestions, withdrawalQuestions, Outcome, outcome, decide, add, withdraw}
+use Rattle.update.proofs.Outcomes.{there-yes}
 use Rattle.store.proofs.Fitting.{contentsOf-put, Fitting, SameLengths, put-formed, put-lengths, formed-fitting, formed-worded}
 use Rattle.store.proofs.Applied.{fact-enters, statement-enters, statement-goes, fact-goes}
 

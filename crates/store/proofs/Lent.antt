@@ -13,9 +13,9 @@ use Rattle.rdf.specs.Order.{compareNumbers, compareTriples, equalTriples, choos
 use Rattle.table.specs.Table.{capacity, firstRows, rows, flatten, layout, areZero, all, isTable, isSupportTable, supportLayout, isStore}
 use Rattle.rdfs.specs.Closure.{isIn, add, addAll, keep, leaves, pull, afterPull, explore, spread, reach, objects, properties, subjectClasses, objectClasses, conclusions, carried}
 use Rattle.rdfs.specs.Saturation.{oneLess, lower, lowerAll}
-use Rattle.store.specs.declared.Answer.the-variants.{Applied}
-use Rattle.store.specs.Store.{Tables, tables, areFormed, contentsOf, keptOf, put}
-use Rattle.store.specs.Update.{withoutTriple, isThere, isKeptFitting, decide, withdraw}
+use Rattle.update.specs.declared.Answer.the-variants.{Applied}
+use Rattle.update.specs.Store.{Tables, tables, areFormed, contentsOf, keptOf, put}
+use Rattle.update.specs.Update.{withoutTriple, isThere, isKeptFitting, decide, withdraw}
 
 -- The fact that is withdrawn.
 abbrev pub second : Triple

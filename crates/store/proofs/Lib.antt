@@ -1,11 +1,3 @@
-pub mod Entries
-pub mod Raise
-pub mod RaisePass
-pub mod Lower
-pub mod LowerPass
-pub mod Missing
-pub mod Outcomes
-pub mod Facts
 pub mod Statements
 pub mod Passing
 pub mod Fitting

@@ -20,8 +20,8 @@ use Rattle.rdfs.specs.Closure.{carried}
 use Rattle.rdfs.specs.Saturation.{keptSupports}
 use Rattle.rdfs.proofs.Carried.{carried-ascends}
 use Rattle.rdfs.proofs.Saturation.{lowerAll-length}
-use Rattle.store.specs.Store.{Tables, areFormed, Contents, contentsOf, put}
-use Rattle.store.specs.Update.{withoutTriple, isThere, withdrawalQuestions, Outcome, withdraw}
+use Rattle.update.specs.Store.{Tables, areFormed, Contents, contentsOf, put}
+use Rattle.update.specs.Update.{withoutTriple, isThere, withdrawalQuestions, Outcome, withdraw}
 use Rattle.store.proofs.Fitting.{Fitting, put-formed, supports-are, length-rows-of, length-supports-of, formed-fitting, formed-worded}
 use Rattle.store.proofs.Applied.{lowered-supports, fitting-counts, fact-leaves}
 use Rattle.store.proofs.Laws.{decide-elim}

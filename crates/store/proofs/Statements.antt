@@ -1,7 +1,7 @@
 -- Updates of a statement, by the answers to questions 4 and 5 as the code finds them. Assumes nothing.
 use Prim.Native.Nat.{ℕ, _+_, _*_, _≤_, _<_, min}
 use mathlib.Core.Path.{_≡_, refl, sym, ap, _∙_}
-use mathlib.Core.Bool.{Bool, true, false, cond}
+use mathlib.Core.Bool.{Bool, true, false}
 use mathlib.Core.List.{List, _∷_, _++_}
 use native.Mathlib.Omega.{arith}
 use lib.ListN.{length, take, drop, take-append-drop}
@@ -10,24 +10,24 @@ use native.Mathlib.Numerals.{add-one}
 use lib.Dec.{leb}
 use borrow.Author.Tests.{lt-ltb, le-ltb}
 use Rattle.rdf.specs.declared.Triple.{Triple}
-use Rattle.rdf.specs.Triple.{isTriple, isStatement, areSidesAllowed, isAllowedStatement, isAllowedFact}
+use Rattle.rdf.specs.Triple.{isTriple, isStatement, areSidesAllowed, isAllowedStatement}
 use Rattle.rdf.specs.Order.{isAscending, insert, remove}
 use Rattle.rdf.proofs.Ascending.{and-left, and-right}
 use Rattle.rdfs.specs.Saturation.{keptRows, keptSupports, saturation}
 use Rattle.table.specs.declared.Found.the-variants.{At, Gap}
-use Rattle.table.specs.Table.{capacity, mostStatements, mostKept, count, rows, firstRows, layout, supportLayout, isStatementTable, isFactTable}
+use Rattle.table.specs.Table.{capacity, mostStatements, mostKept, count, rows, firstRows, layout, supportLayout, isStatementTable}
 use Rattle.table.specs.Search.{place, insertAt, removeAt}
 use Rattle.table.specs.Laid.{Laid, Spare, WellFormed, FormedStore}
-use Rattle.table.proofs.Rows.{length-rows, rows-of, length-layout, laid-of}
+use Rattle.table.proofs.Rows.{length-rows, rows-of, length-layout}
 use Rattle.table.proofs.Place.{at-member, gap-absent, missing-at, stands-at}
 use Rattle.table.proofs.Formed.{capacity-fits, capacity-most, ready, spare, wellFormed-isTable}
 use Rattle.table.proofs.Change.{insertAt-gap, removeAt-at, length-insertAt, length-removeAt, wellFormed-insert, wellFormed-remove}
 use Rattle.table.proofs.Store.{formed-isStore}
-use Rattle.store.specs.declared.Answer.the-variants.{Applied, Idle, Refused}
-use Rattle.store.specs.Store.{Tables, tables, contentsOf, put}
-use Rattle.store.specs.Update.{withTriple, withoutTriple, isThere, isBelowCapacity, isKeptFitting, outcome, add, withdraw}
+use Rattle.update.specs.declared.Answer.the-variants.{Applied, Idle, Refused}
+use Rattle.update.specs.Store.{tables, contentsOf, put}
+use Rattle.update.specs.Update.{withTriple, withoutTriple, isThere, isBelowCapacity, isKeptFitting, outcome, add, withdraw}
 use Rattle.saturate.specs.Saturated.{Result, result, written, saturated}
-use Rattle.store.proofs.Outcomes.{Passes, add-idle, add-full, add-unfit, add-applied, withdraw-idle, withdraw-unfit, withdraw-applied, there-yes, there-no}
+use Rattle.update.proofs.Outcomes.{Passes, add-idle, add-full, add-unfit, add-applied, withdraw-idle, withdraw-unfit, withdraw-applied, there-yes, there-no}
 
 -- What `saturate` asks of the room, and the capacity of the kept facts gives.
 pub kept-room : {S F K U : List ℕ} → FormedStore S F K U → (room : ℕ) → room ≡ min (capacity mostKept K) (length U) → (room * 3 < length K) × (room ≤ length U) × (room ≤ 262143)

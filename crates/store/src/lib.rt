@@ -1,6 +1,4 @@
 // Lone updates of a store in lent tables (document 01, "Tables").
-pub mod fact_updates; // fact_updates.rt: additions and withdrawals of facts
-pub mod kept; // kept.rt: kept facts and their supports, raised and lowered
 pub mod statement_updates; // statement_updates.rt: additions and withdrawals of statements
 
 use fact_updates::add_fact;
@@ -8,17 +6,11 @@ use fact_updates::withdraw_fact;
 use rdf::Triple;
 use statement_updates::add_statement;
 use statement_updates::withdraw_statement;
+use update::Answer;
 ghost use mathlib.Core.Path.{_≡_};
 ghost use Rattle.table.specs.Laid.{FormedStore};
-ghost use Rattle.store.specs.Store.{tables};
-ghost use Rattle.store.specs.Update.{outcome, add, withdraw};
-
-// The answer of an update.
-pub enum Answer {
-    Applied,
-    Idle,
-    Refused(u32),
-}
+ghost use Rattle.update.specs.Store.{tables};
+ghost use Rattle.update.specs.Update.{outcome, add, withdraw};
 
 // Adds a triple to a store that is well formed, so that question 1 is passed: a statement or a fact.
 pub fn add_to_formed(

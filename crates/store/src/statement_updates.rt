@@ -1,8 +1,8 @@
 // Additions and withdrawals of statements, once questions 1 to 3 are passed (document 01, "Tables").
-use crate::Answer;
-use crate::fact_updates::kept_capacity;
+use kept::kept_capacity;
 use rdf::Triple;
 use table::Found;
+use update::Answer;
 ghost use mathlib.Core.Path.{_≡_};
 ghost use mathlib.Core.Bool.{true};
 ghost use Rattle.rdf.specs.Triple.{isAllowedStatement};
@@ -10,8 +10,8 @@ ghost use Rattle.table.specs.declared.Found.the-variants.{At, Gap};
 ghost use Rattle.table.specs.Table.{rows};
 ghost use Rattle.table.specs.Search.{place};
 ghost use Rattle.table.specs.Laid.{FormedStore};
-ghost use Rattle.store.specs.Store.{tables};
-ghost use Rattle.store.specs.Update.{outcome, add, withdraw};
+ghost use Rattle.update.specs.Store.{tables};
+ghost use Rattle.update.specs.Update.{outcome, add, withdraw};
 
 // Adds a statement that is not there, at the gap where it would stand. Where the kept facts worked out afresh do not fit, it is
 // taken out again.

@@ -21,7 +21,7 @@ use Rattle.subject.specs.Sums.{sumFrom}
 use Rattle.subject.specs.Blocks.{ledAt, OneSubject, Block, startsBelow, Gathered}
 use Rattle.subject.specs.Rows.{ColumnRows}
 use Rattle.subject.proofs.Ranges.{from-join, from-zero}
-use Rattle.subject.proofs.NodeBits.{node-starts}
+use Rattle.counts.proofs.NodeBits.{node-starts}
 
 -- ---- statements that start below a node
 

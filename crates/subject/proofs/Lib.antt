@@ -1,9 +1,5 @@
-pub mod Sorting
 pub mod Ranges
-pub mod NodeBits
-pub mod Adding
 pub mod Gathering
 pub mod Plain
 pub mod Properties
 pub mod Subjects
-pub mod Zeros

@@ -21,7 +21,7 @@ use Rattle.merge.specs.Between.{Within, within, between}
 use Rattle.merge.proofs.Between.{between-counts, inside, outside}
 use Rattle.subject.specs.Sums.{sumFrom}
 use Rattle.subject.specs.Blocks.{sameAt, OneSubject}
-use Rattle.subject.specs.Prepared.{Facts}
+use Rattle.counts.specs.Prepared.{Facts}
 use Rattle.subject.specs.Rows.{ones, Split, Of}
 use Rattle.subject.proofs.Ranges.{from-zero}
 

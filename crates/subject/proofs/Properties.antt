@@ -21,7 +21,7 @@ use Rattle.merge.proofs.Between.{between-none, between-skip}
 use Rattle.merge.proofs.Whole.{between-join}
 use Rattle.subject.specs.Sums.{sumFrom}
 use Rattle.subject.specs.Blocks.{sameAt, ledAt}
-use Rattle.subject.specs.Prepared.{Keys, Facts}
+use Rattle.counts.specs.Prepared.{Keys, Facts}
 use Rattle.subject.specs.Rows.{ones, Split, Of, ColumnRows, PropertyRows, Uncounted}
 use Rattle.subject.proofs.Ranges.{from-zero, from-part}
 use Rattle.subject.proofs.Gathering.{led-zero}

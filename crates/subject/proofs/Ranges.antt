@@ -1,22 +1,10 @@
 -- Laws of sums over ranges of places. Assumes nothing.
 use mathlib.Core.Path.{_≡_, refl, _∙_}
-use mathlib.Core.Logic.{by-cases}
 use Prim.Native.Nat.{ℕ, zero, suc, _+_, _-_, _≤_, _<_}
 use native.Mathlib.Omega.{arith}
-use native.Mathlib.Decide.{decLt}
 use Rattle.schema.specs.Sums.{sumTo}
 use Rattle.schema.proofs.Sums.{sum-more}
 use Rattle.subject.specs.Sums.{sumFrom}
-
--- Terms of at most 1 sum to at most their number.
-pub sum-few : (h : ℕ → ℕ) (a b : ℕ) → a ≤ b → ((y : ℕ) → a ≤ y → y < b → h y ≤ 1) → sumTo h b ≤ sumTo h a + (b - a)
-unfolding sumTo
-sum-few h zero zero le g = omega arith
-sum-few h (suc a) zero le g = absurd (omega arith)
-sum-few h a (suc b) le g =
-    by-cases (decLt a (suc b))
-    (λ l. omega (arith, sum-few h a b (omega arith) (λ y k u. g y k (omega arith)), g b (omega arith) (omega arith)))
-    (λ n. let e : a ≡ suc b = omega arith in rw e (omega arith))
 
 -- A range is the difference of two sums.
 pub from-to : (h : ℕ → ℕ) (a n : ℕ) → sumTo h (a + n) ≡ sumTo h a + sumFrom h a n

@@ -2,7 +2,7 @@
 use mathlib.Core.Path.{_≡_, refl, sym, ap, _∙_}
 use mathlib.Core.Bool.{Bool, true, false, cond}
 use mathlib.Core.List.{List, [], _++_}
-use mathlib.Core.Logic.{_⊎_, ⊎-elim, by-cases}
+use mathlib.Core.Logic.{⊎-elim, by-cases}
 use Prim.Native.Nat.{ℕ, zero, suc, _+_, _-_, _^_, _≤_, _<_}
 use native.Mathlib.Omega.{arith}
 use native.Mathlib.Decide.{ℕ-discrete}
@@ -15,11 +15,6 @@ use Rattle.rdf.specs.Triple.{triple}
 use Rattle.rdf.specs.Order.{Less, by-subject, by-property, by-object, triple-eq}
 use Rattle.rdfs.specs.Saturation.{Kept, lookup}
 use Rattle.rdfs.specs.Counts.{Counts}
-use Rattle.schema.specs.Nodes.{propertyNode}
-use Rattle.schema.specs.Sums.{sumTo}
-use Rattle.schema.specs.Compiled.{subjectAt, propertyAt, objectAt, nodeBit, ownBit, explicitAt, subjectAdds, objectAdds, propertyAdds}
-use Rattle.schema.proofs.Sums.{sum-range, sumAt-is, sum-term, sum-bound}
-use Rattle.schema.proofs.Counted.{explicit-other, explicit-own, subject-adds, subject-adds-not, object-adds-not, object-adds-here, property-adds-subject, property-adds-own}
 use Rattle.merge.specs.Output.{Output, putAll}
 use Rattle.merge.specs.Between.{between}
 use Rattle.merge.specs.Streams.{objects, often, Rising}
@@ -27,49 +22,22 @@ use Rattle.merge.specs.Counted.{keysWithCounts, counted, countOf, KeysOver, Key
 use Rattle.merge.proofs.Output.{put-append}
 use Rattle.merge.proofs.Between.{between-none, between-skip}
 use Rattle.merge.proofs.Whole.{between-join}
+use Rattle.schema.specs.Nodes.{propertyNode}
+use Rattle.schema.specs.Sums.{sumTo}
+use Rattle.schema.specs.Compiled.{subjectAt, propertyAt, objectAt, nodeBit, ownBit, explicitAt, subjectAdds, propertyAdds}
+use Rattle.schema.proofs.Sums.{sum-term, sum-bound}
+use Rattle.schema.proofs.Counted.{explicit-other, explicit-own, subject-adds, property-adds-subject, property-adds-own}
+use Rattle.counts.specs.Prepared.{Keys, Prepared, Facts}
+use Rattle.counts.specs.Supported.{classSum, Supported, Small, Range, CountsOf}
+use Rattle.counts.proofs.NodeBits.{node-absent}
+use Rattle.counts.proofs.Adding.{own-property}
 use Rattle.subject.specs.Sums.{sumFrom}
-use Rattle.subject.specs.Index.{objectOf, Once}
-use Rattle.subject.specs.Counting.{Summed, otherBit}
 use Rattle.subject.specs.Blocks.{sameAt, ledAt}
-use Rattle.subject.specs.Prepared.{Keys, Prepared, Facts}
 use Rattle.subject.specs.Rows.{Split, PropertyRows, Uncounted}
-use Rattle.subject.specs.Supported.{classSum, Supported, Small, Range, CountsOf}
 use Rattle.subject.proofs.Ranges.{from-ext, from-zero, from-part, to-part}
-use Rattle.subject.proofs.NodeBits.{node-absent}
-use Rattle.subject.proofs.Adding.{own-property}
 use Rattle.subject.proofs.Gathering.{rows-rising, led-zero}
 use Rattle.subject.proofs.Plain.{same-property, one-subject, not-before}
 use Rattle.subject.proofs.Properties.{column-of, block-often}
-
--- ---- the counts
-
-module _ (st : List ℕ) (m nc ns : ℕ) (d r f ix : List ℕ) (n x i e j h : ℕ) (sr : Range (subjectAt f) n x i e) (or : Range (objectOf f ix) n x j h) (once : Once n ix) where
-  -- Over all facts as over those of the subject.
-  own-sum : (c : ℕ) → sumTo (subjectAdds st m nc d r f x c) n + sumTo (ownBit st m nc d r f x c) i ≡ sumTo (ownBit st m nc d r f x c) e
-  own-sum c =
-      sum-range (subjectAdds st m nc d r f x c) (ownBit st m nc d r f x c) i e n (sr .low) (sr .high)
-      (λ y l. subject-adds-not st m nc d r f x c y (sr .before y l)) (λ y l u. subject-adds st m nc d r f x c y (sr .all y l u)) (λ y l u. subject-adds-not st m nc d r f x c y (sr .after y l u))
-
-  object-is : (c y : ℕ) → objectAt f y ≡ x → objectAdds st m r f x c y ≡ otherBit st m r f x c y
-  unfolding otherBit
-  object-is c y e = object-adds-here st m nc d r f x c y e
-
-  -- Over all facts as over the places of the index.
-  other-sum : (c : ℕ) → sumTo (objectAdds st m r f x c) n + sumTo (λ a. otherBit st m r f x c (getD ix a 0)) j ≡ sumTo (λ a. otherBit st m r f x c (getD ix a 0)) h
-  other-sum c =
-      let H : ℕ → ℕ = λ a. objectAdds st m r f x c (getD ix a 0) in
-      let b : sumTo H n + sumTo (λ a. otherBit st m r f x c (getD ix a 0)) j ≡ sumTo (λ a. otherBit st m r f x c (getD ix a 0)) h =
-      sum-range H (λ a. otherBit st m r f x c (getD ix a 0)) j h n (or .low) (or .high)
-      (λ y l. object-adds-not st m nc d r f x c (getD ix y 0) (or .before y l)) (λ y l u. object-is c (getD ix y 0) (or .all y l u)) (λ y l u. object-adds-not st m nc d r f x c (getD ix y 0) (or .after y l u)) in
-      omega (arith, once (objectAdds st m r f x c), sumAt-is (objectAdds st m r f x c) ix n)
-
-  -- What was counted is what the facts add.
-  pub counts-of : (counts₀ counts₁ counts : List ℕ) → nc ≤ ns → ((c : ℕ) → getD counts₀ c 0 ≡ 0) → Summed counts₀ counts₁ (λ c y. ownBit st m nc d r f x c y) ns i e → Summed counts₁ counts (λ c a. otherBit st m r f x c (getD ix a 0)) nc j h → CountsOf st m d r nc ns f n x counts
-  counts-of counts₀ counts₁ counts le z a b =
-      record {
-        class = λ c l. omega (arith, z c, a .below c (omega arith), b .below c l, own-sum c, other-sum c);
-        property = λ c l u. omega (arith, z c, a .below c u, b .above c l, own-sum c);
-      }
 
 -- ---- sums over the facts of the subject
 

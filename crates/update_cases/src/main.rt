@@ -1,6 +1,6 @@
 // Runs document 01's cases about updates: prints each answer, and the kept rows with their supports after each case.
 use rdf::Triple;
-use store::Answer;
+use update::Answer;
 ghost use mathlib.Core.Path.{_≡_};
 ghost use Prim.Native.Nat.{_*_, _≤_};
 ghost use lib.ListN.{length, replicate};

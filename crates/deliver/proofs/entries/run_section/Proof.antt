@@ -2,7 +2,7 @@
 use mathlib.Core.Path.{refl, _∙_}
 use native.Mathlib.Omega.{arith}
 use Rattle.table.specs.Laid.{FormedStore}
-use Rattle.store.specs.Store.{tables}
+use Rattle.update.specs.Store.{tables}
 use Rattle.store.proofs.Fitting.{SameLengths}
 use Rattle.delivery.proofs.Whole.{whole-length}
 use Rattle.deliver.specs.Deliver.{progress, runEntries}

@@ -2,7 +2,7 @@
 use mathlib.Core.Path.{ap}
 use native.Mathlib.Omega.{arith}
 use borrow.Author.Needs.{needs}
-use Rattle.store.specs.Update.{Outcome}
+use Rattle.update.specs.Update.{Outcome}
 use Rattle.deliver.specs.Deliver.{asPair}
 use Rattle.deliver.proofs.Formed.{lowered-places, lowered-within, lowered-formed}
 use Rattle.deliver.proofs.entries.withdraw_fact.Statement.{statement}

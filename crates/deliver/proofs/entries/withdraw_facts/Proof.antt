@@ -7,7 +7,7 @@ use borrow.Author.Tests.{not-true, not-false}
 use Rattle.table.specs.Table.{count}
 use Rattle.table.specs.Laid.{FormedStore}
 use Rattle.table.proofs.Store.{isStore-formed, formed-isStore}
-use Rattle.store.specs.Store.{tables}
+use Rattle.update.specs.Store.{tables}
 use Rattle.store.proofs.Fitting.{SameLengths}
 use Rattle.delivery.specs.Message.{isFact}
 use Rattle.delivery.proofs.Whole.{whole-length}

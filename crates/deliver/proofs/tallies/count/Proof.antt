@@ -37,9 +37,9 @@ use denote.Triple.Spec.{Meets, tripleOf}
 use denote.Triple.Table.{entered, cited}
 use denote.Triple.Walked.{says, needs, Stays, stay-ref, stay-none, walkOf, goes-ref, goes-none, Walks, ends-at, walked, walk-meets}
 use denote.Exit.{yes}
-use Rattle.store.specs.declared.Answer.{Answer}
-use Rattle.store.proofs.Answer as E
-use Rattle.store.proofs.Answer.Laws as E′
+use Rattle.update.specs.declared.Answer.{Answer}
+use Rattle.update.proofs.Answer as E
+use Rattle.update.proofs.Answer.Laws as E′
 use Rattle.deliver.specs.Deliver.{tallied}
 use Rattle.deliver.specs.Running.{total}
 use Rattle.deliver.specs.declared.Tally.{Tally}

@@ -4,7 +4,7 @@ use Prim.Native.Nat.{_+_, _≤_, _-_, _*_, zero-le}
 use mathlib.Core.Path.{_≡_, refl, _∙_}
 use lib.ListN.{length, take}
 use native.Mathlib.Omega.{arith}
-use Rattle.store.specs.Store.{keptOf}
+use Rattle.update.specs.Store.{keptOf}
 use Rattle.report.specs.Text.{rowLines}
 use Rattle.report.specs.Appended.{Appended, rowRoom}
 use Rattle.report.proofs.Appending.{none-appended, text-appended}

@@ -10,7 +10,7 @@ use Rattle.store.proofs.statement_updates.add_new_statement.Statement.{
 use Rattle.store.proofs.statement_updates.add_new_statement.Tie as tie
 use Rattle.store.proofs.statement_updates.add_new_statement.Reads as reads
 use Rattle.store.proofs.statement_updates.add_new_statement.Lts as lts
-use Rattle.store.proofs.fact_updates.kept_capacity.Reads as kept-capacity-reads
+use Rattle.kept.proofs.kept_capacity.Reads as kept-capacity-reads
 use Rattle.saturate.proofs.saturate.Reads as saturate-reads
 use Rattle.table.proofs.capacity.Reads as capacity-reads
 use Rattle.table.proofs.insert_at.Reads as insert-at-reads

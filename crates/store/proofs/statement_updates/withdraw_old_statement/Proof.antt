@@ -6,7 +6,7 @@ use Rattle.store.proofs.statement_updates.withdraw_old_statement.Statem
 use Rattle.store.proofs.statement_updates.withdraw_old_statement.Tie as tie
 use Rattle.store.proofs.statement_updates.withdraw_old_statement.Reads as reads
 use Rattle.store.proofs.statement_updates.withdraw_old_statement.Lts as lts
-use Rattle.store.proofs.fact_updates.kept_capacity.Reads as kept-capacity-reads
+use Rattle.kept.proofs.kept_capacity.Reads as kept-capacity-reads
 use Rattle.saturate.proofs.saturate.Reads as saturate-reads
 use Rattle.table.proofs.insert_at.Reads as insert-at-reads
 use Rattle.table.proofs.remove_at.Reads as remove-at-reads

@@ -8,7 +8,7 @@ use Rattle.schema.specs.Squares.{at}
 use Rattle.schema.specs.Nodes.{propertyNode}
 use Rattle.schema.specs.Compiled.{propertyAt, nodeBit}
 use Rattle.subject.specs.Blocks.{Gathered}
-use Rattle.subject.proofs.NodeBits.{node-bit}
+use Rattle.counts.proofs.NodeBits.{node-bit}
 use Rattle.subject.proofs.Gathering.{gather-start, gather-room, gather-yes, gather-no, facts-from, rows-rising, leads-yes, leads-no}
 use Rattle.subject.proofs.gather.gather.Statement.{statement}
 use Rattle.subject.proofs.gather.gather.Tie as tie

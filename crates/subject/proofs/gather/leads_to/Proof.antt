@@ -4,7 +4,7 @@ use Prim.Native.Nat.{ℕ, _-_}
 use native.Mathlib.Omega.{arith}
 use lib.Dec.{eqb}
 use Rattle.schema.specs.Nodes.{propertyNode}
-use Rattle.subject.proofs.NodeBits.{node-found, node-none}
+use Rattle.counts.proofs.NodeBits.{node-found, node-none}
 use borrow.Author.Needs.{needs}
 use Rattle.subject.proofs.gather.leads_to.Statement.{statement}
 use Rattle.subject.proofs.gather.leads_to.Tie as tie

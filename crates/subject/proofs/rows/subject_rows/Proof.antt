@@ -2,7 +2,8 @@
 use Prim.Native.Nat.{_-_}
 use native.Mathlib.Omega.{arith}
 use Rattle.table.specs.Table.{count}
-use Rattle.subject.proofs.Subjects.{counts-of, types-rising, keys-rising, types-small, uncounted, subject-rows-of}
+use Rattle.counts.proofs.Adding.{counts-of}
+use Rattle.subject.proofs.Subjects.{types-rising, keys-rising, types-small, uncounted, subject-rows-of}
 use Rattle.subject.proofs.Plain.{one-subject}
 use borrow.Author.Needs.{needs}
 use Rattle.subject.proofs.rows.subject_rows.Statement.{statement}

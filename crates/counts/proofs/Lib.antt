@@ -1,0 +1,3 @@
+pub mod NodeBits
+pub mod Adding
+pub mod Zeros

@@ -1,0 +1,3 @@
+pub mod Raise
+pub mod RaisePass
+pub mod Missing
