@@ -15,10 +15,10 @@ use Rattle.rdf.proofs.Order.{choose-yes, choose-no}
 use Rattle.table.specs.Table.{firstRows}
 use Rattle.rdfs.specs.Entailment.{Reach, ReachFrom}
 use Rattle.rdfs.specs.Closure.{objects, properties, subjectClasses, objectClasses}
-use Rattle.carry.specs.Marks.{Within, ObjectOf, ReachedFrom, Grown}
+use Rattle.reach.specs.Marks.{Within, ObjectOf, ReachedFrom, Grown}
 use Rattle.carry.specs.Conclusions.{Listed}
 use Rattle.rdfs.proofs.Carried.{objects-iff, properties-iff, subjectStarts, subject-iff, object-iff}
-use Rattle.carry.proofs.WorkLaws.{within-kept, within-wider}
+use Rattle.reach.proofs.WorkLaws.{within-kept, within-wider}
 
 -- One equivalence after the other.
 pub both : {A B C : Type 0} → A ↔ B → B ↔ C → A ↔ C

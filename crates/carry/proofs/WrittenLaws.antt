@@ -21,35 +21,11 @@ use Rattle.table.proofs.Formed.{isTable-wellFormed, capacity-most, ready}
 use Rattle.sort.specs.Rows.{tabulate, ordered, rowAt as wordsAt}
 use Rattle.sort.specs.Effects.{HoldsRows}
 use Rattle.rdfs.specs.Closure.{properties, subjectClasses, objectClasses, conclusions, carried}
-use Rattle.carry.specs.Marks.{Statements, unused, Uniform, Unused, Room}
+use Rattle.reach.specs.Marks.{Statements, unused, Uniform, Unused, Room}
+use Rattle.reach.proofs.MarkLaws.{zeros-unused, zeros-room, zeros-count, table-statements}
 use Rattle.carry.specs.Conclusions.{Listed, Concluded, conclusionAt}
 use Rattle.carry.proofs.ConclusionLaws.{both, kept-iff}
 use Rattle.carry.proofs.WordRows.{sorted-words}
-
--- ---- no marks
-
-zeros-at : (n j : ℕ) → getD (replicate {A = ℕ} n 0) j 0 ≡ 0
-zeros-at zero j = refl
-zeros-at (suc n) zero = refl
-zeros-at (suc n) (suc j) = zeros-at n j
-
-unused-zeros : (m n : ℕ) → unused m (replicate n 0) ≡ m
-unfolding unused
-unused-zeros zero n = refl
-unused-zeros (suc m) n = rw (zeros-at n m) (omega (arith, unused-zeros m n))
-
-pub zeros-unused : (st : List ℕ) (m k : ℕ) (used : List ℕ) → used ≡ replicate 512 0 → Unused st m k used
-zeros-unused st m k used e j l p = rw e (zeros-at 512 j)
-
-pub zeros-room : (st : List ℕ) (m : ℕ) (used found : List ℕ) (n : ℕ) → Statements st m → used ≡ replicate 512 0 → n + m ≤ length found → Room st m used found n
-zeros-room st m used found n s e l = record {
-  marks = rw (e, length-replicate {A = ℕ} 512 0) (s .few);
-  places = rw (e, unused-zeros m 512) l;
-  uniform = λ i j a b p q. rw e (zeros-at 512 i ∙ sym (zeros-at 512 j));
-}
-
-pub zeros-count : (m : ℕ) (used : List ℕ) → used ≡ replicate 512 0 → unused m used ≡ m
-zeros-count m used e = rw e (unused-zeros m 512)
 
 -- ---- the conclusion at a place
 
@@ -164,12 +140,6 @@ module _ (S : List Triple) (m : ℕ) (f : Triple) (found : List ℕ) (a b e : �
       (λ u. (λ i. ascend-in (conclusions S f) (row-out u (ascend-out (firstRows e t) i)), λ i. ascend-in (firstRows e t) (concluded-row u (ascend-out (conclusions S f) i))))
 
 -- ---- the table
-
-pub table-statements : (ws : List ℕ) (m : ℕ) → isStatementTable ws ≡ true → m ≡ count ws → Statements ws m
-table-statements ws m h e =
-    let W = isTable-wellFormed _ _ ws h in
-    let q : length (rows ws) ≡ m = length-rows ws ∙ sym e in
-    record { size = omega (arith, W .laid .fits); few = omega (arith, W .within, capacity-most 512 ws); ascends = ready W m q }
 
 pub table-rows : (ws : List ℕ) (m : ℕ) → m ≡ count ws → firstRows m (drop 1 ws) ≡ rows ws
 unfolding rows

@@ -10,7 +10,7 @@ use Rattle.rdf.specs.declared.Triple.{Triple}
 use Rattle.rdf.specs.Term.{type}
 use Rattle.rdf.specs.Triple.{triple}
 use Rattle.rdfs.specs.Closure.{properties, subjectClasses, objectClasses}
-use Rattle.carry.specs.Marks.{Within}
+use Rattle.reach.specs.Marks.{Within}
 
 -- The terms of found' from n on, below n', are those of xs, some perhaps more than once. The terms below n are as they were in found.
 pub record Listed (xs found : List ℕ) (n : ℕ) (found' : List ℕ) (n' : ℕ) : Type 0 where

@@ -1,6 +1,9 @@
 // What follows (document 01, "What follows").
 use rdf::Term;
 use rdf::Triple;
+use reach::append_all;
+use reach::close;
+use reach::no_marks;
 ghost use mathlib.Core.Path.{_≡_};
 ghost use mathlib.Core.Bool.{true};
 ghost use mathlib.Core.List.{[], _∷_, List·Memᴰ};
@@ -12,26 +15,14 @@ ghost use Rattle.rdf.specs.Term.{type, subClassOf, subPropertyOf, domain, range
 ghost use Rattle.rdf.specs.Order.{choose};
 ghost use Rattle.table.specs.Table.{tripleFrom, rowAt, firstRows, rows, flatten, isStatementTable};
 ghost use Rattle.rdfs.specs.Closure.{properties, subjectClasses, objectClasses, carried};
-ghost use Rattle.carry.specs.Marks.{Statements, Within, unused, Uniform, Unused, Room};
+ghost use Rattle.reach.specs.Marks.{Statements, Within, unused, Uniform, Unused, Room};
 ghost use Rattle.carry.specs.Conclusions.{Listed, Concluded, conclusionAt};
-
-mod work_list; // work_list.rt: what is reached by steps of a property
-
-use work_list::append_all;
-use work_list::close;
 
 // Where a fact's properties, its subject's classes and its object's classes end in the terms found.
 struct Ends {
     properties: usize,
     subject: usize,
     object: usize,
-}
-
-// No marks yet.
-fn no_marks() -> [u8; 512]
-    ensures { λ r. ⌜ r ≡ replicate 512 0 ⌝ }
-{
-    [0u8; 512]
 }
 
 // No terms yet: there is room for two, and for two for each statement.

@@ -1,7 +1,7 @@
 -- The ranges are listed and closed.
 use mathlib.Core.Path.{sym, _∙_}
 use native.Mathlib.Omega.{arith}
-use Rattle.carry.proofs.WorkLaws.{room-on, unused-on}
+use Rattle.reach.proofs.WorkLaws.{room-on, unused-on}
 use Rattle.carry.proofs.ConclusionLaws.{listed-object, listed-literal}
 use borrow.Author.Needs.{needs}
 use Rattle.carry.proofs.append_object_classes.Statement.{statement}

@@ -2,7 +2,7 @@
 use mathlib.Core.Path.{_∙_}
 use native.Mathlib.Omega.{arith}
 use lib.ListN.{length-set}
-use Rattle.carry.proofs.WorkLaws.{room-for}
+use Rattle.reach.proofs.WorkLaws.{room-for}
 use Rattle.carry.proofs.ConclusionLaws.{listed-properties}
 use borrow.Author.Needs.{needs}
 use Rattle.carry.proofs.append_properties.Statement.{statement}

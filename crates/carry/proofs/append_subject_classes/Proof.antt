@@ -1,6 +1,6 @@
 -- The type and the domains are listed one after the other, and closed.
 use native.Mathlib.Omega.{arith}
-use Rattle.carry.proofs.WorkLaws.{room-for, room-on, unused-on}
+use Rattle.reach.proofs.WorkLaws.{room-for, room-on, unused-on}
 use Rattle.carry.proofs.ConclusionLaws.{listed-subject}
 use borrow.Author.Needs.{needs}
 use Rattle.carry.proofs.append_subject_classes.Statement.{statement}

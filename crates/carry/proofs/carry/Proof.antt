@@ -3,7 +3,8 @@ use mathlib.Core.Path.{refl, ap, _∙_}
 use native.Mathlib.Omega.{arith}
 use Prim.Native.Nat.{ℕ}
 use lib.ListN.{length, length-replicate}
-use Rattle.carry.proofs.WrittenLaws.{table-statements, few-rows, carried-words}
+use Rattle.reach.proofs.MarkLaws.{table-statements}
+use Rattle.carry.proofs.WrittenLaws.{few-rows, carried-words}
 use borrow.Author.Needs.{needs}
 use Rattle.carry.proofs.carry.Statement.{statement}
 use Rattle.carry.proofs.carry.Tie as tie

@@ -1,6 +1,7 @@
 -- Each part finds the marks and the room that it asks for.
 use native.Mathlib.Omega.{arith}
-use Rattle.carry.proofs.WrittenLaws.{zeros-room, zeros-unused, room-after, unused-after, room-again, few-terms, all-concluded}
+use Rattle.reach.proofs.MarkLaws.{zeros-room, zeros-unused}
+use Rattle.carry.proofs.WrittenLaws.{room-after, unused-after, room-again, few-terms, all-concluded}
 use Rattle.carry.proofs.ConclusionLaws.{both, kept-iff}
 use borrow.Author.Needs.{needs}
 use Rattle.carry.proofs.find_terms.Statement.{statement}

@@ -10,8 +10,8 @@ use Rattle.rdf.specs.Triple.{triple}
 use Rattle.rdf.proofs.Order.{of-subject, of-property, of-object}
 use Rattle.table.specs.Table.{rowAt, firstRows}
 use Rattle.rdfs.specs.Entailment.{Reach, stay, step}
-use Rattle.carry.specs.Marks.{Within, Unused, Room, ObjectOf, ReachedFrom, Grown, Extended}
-use Rattle.carry.proofs.MarkLaws.{member-row, extended-none}
+use Rattle.reach.specs.Marks.{Within, Unused, Room, ObjectOf, ReachedFrom, Grown, Extended}
+use Rattle.reach.proofs.MarkLaws.{member-row, extended-none}
 
 -- Terms below n are as they were.
 pub within-kept : {found found' : List ℕ} {a b x : ℕ} (n : ℕ) → ((i : ℕ) → i < n → getD found' i 0 ≡ getD found i 0) → b ≤ n → Within found a b x → Within found' a b x

@@ -1,9 +1,9 @@
 -- Either answer of the search is where the rows begin.
 use mathlib.Core.Path.{sym, _∙_}
-use Rattle.carry.proofs.Begin.{begins-at, begins-gap}
+use Rattle.reach.proofs.Begin.{begins-at, begins-gap}
 use borrow.Author.Needs.{needs}
-use Rattle.carry.proofs.work_list.first_row.Statement.{statement}
-use Rattle.carry.proofs.work_list.first_row.Tie as tie
+use Rattle.reach.proofs.first_row.Statement.{statement}
+use Rattle.reach.proofs.first_row.Tie as tie
 
 find-requires : tie.Need-find-requires
 find-requires c κs = search needs

@@ -1,12 +1,12 @@
 -- Laws of marks on statements, and of the rows of one subject and property. Assumes nothing.
 use mathlib.Core.Path.{_≡_, refl, sym, _∙_}
-use mathlib.Core.Bool.{_&&_}
+use mathlib.Core.Bool.{true, _&&_}
 use mathlib.Core.List.{List, List·Memᴰ, Memᴰ·cast}
 use mathlib.Core.Logic.{by-cases}
 use Prim.Native.Nat.{ℕ, zero, suc, _+_, _-_, _*_, _≤_, _<_}
 use native.Mathlib.Decide.{ℕ-discrete, decLt}
 use native.Mathlib.Omega.{arith}
-use lib.ListN.{length, getD, drop, set, length-set}
+use lib.ListN.{length, getD, drop, set, replicate, length-set, length-replicate}
 use lib.Seq.{getD-set-same, getD-set-other}
 use lib.Dec.{eqb}
 use borrow.Author.Tests.{eq-eqb, eqb-true}
@@ -14,10 +14,11 @@ use Rattle.rdf.specs.declared.Triple.{Triple}
 use Rattle.rdf.specs.Triple.{triple}
 use Rattle.rdf.specs.Order.{Less, by-subject, by-property, by-object, triple-eq}
 use Rattle.rdf.proofs.Ascending.{isAscending-iff, and-left, and-right}
-use Rattle.table.specs.Table.{rowAt, firstRows}
-use Rattle.table.proofs.Rows.{length-firstRows, getD-rowAt}
+use Rattle.table.specs.Table.{rowAt, firstRows, rows, count, isStatementTable}
+use Rattle.table.proofs.Rows.{length-firstRows, getD-rowAt, length-rows}
 use Rattle.table.proofs.Place.{ascending-getD, getD-member, member-getD}
-use Rattle.carry.specs.Marks.{Statements, HasSubject, Tells, Begins, Within, unused, Room, Grown, Extended}
+use Rattle.table.proofs.Formed.{isTable-wellFormed, capacity-most, ready}
+use Rattle.reach.specs.Marks.{Statements, HasSubject, Tells, Begins, Within, unused, Unused, Room, Grown, Extended}
 
 -- ---- how many statements have no mark
 
@@ -215,3 +216,37 @@ extended-none st m k Q used found n room d = record {
   origin = λ i a c. absurd (omega arith);
   done = d;
 }
+
+-- ---- no marks
+
+zeros-at : (n j : ℕ) → getD (replicate {A = ℕ} n 0) j 0 ≡ 0
+zeros-at zero j = refl
+zeros-at (suc n) zero = refl
+zeros-at (suc n) (suc j) = zeros-at n j
+
+unused-zeros : (m n : ℕ) → unused m (replicate n 0) ≡ m
+unfolding unused
+unused-zeros zero n = refl
+unused-zeros (suc m) n = rw (zeros-at n m) (omega (arith, unused-zeros m n))
+
+pub zeros-unused : (st : List ℕ) (m k : ℕ) (used : List ℕ) → used ≡ replicate 512 0 → Unused st m k used
+zeros-unused st m k used e j l p = rw e (zeros-at 512 j)
+
+pub zeros-room : (st : List ℕ) (m : ℕ) (used found : List ℕ) (n : ℕ) → Statements st m → used ≡ replicate 512 0 → n + m ≤ length found → Room st m used found n
+zeros-room st m used found n s e l = record {
+  marks = rw (e, length-replicate {A = ℕ} 512 0) (s .few);
+  places = rw (e, unused-zeros m 512) l;
+  uniform = λ i j a b p q. rw e (zeros-at 512 i ∙ sym (zeros-at 512 j));
+}
+
+pub zeros-count : (m : ℕ) (used : List ℕ) → used ≡ replicate 512 0 → unused m used ≡ m
+zeros-count m used e = rw e (unused-zeros m 512)
+
+-- ---- the table
+
+-- The words of a well-formed table of statements hold its statements.
+pub table-statements : (ws : List ℕ) (m : ℕ) → isStatementTable ws ≡ true → m ≡ count ws → Statements ws m
+table-statements ws m h e =
+    let W = isTable-wellFormed _ _ ws h in
+    let q : length (rows ws) ≡ m = length-rows ws ∙ sym e in
+    record { size = omega (arith, W .laid .fits); few = omega (arith, W .within, capacity-most 512 ws); ascends = ready W m q }

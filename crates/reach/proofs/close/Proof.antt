@@ -3,10 +3,10 @@ use borrow.Author.Needs.{needs}
 use Prim.Native.Nat.{_≤_, _<_, _+_, _-_}
 use mathlib.Core.Path.{refl, _≡_}
 use native.Mathlib.Omega.{arith}
-use Rattle.carry.specs.Marks.{unused}
-use Rattle.carry.proofs.WorkLaws.{Turn, turn-begin, turn-room, turn-more, Reached, reached-begin, reached-more, close-end}
-use Rattle.carry.proofs.work_list.close.Statement.{statement}
-use Rattle.carry.proofs.work_list.close.Tie as tie
+use Rattle.reach.specs.Marks.{unused}
+use Rattle.reach.proofs.WorkLaws.{Turn, turn-begin, turn-room, turn-more, Reached, reached-begin, reached-more, close-end}
+use Rattle.reach.proofs.close.Statement.{statement}
+use Rattle.reach.proofs.close.Tie as tie
 
 abbrev Inv-loop : tie.InvT-loop
 Inv-loop st m k used₀ found₀ from n e₀ i₀ used found e i = (i ≤ e) × Turn st m k from used₀ found₀ n used found e i × Reached st m k from found₀ n found e

@@ -1,10 +1,10 @@
 -- Where the first row has a mark, or there is none, nothing is to be done; else no row of the subject and the property has one.
 use mathlib.Core.Path.{_∙_, sym}
 use native.Mathlib.Omega.{arith}
-use Rattle.carry.proofs.MarkLaws.{same-mark, extended-none}
+use Rattle.reach.proofs.MarkLaws.{same-mark, extended-none}
 use borrow.Author.Needs.{needs}
-use Rattle.carry.proofs.work_list.append_objects.Statement.{statement}
-use Rattle.carry.proofs.work_list.append_objects.Tie as tie
+use Rattle.reach.proofs.append_objects.Statement.{statement}
+use Rattle.reach.proofs.append_objects.Tie as tie
 
 first-row-requires : tie.Need-first-row-requires
 first-row-requires c κs = search needs

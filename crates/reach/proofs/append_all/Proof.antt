@@ -3,9 +3,9 @@ use borrow.Author.Needs.{needs}
 use Prim.Native.Nat.{_≤_, _-_}
 use mathlib.Core.Path.{refl, _≡_}
 use native.Mathlib.Omega.{arith}
-use Rattle.carry.proofs.WorkLaws.{Turn, turn-begin, turn-room, turn-more, all-end}
-use Rattle.carry.proofs.work_list.append_all.Statement.{statement}
-use Rattle.carry.proofs.work_list.append_all.Tie as tie
+use Rattle.reach.proofs.WorkLaws.{Turn, turn-begin, turn-room, turn-more, all-end}
+use Rattle.reach.proofs.append_all.Statement.{statement}
+use Rattle.reach.proofs.append_all.Tie as tie
 
 abbrev Inv-loop : tie.InvT-loop
 Inv-loop st m k used₀ found₀ from to n e₀ i₀ used found e i = (i ≤ to) × Turn st m k from used₀ found₀ n used found e i

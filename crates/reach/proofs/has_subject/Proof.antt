@@ -1,8 +1,8 @@
 -- The two tests together tell.
-use Rattle.carry.proofs.MarkLaws.{has-tells}
+use Rattle.reach.proofs.MarkLaws.{has-tells}
 use borrow.Author.Needs.{needs}
-use Rattle.carry.proofs.work_list.has_subject.Statement.{statement}
-use Rattle.carry.proofs.work_list.has_subject.Tie as tie
+use Rattle.reach.proofs.has_subject.Statement.{statement}
+use Rattle.reach.proofs.has_subject.Tie as tie
 
 mul-at : tie.Need-mul-at
 mul-at c = search needs

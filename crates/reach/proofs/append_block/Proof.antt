@@ -4,9 +4,9 @@ use Prim.Native.Nat.{_-_}
 use native.Mathlib.Omega.{arith}
 use borrow.Author.Tests.{not-true, not-false}
 use Rattle.table.specs.Table.{rowAt}
-use Rattle.carry.proofs.MarkLaws.{Block, block-place, block-more, block-end, block-stops}
-use Rattle.carry.proofs.work_list.append_block.Statement.{statement}
-use Rattle.carry.proofs.work_list.append_block.Tie as tie
+use Rattle.reach.proofs.MarkLaws.{Block, block-place, block-more, block-end, block-stops}
+use Rattle.reach.proofs.append_block.Statement.{statement}
+use Rattle.reach.proofs.append_block.Tie as tie
 
 abbrev Inv-loop : tie.InvT-loop
 Inv-loop st m k x first used₀ found₀ n e₀ j₀ used found e j = Block st m k x first used₀ found₀ n used found e j

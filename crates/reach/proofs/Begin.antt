@@ -16,8 +16,8 @@ use Rattle.table.specs.Table.{rowAt, firstRows}
 use Rattle.table.specs.Search.{place}
 use Rattle.table.proofs.Rows.{length-firstRows, getD-rowAt}
 use Rattle.table.proofs.Place.{stands-at, missing-at}
-use Rattle.carry.specs.Marks.{Statements, Begins}
-use Rattle.carry.proofs.MarkLaws.{rows-less}
+use Rattle.reach.specs.Marks.{Statements, Begins}
+use Rattle.reach.proofs.MarkLaws.{rows-less}
 
 -- A row that is less than x k 0 is not of the subject x and the property k.
 not-below : (t : Triple) (x k : ℕ) → Less t (triple x k 0) → t .subject ≡ x → t .property ≡ k → ⊥
