@@ -7,7 +7,7 @@ use native.Mathlib.Omega.{arith}
 use lib.ListN.{length, getD, take, drop, set, replicate, length-append, length-drop, drop-of-length-le}
 use lib.Seq.{take-all, sets, length-sets, sets-eq}
 use Rattle.rdf.specs.Triple.{triple}
-use Rattle.sort.proofs.Tables.{le-or}
+use Rattle.rows.proofs.Tables.{le-or}
 use Rattle.store.specs.declared.Answer.{Answer}
 use Rattle.store.specs.Store.{Tables, tables}
 use Rattle.store.specs.Update.{Outcome, outcome, add, withdraw}
