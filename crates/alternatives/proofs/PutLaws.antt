@@ -11,7 +11,7 @@ use Rattle.rdf.proofs.Lists.{flatMap-in}
 use Rattle.table.specs.Table.{tripleFrom, firstRows}
 use Rattle.table.proofs.Rows.{length-firstRows, tripleFrom-drop, getD-firstRows}
 use Rattle.table.proofs.Place.{getD-member}
-use Rattle.sort.specs.Rows.{row}
+use Rattle.rows.specs.Rows.{row}
 use Rattle.carry.specs.Words.{words}
 use Rattle.collect.specs.declared.Collected.{Collected}
 use Rattle.collect.specs.Collected.{Collects}

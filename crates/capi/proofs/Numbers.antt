@@ -10,7 +10,7 @@ use Rattle.rdf.specs.Refusal.{firstNo}
 use Rattle.rdf.proofs.Lists.{by-test}
 use Rattle.table.specs.Table.{rows, isTable}
 use Rattle.table.proofs.Formed.{isTable-wellFormed, capacity-most}
-use Rattle.sort.proofs.Ordered.{ordered-length}
+use Rattle.rows.proofs.Ordered.{ordered-length}
 use Rattle.output.specs.declared.Reply.{Reply}
 use Rattle.output.specs.declared.Reply.the-variants.{Rows, Refused}
 use Rattle.output.specs.Output.{Replied, replied, give, replyNumber, replyCount}

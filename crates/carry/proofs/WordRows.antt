@@ -12,10 +12,10 @@ use Rattle.rdf.specs.Order.{Less, by-subject, by-property, by-object, compareTr
 use Rattle.rdf.proofs.Order.{byOrder-elim}
 use Rattle.table.specs.Table.{tripleFrom, firstRows, flatten}
 use Rattle.table.proofs.Rows.{tripleFrom-drop, length-flatten, firstRows-flatten}
-use Rattle.sort.specs.Rows.{less, row, rowAt, tabulate, insertOnce, ordered, flat}
-use Rattle.sort.specs.Effects.{HoldsRows}
-use Rattle.sort.proofs.Order.{less-irrefl, less-asym}
-use Rattle.sort.proofs.HeldWords.{flat-rows}
+use Rattle.rows.specs.Rows.{less, row, rowAt, tabulate, insertOnce, ordered, flat}
+use Rattle.rows.specs.Effects.{HoldsRows}
+use Rattle.rows.proofs.Order.{less-irrefl, less-asym}
+use Rattle.rows.proofs.HeldWords.{flat-rows}
 use Rattle.carry.specs.Words.{words}
 
 -- The orders agree.

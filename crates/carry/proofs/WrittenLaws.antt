@@ -18,8 +18,8 @@ use Rattle.table.specs.Table.{tripleFrom, rowAt, firstRows, rows, count, flatte
 use Rattle.table.proofs.Rows.{length-firstRows, length-rows, getD-firstRows}
 use Rattle.table.proofs.Place.{getD-member, member-getD}
 use Rattle.table.proofs.Formed.{isTable-wellFormed, capacity-most, ready}
-use Rattle.sort.specs.Rows.{tabulate, ordered, rowAt as wordsAt}
-use Rattle.sort.specs.Effects.{HoldsRows}
+use Rattle.rows.specs.Rows.{tabulate, ordered, rowAt as wordsAt}
+use Rattle.rows.specs.Effects.{HoldsRows}
 use Rattle.rdfs.specs.Closure.{properties, subjectClasses, objectClasses, conclusions, carried}
 use Rattle.reach.specs.Marks.{Statements, unused, Uniform, Unused, Room}
 use Rattle.reach.proofs.MarkLaws.{zeros-unused, zeros-room, zeros-count, table-statements}

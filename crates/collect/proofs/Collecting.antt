@@ -8,13 +8,14 @@ use native.Mathlib.Nat.{zero-mul, add-zero, suc-mul, mul-le-mul-right, le-div-if
 use native.Mathlib.Omega.{arith}
 use lib.ListN.{length, getD, replicate}
 use borrow.Author.Tests.{lt-leb}
-use Rattle.sort.specs.Rows.{less, rowAt, rows, tabulate, insertOnce, ordered, Ascending}
-use Rattle.sort.specs.Effects.{HoldsRows, Sorted}
-use Rattle.sort.proofs.Order.{never, less-tri}
-use Rattle.sort.proofs.Ordered.{insertOnce-ascends, insertOnce-cases, ordered-iff, ordered-ascends}
-use Rattle.sort.proofs.SortLaws.{ascending-sorted}
-use Rattle.sort.proofs.RowWords.{mul-lt, row-ext}
-use Rattle.sort.proofs.Tables.{le-or, tabulate-ext, tabulate-snoc, tabulate-append, tabulate-length}
+use Rattle.rows.specs.Rows.{less, rowAt, rows, tabulate, insertOnce, ordered, Ascending}
+use Rattle.rows.specs.Effects.{HoldsRows}
+use Rattle.sort.specs.Effects.{Sorted}
+use Rattle.rows.proofs.Order.{never, less-tri}
+use Rattle.rows.proofs.Ordered.{insertOnce-ascends, insertOnce-cases, ordered-iff, ordered-ascends}
+use Rattle.rows.proofs.SortLaws.{ascending-sorted}
+use Rattle.rows.proofs.RowWords.{mul-lt, row-ext}
+use Rattle.rows.proofs.Tables.{le-or, tabulate-ext, tabulate-snoc, tabulate-append, tabulate-length}
 use Rattle.output.specs.Output.{areFitting}
 use Rattle.output.proofs.Filled.{getD-zeros}
 use Rattle.collect.specs.declared.Collected.{Collected}

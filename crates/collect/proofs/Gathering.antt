@@ -8,11 +8,11 @@ use native.Mathlib.Nat.{le-div-iff-mul-le}
 use native.Mathlib.Omega.{arith}
 use lib.ListN.{length, replicate, length-replicate}
 use borrow.Author.Tests.{le-leb, lt-leb, leb-false}
-use Rattle.sort.specs.Rows.{less, rowAt, rows, ordered, Above, Ascending}
-use Rattle.sort.proofs.Order.{never, less-irrefl, less-trans}
-use Rattle.sort.proofs.Ordered.{ordered-iff, ordered-ascends, ordered-ext, ascending-ext, above-member}
-use Rattle.sort.proofs.RowWords.{drop-ext}
-use Rattle.sort.proofs.Tables.{tabulate-length}
+use Rattle.rows.specs.Rows.{less, rowAt, rows, ordered, Above, Ascending}
+use Rattle.rows.proofs.Order.{never, less-irrefl, less-trans}
+use Rattle.rows.proofs.Ordered.{ordered-iff, ordered-ascends, ordered-ext, ascending-ext, above-member}
+use Rattle.rows.proofs.RowWords.{drop-ext}
+use Rattle.rows.proofs.Tables.{tabulate-length}
 use Rattle.output.specs.declared.Reply.the-variants.{Rows, Refused}
 use Rattle.output.specs.Output.{areFitting, filled, replied, give}
 use Rattle.output.proofs.Filled.{getD-zeros, rows-filled}

@@ -6,10 +6,10 @@ use mathlib.Core.Logic.{⊎-elim}
 use mathlib.Core.List.{List, List·Memᴰ, List·Memᴰ·head, List·Memᴰ·tail, List·Memᴰ·cases-cons, List·Memᴰ·not-nil, Memᴰ·cast}
 use native.Mathlib.Omega.{arith}
 use borrow.Author.Tests.{not-true, not-false}
-use Rattle.sort.specs.Rows.{less, rowAt, tabulate, Ascending}
-use Rattle.sort.proofs.Order.{never, less-irrefl, less-tri, less-trans}
-use Rattle.sort.proofs.Ordered.{above-member}
-use Rattle.sort.proofs.Tables.{eq-or, le-or}
+use Rattle.rows.specs.Rows.{less, rowAt, tabulate, Ascending}
+use Rattle.rows.proofs.Order.{never, less-irrefl, less-tri, less-trans}
+use Rattle.rows.proofs.Ordered.{above-member}
+use Rattle.rows.proofs.Tables.{eq-or, le-or}
 use Rattle.collect.specs.Effects.{Found}
 
 -- Where a row stands among the n rows f s, f (s + 1), and so on.

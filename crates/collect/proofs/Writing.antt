@@ -6,9 +6,9 @@ use mathlib.Core.List.{List}
 use native.Mathlib.Omega.{arith}
 use lib.ListN.{length, getD, set}
 use lib.Seq.{getD-set-same, getD-set-other}
-use Rattle.sort.specs.Rows.{row}
-use Rattle.sort.proofs.RowWords.{row-ext}
-use Rattle.sort.proofs.Tables.{eq-or}
+use Rattle.rows.specs.Rows.{row}
+use Rattle.rows.proofs.RowWords.{row-ext}
+use Rattle.rows.proofs.Tables.{eq-or}
 use Rattle.collect.specs.Effects.{RowWritten}
 
 -- The loop of `write_row`: the words from word p on are the first k words of u, and the others are as they were.

@@ -4,7 +4,7 @@ use mathlib.Core.Path.{_≡_}
 use mathlib.Core.Bool.{Bool, true, false}
 use mathlib.Core.List.{List, List·Memᴰ}
 use lib.ListN.{length, getD}
-use Rattle.sort.specs.Rows.{rowAt, rows, Ascending}
+use Rattle.rows.specs.Rows.{rowAt, rows, Ascending}
 use Rattle.collect.specs.declared.Collected.{Collected}
 
 -- The rows that are counted lie within the output.

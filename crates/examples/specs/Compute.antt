@@ -8,7 +8,7 @@ use Rattle.rdf.specs.Refusal.{firstNo}
 use Rattle.rdf.specs.Order.{compareNumbers, compareTriples, equalTriples, choose, byOrder, insert, remove, ascend}
 use Rattle.rdfs.specs.Closure.{isIn, add, addAll, keep, leaves, pull, afterPull, explore, spread, reach, objects, properties, subjectClasses, objectClasses, conclusions, carried}
 use Rattle.rdfs.specs.Saturation.{support, lookup, raise, oneLess, lower, raiseAll, lowerAll, saturation}
-use Rattle.sort.specs.Rows.{less, insertOnce, ordered}
+use Rattle.rows.specs.Rows.{less, insertOnce, ordered}
 use Rattle.query.specs.Answer.{boundTo, isBound, bind, matchWord, matchTriple, solutions, answers}
 use Rattle.reformulation.specs.Alternative.{select, toClasses, toProperties, without, alternativesFrom, alternatives}
 

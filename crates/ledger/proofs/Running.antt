@@ -7,7 +7,7 @@ use native.Mathlib.Omega.{arith}
 use lib.ListN.{length, getD, take, drop, set, replicate, length-append, length-drop, drop-of-length-le}
 use lib.Seq.{take-all, sets, length-sets, sets-eq}
 use Rattle.rdf.specs.Triple.{triple}
-use Rattle.sort.proofs.Tables.{le-or}
+use Rattle.rows.proofs.Tables.{le-or}
 use Rattle.update.specs.declared.Answer.{Answer}
 use Rattle.update.specs.Store.{Tables, tables}
 use Rattle.update.specs.Update.{Outcome, outcome, add, withdraw}

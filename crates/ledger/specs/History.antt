@@ -9,7 +9,7 @@ use Rattle.rdf.specs.declared.Triple.{Triple}
 use Rattle.rdf.specs.Order.{Ascending}
 use Rattle.rdf.specs.Refusal.{firstNo}
 use Rattle.table.specs.Table.{layout, supportLayout}
-use Rattle.sort.specs.Rows as sorted-rows
+use Rattle.rows.specs.Rows as sorted-rows
 use Rattle.rdfs.specs.Entailment.{Holds, InGraph}
 use Rattle.rdfs.specs.Saturation.{saturation, keptRows, keptSupports, lookup, carriers}
 use Rattle.output.specs.Output.{Replied, areFitting, give}

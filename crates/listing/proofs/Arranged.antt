@@ -19,9 +19,9 @@ use Rattle.table.specs.Table.{all}
 use Rattle.table.specs.Table as table
 use Rattle.table.proofs.All.{all-getD}
 use Rattle.table.proofs.Rows.{getD-rows}
-use Rattle.sort.specs.Rows.{less, tabulate, rows, rowAt, insert, sort, insertOnce, ordered}
-use Rattle.sort.proofs.Order.{less-tri}
-use Rattle.sort.proofs.Ordered.{ordered-iff}
+use Rattle.rows.specs.Rows.{less, tabulate, rows, rowAt, insert, sort, insertOnce, ordered}
+use Rattle.rows.proofs.Order.{less-tri}
+use Rattle.rows.proofs.Ordered.{ordered-iff}
 use Rattle.listing.specs.Listing.{columnOrders, column, arranged, listingRows}
 use Rattle.listing.specs.Written.{RowsWritten}
 

@@ -11,10 +11,10 @@ use Rattle.rdf.specs.Refusal.{firstNo}
 use Rattle.table.specs.Table.{count, rows}
 use Rattle.table.specs.Laid.{WellFormed}
 use Rattle.table.proofs.Rows.{length-rows}
-use Rattle.sort.specs.Rows.{sort}
-use Rattle.sort.specs.Rows as sort
-use Rattle.sort.specs.Effects.{SortedRows}
-use Rattle.sort.proofs.RowWords.{drop-ext}
+use Rattle.rows.specs.Rows.{sort}
+use Rattle.rows.specs.Rows as sort
+use Rattle.quick.specs.Effects.{SortedRows}
+use Rattle.rows.proofs.RowWords.{drop-ext}
 use Rattle.output.specs.declared.Reply.the-variants.{Rows, Refused}
 use Rattle.output.specs.Output.{areFitting, filled, replied, give}
 use Rattle.output.proofs.Filled.{rows-filled}

@@ -8,9 +8,9 @@ use lib.ListN.{length, getD, set, length-set}
 use lib.Seq.{getD-set-same, getD-set-other}
 use Rattle.rdf.specs.declared.Triple.{Triple}
 use Rattle.table.specs.Table as table
-use Rattle.sort.specs.Rows.{row, rowAt}
-use Rattle.sort.proofs.RowWords.{row-ext}
-use Rattle.sort.proofs.Tables.{eq-or}
+use Rattle.rows.specs.Rows.{row, rowAt}
+use Rattle.rows.proofs.RowWords.{row-ext}
+use Rattle.rows.proofs.Tables.{eq-or}
 use Rattle.listing.specs.Listing.{column}
 use Rattle.listing.specs.Written.{RowWritten, RowsWritten}
 

@@ -7,7 +7,7 @@ use lib.Dec.{leb}
 use Rattle.rdf.specs.declared.Triple.{Triple}
 use Rattle.rdf.specs.Refusal.{firstNo}
 use Rattle.table.specs.Table.{rows}
-use Rattle.sort.specs.Rows.{ordered}
+use Rattle.rows.specs.Rows.{ordered}
 use Rattle.output.specs.Output.{areFitting, Replied, give}
 
 -- "The six column orders 0 to 5 are SPO, SOP, PSO, POS, OSP, OPS, held as a table": columns 0 subject, 1 property, 2 object.

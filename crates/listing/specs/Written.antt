@@ -7,7 +7,7 @@ use Rattle.rdf.specs.Order.{Ascending}
 use Rattle.table.specs.Table.{rows}
 use Rattle.table.specs.Table as table
 use Rattle.table.specs.Laid.{Laid}
-use Rattle.sort.specs.Rows.{rowAt}
+use Rattle.rows.specs.Rows.{rowAt}
 use Rattle.listing.specs.Listing.{column}
 
 -- Row i has the words r, and the other words are as they were.

@@ -9,11 +9,11 @@ use native.Mathlib.Omega.{arith}
 use lib.Dec.{leb}
 use lib.ListN.{length, getD, take, drop, replicate, length-replicate, getD-replicate, take-append-drop}
 use lib.Seq.{ext-getD, length-take-le}
-use Rattle.sort.specs.Rows.{rows, flat}
-use Rattle.sort.specs.Effects.{WordsZeroed, HoldsRows}
-use Rattle.sort.proofs.RowWords.{drop-ext}
-use Rattle.sort.proofs.Tables.{le-or}
-use Rattle.sort.proofs.HeldWords.{flat-rows}
+use Rattle.rows.specs.Rows.{rows, flat}
+use Rattle.rows.specs.Effects.{WordsZeroed, HoldsRows}
+use Rattle.rows.proofs.RowWords.{drop-ext}
+use Rattle.rows.proofs.Tables.{le-or}
+use Rattle.rows.proofs.HeldWords.{flat-rows}
 use Rattle.output.specs.Output.{areFitting, filled}
 
 -- Words that are set to zero up to their end.

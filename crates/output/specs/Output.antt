@@ -4,7 +4,7 @@ use mathlib.Core.Bool.{Bool}
 use mathlib.Core.List.{List, _++_}
 use lib.ListN.{length, replicate}
 use lib.Dec.{leb}
-use Rattle.sort.specs.Rows.{flat}
+use Rattle.rows.specs.Rows.{flat}
 use Rattle.output.specs.declared.Reply.{Reply}
 use Rattle.output.specs.declared.Reply.the-variants.{Rows, Refused}
 

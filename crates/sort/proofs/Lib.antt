@@ -1,10 +1,3 @@
-pub mod Order
-pub mod Tables
-pub mod SortLaws
-pub mod Ordered
-pub mod RowWords
-pub mod HeapLaws
-pub mod QuickLaws
+pub mod AscendLaws
 pub mod DistinctLaws
-pub mod HeldWords
 pub mod MergeLaws

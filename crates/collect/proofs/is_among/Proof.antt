@@ -4,9 +4,9 @@ use mathlib.Core.Path.{sym, _∙_}
 use Prim.Native.Nat.{_+_, _-_, _/_}
 use native.Mathlib.Omega.{arith}
 use lib.ListN.{length}
-use Rattle.sort.specs.Rows.{rowAt}
-use Rattle.sort.specs.Rows as sorted-rows
-use Rattle.sort.proofs.RowWords.{row-within}
+use Rattle.rows.specs.Rows.{rowAt}
+use Rattle.rows.specs.Rows as sorted-rows
+use Rattle.rows.proofs.RowWords.{row-within}
 use Rattle.collect.proofs.Search.{SearchLoop, search-begin, search-up, search-down, search-past, search-end}
 use Rattle.collect.proofs.is_among.Statement.{statement}
 use Rattle.collect.proofs.is_among.Tie as tie

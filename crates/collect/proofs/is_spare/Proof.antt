@@ -1,6 +1,6 @@
 -- `is_spare` says yes only where one more row has room.
 use mathlib.Core.Path.{sym}
-use Rattle.sort.proofs.Order.{never}
+use Rattle.rows.proofs.Order.{never}
 use borrow.Author.Needs.{needs}
 use Rattle.collect.proofs.is_spare.Statement.{statement}
 use Rattle.collect.proofs.is_spare.Tie as tie

@@ -4,8 +4,8 @@ use mathlib.Core.Path.{_≡_, sym, _∙_}
 use Prim.Native.Nat.{_+_, _-_, _≤_}
 use native.Mathlib.Nat.{add-zero, sub-zero}
 use native.Mathlib.Omega.{arith}
-use Rattle.sort.specs.Rows.{less, row}
-use Rattle.sort.proofs.RowWords.{less-between-more, less-between-stop, less-between-none}
+use Rattle.rows.specs.Rows.{less, row}
+use Rattle.rows.proofs.RowWords.{less-between-more, less-between-stop, less-between-none}
 use Rattle.collect.proofs.less_words.Statement.{statement}
 use Rattle.collect.proofs.less_words.Tie as tie
 

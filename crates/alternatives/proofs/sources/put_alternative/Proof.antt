@@ -1,7 +1,7 @@
 -- The three words of the row are those of the alternative. Assumes nothing.
 use mathlib.Core.Path.{refl}
 use mathlib.Core.List.{[], _∷_}
-use Rattle.sort.specs.Rows.{row}
+use Rattle.rows.specs.Rows.{row}
 use Rattle.alternatives.proofs.PutLaws.{puts-one}
 use borrow.Author.Needs.{needs}
 use Rattle.alternatives.proofs.sources.put_alternative.Statement.{statement}
