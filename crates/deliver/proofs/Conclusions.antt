@@ -6,9 +6,12 @@ use mathlib.Core.List.{List}
 use Rattle.rdf.specs.Refusal.{firstNo}
 use Rattle.update.specs.Store.{Tables, areFormed}
 use Rattle.delivery.specs.Message.{read, isWhole, areSectionsRight, isNumberRight, numberFields, numberOf}
-use Rattle.deliver.specs.declared.Tally.{Tally}
+use Rattle.tally.specs.declared.Tally.{Tally}
+use Rattle.tally.specs.Tally.{tally}
+use Rattle.entry.specs.Entry.{addition, withdrawal}
+use Rattle.section.specs.Section.{Progress, progress}
 use Rattle.deliver.specs.declared.Delivered.{Delivered}
-use Rattle.deliver.specs.Deliver.{tally, Progress, progress, addition, withdrawal, runMessage, delivered, conclude, deliver}
+use Rattle.deliver.specs.Deliver.{runMessage, delivered, conclude, deliver}
 
 module _ (T : Tables) (bs : List ℕ) where
   -- The tables are malformed,

@@ -7,10 +7,14 @@ use native.Mathlib.Omega.{arith}
 use lib.ListN.{length}
 use Rattle.rdf.specs.Refusal.{firstNo}
 use Rattle.update.specs.Store.{Tables, areFormed}
-use Rattle.delivery.specs.Message.{Message, read, isWhole, areSectionsRight, numberFields, numberOf}
-use Rattle.deliver.specs.Deliver.{tally, Update, Progress, progress, runEntries, runMessage, addition, withdrawal, delivered, messageQuestions, conclude, deliver}
-use Rattle.deliver.specs.Running.{total}
-use Rattle.deliver.proofs.Runs.{run-total}
+use Rattle.delivery.specs.Message.{Message, read, isWhole, numberFields, numberOf}
+use Rattle.delivery.specs.Encoding.{Agree}
+use Rattle.delivery.proofs.Unknown.{unknown-sections, unknown-number}
+use Rattle.tally.specs.Tally.{tally, total}
+use Rattle.entry.specs.Entry.{Update, addition, withdrawal}
+use Rattle.section.specs.Section.{Progress, progress, runEntries}
+use Rattle.section.proofs.Runs.{run-total}
+use Rattle.deliver.specs.Deliver.{runMessage, delivered, messageQuestions, conclude, deliver}
 
 -- ---- refused deliveries
 
@@ -52,33 +56,21 @@ deliver-total T bs e = conclude-total addition withdrawal (firstNo ((1, areForme
 
 -- ---- unknown fields
 
--- Two messages say the same but for fields with other tags than 1.
-pub record SameBut (m m' : Message) : Type 0 where
-  pub same-statements-withdrawn : m .statementsWithdrawn ≡ m' .statementsWithdrawn
-  pub same-facts-withdrawn : m .factsWithdrawn ≡ m' .factsWithdrawn
-  pub same-statements-added : m .statementsAdded ≡ m' .statementsAdded
-  pub same-facts-added : m .factsAdded ≡ m' .factsAdded
-  pub same-number : numberFields (m .fields) ≡ numberFields (m' .fields)
-
-module _ {m m' : Message} (S : SameBut m m') where
-  same-right : areSectionsRight m ≡ areSectionsRight m'
-  unfolding areSectionsRight
-  same-right = rw (S .same-statements-withdrawn, S .same-facts-withdrawn, S .same-statements-added, S .same-facts-added) refl
-
+module _ {m m' : Message} (S : Agree m m') where
   same-run : {A : Type 0} (a w : Update A) (g : Progress A) → runMessage a w m g ≡ runMessage a w m' g
   unfolding runMessage
-  same-run a w g = rw (S .same-statements-withdrawn, S .same-facts-withdrawn, S .same-statements-added, S .same-facts-added) refl
+  same-run a w g = rw (S .statementsWithdrawn, S .factsWithdrawn, S .statementsAdded, S .factsAdded) refl
 
   same-conclusion : {A : Type 0} (a w : Update A) (q : ℕ) (h : A) → conclude a w q m h ≡ conclude a w q m' h
   unfolding conclude
   same-conclusion a w (suc n) h = refl
   same-conclusion {A} a w zero h =
       ap (λ (g : Progress A). (delivered 0 (numberOf (numberFields (m .fields))) (g .counted), g .holder)) (same-run a w (progress h (tally 0 0 0)))
-      ∙ ap (λ (n : ℕ). (delivered 0 n (runMessage a w m' (progress h (tally 0 0 0)) .counted), runMessage a w m' (progress h (tally 0 0 0)) .holder)) (ap numberOf (S .same-number))
+      ∙ ap (λ (n : ℕ). (delivered 0 n (runMessage a w m' (progress h (tally 0 0 0)) .counted), runMessage a w m' (progress h (tally 0 0 0)) .holder)) (unknown-number m m' S)
 
 -- Unknown fields change no answer and no word: whole deliveries that say the same but for them do the same.
-pub unknown-fields : (T : Tables) (bs cs : List ℕ) → isWhole bs ≡ true → isWhole cs ≡ true → SameBut (read bs) (read cs) → deliver T bs ≡ deliver T cs
+pub unknown-fields : (T : Tables) (bs cs : List ℕ) → isWhole bs ≡ true → isWhole cs ≡ true → Agree (read bs) (read cs) → deliver T bs ≡ deliver T cs
 unfolding deliver
 unknown-fields T bs cs e f S =
-    let q : firstNo ((1, areFormed T) ∷ messageQuestions bs) ≡ firstNo ((1, areFormed T) ∷ messageQuestions cs) = rw (e, f, same-right S, S .same-number) refl in
+    let q : firstNo ((1, areFormed T) ∷ messageQuestions bs) ≡ firstNo ((1, areFormed T) ∷ messageQuestions cs) = rw (e, f, unknown-sections (read bs) (read cs) S, S .numbers) refl in
     rw q (same-conclusion S addition withdrawal (firstNo ((1, areFormed T) ∷ messageQuestions cs)) T)

@@ -1,6 +1,3 @@
-pub mod Highest
-pub mod Runs
-pub mod Formed
 pub mod Sections
 pub mod Conclusions
 pub mod Laws

@@ -10,10 +10,14 @@ use Rattle.rdf.proofs.Ascending.{and-left, and-right}
 use Rattle.table.specs.Table.{all}
 use Rattle.update.specs.Store.{Tables, areFormed}
 use Rattle.delivery.specs.Message.{read, isWhole, isFact, areSectionsRight}
-use Rattle.deliver.specs.declared.Tally.{Tally}
-use Rattle.deliver.specs.Deliver.{tally, Progress, progress, addition, withdrawal, runEntries, runMessage}
-use Rattle.deliver.specs.Running.{updateOf, keepsFormed, section, Next}
-use Rattle.deliver.proofs.Formed.{additions-formed}
+use Rattle.tally.specs.declared.Tally.{Tally}
+use Rattle.tally.specs.Tally.{tally}
+use Rattle.entry.specs.Entry.{addition, withdrawal}
+use Rattle.entry.specs.Running.{updateOf, keepsFormed}
+use Rattle.section.specs.Section.{Progress, progress, runEntries}
+use Rattle.section.specs.Running.{section, Next}
+use Rattle.section.proofs.Runs.{additions-formed}
+use Rattle.deliver.specs.Deliver.{runMessage}
 
 -- ---- what is asked of each
 

@@ -1,25 +1,18 @@
 // Deliveries run over a store in lent tables (document 01, "Deliveries").
-mod entries; // entries.rt: the entries of a section, run in order
-mod supports; // supports.rt: the highest support
-mod tallies; // tallies.rt: tallies that rise
-
-use entries::add_section;
-use entries::run_section;
-use entries::withdraw_facts;
-use tallies::none;
+use section::add_section;
+use section::run_section;
+use section::withdrawals::withdraw_facts;
+use tally::Tally;
+use tally::none;
 ghost use mathlib.Core.Path.{_≡_};
 ghost use mathlib.Core.Bool.{true};
 ghost use Rattle.table.specs.Laid.{FormedStore};
 ghost use Rattle.update.specs.Store.{tables};
 ghost use Rattle.delivery.specs.Message.{read, isWhole, areSectionsRight};
-ghost use Rattle.deliver.specs.Deliver.{tally, progress, addition, withdrawal, runMessage, delivered, deliver};
-
-// How many entries were applied, idle and refused.
-pub struct Tally {
-    pub applied: u32,
-    pub idle: u32,
-    pub refused: u32,
-}
+ghost use Rattle.tally.specs.Tally.{tally};
+ghost use Rattle.entry.specs.Entry.{addition, withdrawal};
+ghost use Rattle.section.specs.Section.{progress};
+ghost use Rattle.deliver.specs.Deliver.{runMessage, delivered, deliver};
 
 // The result of a delivery: 0 or the number that refused the whole, the delivery number, and the tallies.
 pub struct Delivered {

@@ -19,7 +19,8 @@ use Rattle.update.specs.Store.{Tables, areFormed, Contents, contentsOf}
 use Rattle.update.specs.Update.{withTriple, withoutTriple, isThere, isBelowCapacity, isKeptFitting, additionQuestions, withdrawalQuestions, decide, add, withdraw}
 use Rattle.store.proofs.Fitting.{contentsOf-put, Fitting, SameLengths, formed-fitting}
 use Rattle.store.proofs.Laws.{there-false, there-true, with-saturated, without-saturated, Saturated, add-lengths, withdraw-lengths, Sound, add-sound, withdraw-sound}
-use Rattle.deliver.specs.Deliver.{addition, withdrawal, messageQuestions, deliver}
+use Rattle.entry.specs.Entry.{addition, withdrawal}
+use Rattle.deliver.specs.Deliver.{messageQuestions, deliver}
 use Rattle.delivery.specs.Message.{read}
 use Rattle.ledger.specs.Ledger.{Capacities, capacities, Ledger, ledger, entering, leaving, isMember, isBelow, isFitting, entryQuestions, removalQuestions, settle, enter, remit, receive, ledgerEntries}
 use Rattle.ledger.specs.History.{storeEntries}

@@ -4,7 +4,10 @@ use mathlib.Core.Path.{_≡_, refl, ap, ap₂}
 use mathlib.Core.List.{List, [], _∷_}
 use Rattle.rdf.specs.declared.Triple.{Triple}
 use Rattle.delivery.specs.Message.{Message, numberFields, numberOf}
-use Rattle.deliver.specs.Deliver.{tally, tallied, Update, Progress, progress, runEntry, runEntries, runMessage, delivered, conclude}
+use Rattle.tally.specs.Tally.{tally, tallied}
+use Rattle.entry.specs.Entry.{Update}
+use Rattle.section.specs.Section.{Progress, progress, runEntry, runEntries}
+use Rattle.deliver.specs.Deliver.{runMessage, delivered, conclude}
 use Rattle.ledger.specs.Ledger.{Call, answered, resulted, Run, Entries, call, calls}
 
 module _ {A B : Type 0} (R : A → B → Type 0) where

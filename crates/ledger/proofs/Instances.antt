@@ -15,7 +15,9 @@ use Rattle.rdfs.specs.Saturation.{raise, raiseAll, saturation}
 use Rattle.update.specs.declared.Answer.the-variants.{Applied, Idle, Refused}
 use Rattle.update.specs.Store.{Tables, tables}
 use Rattle.delivery.specs.Message.{short, word, entriesFrom, sectionEnd, sectionStart, fieldEnd, fieldsFrom, fieldsEnd, numberFields, read, isWhole, areSectionsRight, isNumberRight, numberOf}
-use Rattle.deliver.specs.Deliver.{tally, tallied, runEntry, runEntries, runMessage, delivered, conclude}
+use Rattle.tally.specs.Tally.{tally, tallied}
+use Rattle.section.specs.Section.{runEntry, runEntries}
+use Rattle.deliver.specs.Deliver.{runMessage, delivered, conclude}
 use Rattle.ledger.specs.Ledger.{Call, Ledger, ledger, entering, leaving, isMember, isBelow, isFitting, settle, enter, remit, receive, Given, answered, resulted, Run, run, call, calls}
 use Rattle.ledger.specs.History.{storeRun, ledgerRun, laidOut}
 use Rattle.ledger.specs.Encoded.{callOf, callsFrom, encoded}

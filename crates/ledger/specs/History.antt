@@ -14,7 +14,8 @@ use Rattle.rdfs.specs.Entailment.{Holds, InGraph}
 use Rattle.rdfs.specs.Saturation.{saturation, keptRows, keptSupports, lookup, carriers}
 use Rattle.output.specs.Output.{Replied, areFitting, give}
 use Rattle.update.specs.Store.{Tables, tables}
-use Rattle.deliver.specs.Deliver.{addition, withdrawal, deliver}
+use Rattle.entry.specs.Entry.{addition, withdrawal}
+use Rattle.deliver.specs.Deliver.{deliver}
 use Rattle.query.specs.Question.{headCount, atoms, head, isQuestion, isHeadBound}
 use Rattle.query.specs.Answer.{IsAnswer, rewrittenGraph}
 use Rattle.query.specs.Ask.{questionRows, askKept, askRewritten}

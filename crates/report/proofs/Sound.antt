@@ -6,7 +6,10 @@ use Rattle.rdf.specs.Refusal.{firstNo}
 use Rattle.update.specs.Store.{Tables, areFormed}
 use Rattle.store.proofs.Laws.{Sound, add-sound, withdraw-sound}
 use Rattle.delivery.specs.Message.{Message, read}
-use Rattle.deliver.specs.Deliver.{Update, Progress, progress, tally, runEntry, runEntries, runMessage, addition, withdrawal, messageQuestions, conclude, deliver}
+use Rattle.tally.specs.Tally.{tally}
+use Rattle.entry.specs.Entry.{Update, addition, withdrawal}
+use Rattle.section.specs.Section.{Progress, progress, runEntry, runEntries}
+use Rattle.deliver.specs.Deliver.{runMessage, messageQuestions, conclude, deliver}
 
 -- Entries whose updates each leave it so, all together do.
 entries-sound : (update : Update Tables) → ((T : Tables) (t : Triple) → Sound T → Sound (update T t .1))

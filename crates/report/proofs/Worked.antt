@@ -14,7 +14,9 @@ use Rattle.rdfs.specs.Saturation.{raise, raiseAll, saturation}
 use Rattle.update.specs.Store.{contentsOf, keptOf, put}
 use Rattle.update.specs.Update.{withTriple, isThere, isBelowCapacity, isKeptFitting, decide, add as addition}
 use Rattle.delivery.specs.Message.{short, word, entriesFrom, sectionEnd, sectionStart, fieldEnd, fieldsFrom, fieldsEnd, numberFields, read, isWhole, areSectionsRight, isNumberRight, numberOf}
-use Rattle.deliver.specs.Deliver.{tallied, runEntry, runEntries, runMessage, conclude, deliver}
+use Rattle.tally.specs.Tally.{tallied}
+use Rattle.section.specs.Section.{runEntry, runEntries}
+use Rattle.deliver.specs.Deliver.{runMessage, conclude, deliver}
 use Rattle.report.specs.Text.{digits, decimal, resultLine, rowsLine, rowLine, rowLines, reportText, refusalText, outcomeText, response}
 
 -- The 94 bytes.

@@ -3,9 +3,10 @@ use mathlib.Core.Path.{_∙_}
 use mathlib.Core.Bool.{false}
 use native.Mathlib.Omega.{arith}
 use borrow.Author.Needs.{needs}
-use Rattle.deliver.specs.Deliver.{addition, withdrawal}
-use Rattle.deliver.specs.Running.{updateOf, section}
-use Rattle.deliver.proofs.Runs.{next-section}
+use Rattle.entry.specs.Entry.{addition, withdrawal}
+use Rattle.entry.specs.Running.{updateOf}
+use Rattle.section.specs.Running.{section}
+use Rattle.section.proofs.Runs.{next-section}
 use Rattle.deliver.proofs.Sections.{first-section, first-keeps, second-facts, still-formed, message-run}
 use Rattle.deliver.proofs.run_message.Statement.{statement}
 use Rattle.deliver.proofs.run_message.Tie as tie

@@ -1,0 +1,63 @@
+// A section of facts that are withdrawn: each can spoil the store.
+use entry::withdraw_fact;
+use tally::Tally;
+use tally::refused;
+use tally::tallied;
+ghost use mathlib.Core.Path.{_≡_};
+ghost use mathlib.Core.Bool.{true};
+ghost use Rattle.table.specs.Table.{all};
+ghost use Rattle.table.specs.Laid.{FormedStore};
+ghost use Rattle.update.specs.Store.{tables, areFormed};
+ghost use Rattle.delivery.specs.Message.{isFact};
+ghost use Rattle.entry.specs.Entry.{withdrawal};
+ghost use Rattle.section.specs.Section.{progress, runEntries};
+ghost use Rattle.section.specs.Running.{section, Next};
+
+// Facts' withdrawals: the tallies after them, and whether the store is well formed still.
+pub struct Withdrawals {
+    pub counted: Tally,
+    pub formed: bool,
+}
+
+// Runs the entries of section k over a well-formed store: facts that are withdrawn. Once one has spoilt the store, the others are
+// refused. A first bound of the supports is the number of facts; they are passed over only where the bound that is known is above it.
+pub fn withdraw_facts(
+    statements: &mut [u32],
+    facts: &mut [u32],
+    kept: &mut [u32],
+    supports: &mut [u16],
+    bytes: &[u8],
+    k: usize,
+    counted: Tally,
+) -> Withdrawals
+    requires { ⌜ FormedStore (now statements) (now facts) (now kept) (now supports) ⌝ }
+    requires { ⌜ Next (now bytes) k counted ⌝ }
+    requires { ⌜ all isFact (section (now bytes) k) ≡ true ⌝ }
+    ensures { λ r. ⌜ progress (tables (now (statements .exit)) (now (facts .exit)) (now (kept .exit)) (now (supports .exit))) (r .counted) ≡ runEntries withdrawal (section (now (bytes .entry)) k) (progress (tables (now (statements .entry)) (now (facts .entry)) (now (kept .entry)) (now (supports .entry))) counted) ⌝ }
+    ensures { λ r. ⌜ r .formed ≡ areFormed (tables (now (statements .exit)) (now (facts .exit)) (now (kept .exit)) (now (supports .exit))) ⌝ }
+{
+    let start = delivery::section_start(bytes, k);
+    let mut at = start + 2;
+    let mut left = delivery::short_at(bytes, start);
+    let mut sum = counted;
+    let mut most = facts[0] as usize;
+    while 0 < left {
+        let fact = delivery::entry_at(bytes, at);
+        let step = withdraw_fact(statements, facts, kept, supports, fact, most);
+        let answer = step.answer;
+        sum = tallied(sum, answer);
+        at += delivery::ENTRY_BYTES;
+        left -= 1;
+        most = step.bound;
+        if !step.formed {
+            return Withdrawals {
+                counted: refused(sum, left),
+                formed: false,
+            };
+        }
+    }
+    Withdrawals {
+        counted: sum,
+        formed: true,
+    }
+}
