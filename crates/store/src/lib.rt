@@ -53,7 +53,7 @@ pub fn add(
 ) -> Answer
     ensures { λ r. ⌜ outcome r (tables (now (statements .exit)) (now (facts .exit)) (now (kept .exit)) (now (supports .exit))) ≡ add (tables (now (statements .entry)) (now (facts .entry)) (now (kept .entry)) (now (supports .entry))) triple ⌝ }
 {
-    if !table::is_store(statements, facts, kept, supports) {
+    if !form::is_store(statements, facts, kept, supports) {
         return Answer::Refused(1);
     }
     add_to_formed(statements, facts, kept, supports, triple)
@@ -92,7 +92,7 @@ pub fn withdraw(
 ) -> Answer
     ensures { λ r. ⌜ outcome r (tables (now (statements .exit)) (now (facts .exit)) (now (kept .exit)) (now (supports .exit))) ≡ withdraw (tables (now (statements .entry)) (now (facts .entry)) (now (kept .entry)) (now (supports .entry))) triple ⌝ }
 {
-    if !table::is_store(statements, facts, kept, supports) {
+    if !form::is_store(statements, facts, kept, supports) {
         return Answer::Refused(1);
     }
     withdraw_from_formed(statements, facts, kept, supports, triple)
