@@ -1,7 +1,7 @@
 # make run: the worked example's delivery.  make test: everything that is proved, run and tried.  make bench: measured speed.
 SHELL := /bin/bash
 .SHELLFLAGS := -eu -o pipefail -c
-.PHONY: run test trial bench library cargo toolchain
+.PHONY: run test trial bench library jena cargo toolchain
 
 run: toolchain
 	@echo "proving and building the program (some minutes the first time) .." >&2
@@ -25,6 +25,28 @@ bench: library cargo
 library: toolchain
 	@echo "proving and building the exported library (some minutes the first time) .." >&2
 	@rt staticlib capi >target/staticlib.log 2>&1 || { cat target/staticlib.log; exit 1; }
+
+# Apache Jena as a server on standard input and output, for comparisons (peers/jena); `java @target/jena/server` starts it. Debian's
+# package has Xerces' texts under another path than its classes, so they are laid out again in front of the class path.
+JAVA := /usr/share/java
+JENA := target/jena
+JENA_JARS := jena-arq jena-core jena-base jena-iri slf4j-api slf4j-nop commons-lang3 commons-compress guava jsonld-java thrift
+NONE :=
+JENA_PATH := $(subst $(NONE) $(NONE),:,$(JENA)/classes $(JENA)/texts $(JENA_JARS:%=$(JAVA)/%.jar))
+
+jena: $(JENA)/server
+
+$(JENA)/server: peers/jena/rdfs.rules $(wildcard peers/jena/peer/*.java)
+	@command -v javac >/dev/null || $(call install,openjdk-17-jdk-headless,the Java compiler)
+	@test -e $(JAVA)/jena-arq.jar || $(call install,libapache-jena-java,Apache Jena)
+	@rm -rf $(JENA) && mkdir -p $(JENA)/classes $(JENA)/texts
+	@cd $(JENA)/texts && jar xf $(JAVA)/jena-core.jar org/apache/jena/ext/xerces && mv org/apache/jena/ext/xerces . && rm -r org
+	@javac -Xlint:all -cp $(JENA_PATH) -d $(JENA)/classes peers/jena/peer/*.java
+	@echo "-cp $(JENA_PATH) peer.Server peers/jena/rdfs.rules" >$@
+
+# Installs a Debian package, and says what it is for where that fails.
+install = { apt-get update -qq && apt-get install -y -qq --no-install-recommends $(1); } >&2 \
+	|| { echo "$(2) is missing, and apt-get could not install Debian's package $(1)" >&2; exit 1; }
 
 # Rust's compiler and its build tool; no crate from a registry is used.
 cargo:
