@@ -108,15 +108,6 @@ BEGIN
     RETURN since(start);
 END $$;
 
--- Saturates a loaded store.
-CREATE FUNCTION work() RETURNS bigint LANGUAGE plpgsql AS $$
-DECLARE
-    start timestamptz := clock_timestamp();
-BEGIN
-    CALL saturate();
-    RETURN since(start);
-END $$;
-
 -- A fact that is not there enters: the support of all it carries rises.
 CREATE FUNCTION add_fact(a bigint, b bigint, c bigint) RETURNS bigint LANGUAGE plpgsql AS $$
 DECLARE
@@ -144,13 +135,13 @@ BEGIN
     RETURN since(start);
 END $$;
 
--- A statement enters (sign 1) or leaves (sign -1): the supports change by what the facts carry through the closed statements that are
+-- A statement enters or leaves: the supports change by what the facts carry through the closed statements that are
 -- brought or taken away, and rows at 0 go.
-CREATE FUNCTION change_statement(sign int, a bigint, b bigint, c bigint) RETURNS bigint LANGUAGE plpgsql AS $$
+CREATE FUNCTION change_statement(enters boolean, a bigint, b bigint, c bigint) RETURNS bigint LANGUAGE plpgsql AS $$
 DECLARE
     start timestamptz := clock_timestamp();
 BEGIN
-    IF sign > 0 THEN
+    IF enters THEN
         INSERT INTO statement VALUES (a, b, c);
     ELSE
         DELETE FROM statement WHERE s = a AND p = b AND o = c;
@@ -165,7 +156,7 @@ BEGIN
     RETURN since(start);
 END $$;
 
--- Answers a question so many times: the time of each, from the text to the last row.
+-- Answers a question so many times: the times, from the text to the last row in memory.
 CREATE FUNCTION timed(question text, runs int) RETURNS SETOF bigint LANGUAGE plpgsql AS $$
 DECLARE
     start timestamptz;
@@ -175,4 +166,20 @@ BEGIN
         EXECUTE question;
         RETURN NEXT since(start);
     END LOOP;
+END $$;
+
+-- Updates by the triples given, one after another: how long they take together.
+CREATE FUNCTION update_given(adds boolean) RETURNS bigint LANGUAGE plpgsql AS $$
+DECLARE
+    triple record;
+    total bigint := 0;
+BEGIN
+    FOR triple IN SELECT * FROM given LOOP
+        total := total + CASE
+            WHEN triple.p BETWEEN 2 AND 5 THEN change_statement(adds, triple.s, triple.p, triple.o)
+            WHEN adds THEN add_fact(triple.s, triple.p, triple.o)
+            ELSE withdraw_fact(triple.s, triple.p, triple.o)
+        END;
+    END LOOP;
+    RETURN total;
 END $$;

@@ -30,6 +30,7 @@ import org.apache.jena.reasoner.rulesys.Rule;
  * text WORDS        the SPARQL text of a question                             ok TEXT
  * ask WORDS         a row of words for each answer of a question              ok COUNT
  * time N WORDS      answers a question N times, without giving its rows       ok COUNT NANOSECONDS, N of them
+ * ask-explicit TEXT, time-explicit N TEXT   likewise for SPARQL among the explicit triples, where w and a word stand for a node
  * </pre>
  *
  * After "work", "add" keeps what holds up to date. The nanoseconds of "add" and "withdraw" are those of the store, not of reading the
@@ -104,6 +105,10 @@ public final class Server {
                 return "ok " + ask(question(arguments));
             case "time":
                 return "ok " + time(Integer.parseInt(arguments.get(0)), question(arguments.subList(1, arguments.size())));
+            case "ask-explicit":
+                return "ok " + ask(new Question(arguments));
+            case "time-explicit":
+                return "ok " + time(Integer.parseInt(arguments.get(0)), new Question(arguments.subList(1, arguments.size())));
             default:
                 return "error no command: " + command;
         }
@@ -148,7 +153,7 @@ public final class Server {
     /** Prints the rows of a question: their number. */
     private long ask(Question question) {
         long[] count = {0};
-        store.ask(QueryFactory.create(question.text), row -> {
+        store.ask(QueryFactory.create(question.text), question.explicit, row -> {
             print(question.head.stream().map(row::get));
             count[0]++;
         });
@@ -162,7 +167,7 @@ public final class Server {
         StringBuilder each = new StringBuilder();
         for (int i = 0; i < times; i++) {
             count[0] = 0;
-            long time = nanoseconds(() -> store.ask(query, row -> {
+            long time = nanoseconds(() -> store.ask(query, question.explicit, row -> {
                 question.head.forEach(row::get);
                 count[0]++;
             }));

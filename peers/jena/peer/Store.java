@@ -61,9 +61,9 @@ final class Store {
         triples.filterDrop(triple -> OF_STATEMENTS.contains(triple.getPredicate())).forEachRemaining(each);
     }
 
-    /** Gives each row of a question among what holds; the query is the question's text, parsed. */
-    void ask(Query query, Consumer<Binding> each) {
-        Model model = ModelFactory.createModelForGraph(holding);
+    /** Gives each row of a question among the explicit triples or all that hold; the query is the question's text, parsed. */
+    void ask(Query query, boolean amongExplicit, Consumer<Binding> each) {
+        Model model = ModelFactory.createModelForGraph(amongExplicit ? explicit : holding);
         try (QueryExecution execution = QueryExecutionFactory.create(query, model)) {
             ResultSet rows = execution.execSelect();
             while (rows.hasNext()) {
