@@ -1,7 +1,9 @@
 //! Our library by itself: ways of loading, and lone updates, listings and deliveries beside one memcpy of the store's tables or question 1.
 
 use crate::clock::{median, milliseconds, ratio, repeated, timed};
+use crate::contest::Contestant;
 use crate::library::{Store, Table, Triple, Way};
+use crate::ours::Ours;
 use crate::tables::{grouped, time};
 use crate::workload::{self, delivery, Mix};
 use crate::{progress, Scale};
@@ -33,8 +35,15 @@ fn saturated(statements: &[Triple], facts: &[Triple]) -> Store {
     store
 }
 
+/// How long our library takes to load and saturate the triples, by deliveries, in the order in which they come.
+fn delivered(statements: &[Triple], facts: &[Triple]) -> Duration {
+    Ours::new().load(statements, facts).expect("deliveries that are applied")
+}
+
 /// Ways of loading, and updates without statements, where a fact carries itself alone.
 pub struct Alone {
+    /// Deliveries, the facts in ascending order.
+    pub ascending: Duration,
     /// The facts are lent as a table, and one delivery adds the statements.
     pub statements_delivered: Duration,
     /// All is lent but one statement, which is added: the kept facts are worked out afresh, once.
@@ -60,7 +69,10 @@ impl Alone {
             timed(|| assert_eq!(store.add(*last), 0)).0
         };
         let store = saturated(statements, facts);
+        let mut ascending = facts.to_vec();
+        ascending.sort();
         Alone {
+            ascending: median((0..scale.rounds).map(|_| delivered(statements, &ascending)).collect()),
             statements_delivered: median((0..scale.rounds).map(by_delivery).collect()),
             afresh: median((0..scale.rounds).map(by_one).collect()),
             plain: updates(&mut lent(&[], facts), &spread(facts, 50)),

@@ -5,13 +5,13 @@ const COLOURS: [&str; 4] = ["#d62728", "#1f77b4", "#2ca02c", "#7f3fbf"];
 
 /// The size of the drawing area of a panel, and of the panel with its texts.
 const AREA: (f64, f64) = (250.0, 170.0);
-const PANEL: (f64, f64) = (330.0, 260.0);
+const PANEL: (f64, f64) = (330.0, 270.0);
 
 /// Panels beside each other, and the height of the legend above them.
 const ACROSS: usize = 3;
 const LEGEND: f64 = 50.0;
 
-/// A measure: its title, and for each contestant its milliseconds at each size.
+/// A measure: its title, in which a semicolon starts a second line, and for each contestant its milliseconds at each size.
 pub struct Panel {
     pub title: String,
     pub lines: Vec<Vec<f64>>,
@@ -44,7 +44,7 @@ pub fn plot(names: &[&str], sizes: &[usize], panels: &[Panel]) -> String {
         out += &text(x + 44.0, 28.0, "start", name);
     }
     for (i, panel) in panels.iter().enumerate() {
-        let (x, y) = ((i % ACROSS) as f64 * PANEL.0 + 60.0, (i / ACROSS) as f64 * PANEL.1 + LEGEND + 30.0);
+        let (x, y) = ((i % ACROSS) as f64 * PANEL.0 + 60.0, (i / ACROSS) as f64 * PANEL.1 + LEGEND + 40.0);
         out += &format!("<g transform=\"translate({x} {y})\">\n{}</g>\n", drawn(panel, sizes));
     }
     out + "</svg>\n"
@@ -69,7 +69,9 @@ fn drawn(panel: &Panel, sizes: &[usize]) -> String {
     let x = Axis { from: sizes[0] as f64, to: sizes[sizes.len() - 1] as f64, length: AREA.0 };
     let y = Axis { from: 10f64.powi(least), to: 10f64.powi(most.max(least + 1)), length: AREA.1 };
     let mut out = format!("<rect width=\"{}\" height=\"{}\" fill=\"none\" stroke=\"#888\"/>\n", AREA.0, AREA.1);
-    out += &format!("<text x=\"{}\" y=\"-10\" text-anchor=\"middle\" font-weight=\"bold\">{}</text>\n", AREA.0 / 2.0, panel.title);
+    for (line, part) in panel.title.split("; ").enumerate() {
+        out += &text(AREA.0 / 2.0, -22.0 + 14.0 * line as f64, "middle", part);
+    }
     for decade in least..=most.max(least + 1) {
         let at = AREA.1 - y.place(10f64.powi(decade));
         out += &format!("<path d=\"M0 {at:.1}h{}\" stroke=\"#ddd\"/>\n", AREA.0);

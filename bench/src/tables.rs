@@ -70,7 +70,8 @@ pub fn loads(names: &[&str], contest: &Contest, alone: &Alone) -> String {
     let times = taken(contest, |f| f.load);
     let mut out = head(&["our way"], names);
     for (name, ours) in [
-        ("deliveries, the statements first", times[0]),
+        ("deliveries, the statements first, the facts in no order", times[0]),
+        ("the same, the facts in ascending order", alone.ascending),
         ("the facts lent as a table, one delivery of the statements", alone.statements_delivered),
         ("all lent as tables but one statement, which is added", alone.afresh),
     ] {
@@ -131,7 +132,7 @@ pub fn measures(questions: &[(&'static str, Vec<u32>)], changed: usize) -> Vec<(
     ];
     for (way, word) in ["kept way", "rewritten way"].into_iter().enumerate() {
         for (i, (name, _)) in questions.iter().enumerate() {
-            out.push((format!("{name}, {word}"), Box::new(move |f| f.questions[i][way])));
+            out.push((format!("{name}; {word}"), Box::new(move |f| f.questions[i][way])));
         }
     }
     out

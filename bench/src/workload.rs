@@ -18,9 +18,9 @@ impl Random {
     }
 }
 
-const CLASS: u32 = 1_000;
-const PROPERTY: u32 = 2_000;
-const THING: u32 = 10_000;
+pub const CLASS: u32 = 1_000;
+pub const PROPERTY: u32 = 2_000;
+pub const THING: u32 = 10_000;
 
 /// So many statements: half of them subclasses in a forest, the others subproperties, domains and ranges.
 pub fn statements(n: usize) -> Vec<Triple> {
@@ -76,6 +76,15 @@ pub fn facts(n: usize, statements: usize, mix: Mix, seed: u64) -> Vec<Triple> {
         set.insert(fact);
     }
     set.into_iter().collect()
+}
+
+/// The same facts in another order.
+pub fn shuffled(mut facts: Vec<Triple>, seed: u64) -> Vec<Triple> {
+    let mut random = Random::new(seed);
+    for i in (1..facts.len()).rev() {
+        facts.swap(i, random.below(i as u32 + 1) as usize);
+    }
+    facts
 }
 
 /// A delivery that withdraws and adds these: statements withdrawn, facts withdrawn, statements added, facts added.
