@@ -18,9 +18,9 @@ impl Random {
     }
 }
 
-const CLASS: u32 = 1_000;
-const PROPERTY: u32 = 2_000;
-const THING: u32 = 10_000;
+pub const CLASS: u32 = 1_000;
+pub const PROPERTY: u32 = 2_000;
+pub const THING: u32 = 10_000;
 
 /// So many statements: half of them subclasses in a forest, the others subproperties, domains and ranges.
 pub fn statements(n: usize) -> Vec<Triple> {
