@@ -45,24 +45,79 @@ fn ask(session: &mut Session, words: &[u32], rows: usize) -> Result<(), Failure>
     Ok(())
 }
 
+/// The lengths of the tables of a small store: tight ones now and then.
+fn lengths(random: &mut Random) -> [usize; 4] {
+    if random.once_in(4) {
+        return histories::lengths(random);
+    }
+    [Store::words(60), Store::words(80), Store::words(800), 800]
+}
+
+/// Names in a line: many classes and properties, and few things.
+fn lined_names(random: &mut Random) -> Names {
+    let length = random.between(2, 15) as u32;
+    Names {
+        classes: (100..100 + length).chain([generate::BLANK + 1]).collect(),
+        properties: (200..200 + length).collect(),
+        things: (32..32 + random.between(1, 6) as u32).collect(),
+        literals: vec![generate::LITERAL + 1],
+    }
+}
+
+/// A delivery that makes a chain of the classes and one of the properties, or a loop of each, and
+/// gives many facts one object.
+fn backbone(random: &mut Random, names: &Names) -> Call {
+    let mut statements = Vec::new();
+    for (step, line) in [(SUBCLASS, &names.classes), (SUBPROPERTY, &names.properties)] {
+        statements.extend(line.windows(2).map(|pair| [pair[0], step, pair[1]]));
+        if random.once_in(2) {
+            statements.push([line[line.len() - 1], step, line[0]]);
+        }
+    }
+    let last = names.properties[names.properties.len() - 1];
+    statements.push([last, random.pick(&[DOMAIN, RANGE]), names.classes[0]]);
+    let hub = random.pick(&names.things);
+    let facts = names
+        .things
+        .iter()
+        .map(|thing| [*thing, names.properties[0], hub]);
+    let sections = [vec![], vec![], statements, facts.collect()];
+    let fields = vec![];
+    Call::Deliver(Parts { sections, fields }.bytes())
+}
+
+/// Puts some questions to the store as it is.
+fn ask_some(random: &mut Random, names: &Names, session: &mut Session) -> Result<(), Failure> {
+    for _ in 0..4 {
+        let model = session.harness.model;
+        let words = generate::question(random, names, &model, &session.store);
+        let rows = model.ask_way(&session.store, Way::Kept, &words);
+        ask(session, &words, rows.map_or(0, |r| r.len()))?;
+    }
+    Ok(())
+}
+
 /// A small store grown from empty, asked some questions now and then.
-pub fn small(harness: &mut Harness, seed: u64) -> Result<(), Failure> {
+fn small(harness: &mut Harness, seed: u64) -> Result<(), Failure> {
     let mut random = Random::new(seed);
-    let names = Names::random(&mut random);
+    let lined = random.once_in(3);
+    let names = if lined {
+        lined_names(&mut random)
+    } else {
+        Names::random(&mut random)
+    };
     let mut session = Session::new(harness);
-    session.run(Command::Empty(histories::lengths(&mut random)))?;
+    session.run(Command::Empty(lengths(&mut random)))?;
+    if lined {
+        session.call(backbone(&mut random, &names))?;
+    }
     let withdrawals = random.between(2, 12);
     for _ in 0..3 {
-        for _ in 0..random.between(4, 24) {
+        for _ in 0..random.between(4, 40) {
             let call = histories::change(&mut random, &names, &session.store, withdrawals);
             session.call(call)?;
         }
-        for _ in 0..4 {
-            let model = session.harness.model;
-            let words = generate::question(&mut random, &names, &model, &session.store);
-            let rows = model.ask_way(&session.store, Way::Kept, &words);
-            ask(&mut session, &words, rows.map_or(0, |r| r.len()))?;
-        }
+        ask_some(&mut random, &names, &mut session)?;
     }
     Ok(())
 }
@@ -109,13 +164,13 @@ fn more_questions() -> Vec<Vec<u32>> {
         question(
             &[
                 [p, SUBPROPERTY, PROPERTY],
-                [THING + 40, p, x],
-                [x, TYPE, y],
-                [y, SUBCLASS, z],
+                [x, p, y],
+                [y, TYPE, CLASS + 40],
+                [CLASS + 40, SUBCLASS, z],
             ],
             &[x, z],
         ),
-        question(&[[x, PROPERTY + 1, x]], &[x]),
+        question(&[[x, p, x]], &[p, x]),
         question(
             &[[x, TYPE, CLASS + 40], [y, SUBPROPERTY, PROPERTY + 1]],
             &[y, x],
@@ -153,8 +208,7 @@ pub fn plant(harness: &mut Harness, (name, from, to): Fault, path: &Path) {
 /// Gives Jena a file of rules.
 fn use_rules(harness: &mut Harness, path: &Path) {
     let peer = harness.peer.as_mut().expect("Jena has not been started");
-    peer.jena.use_rules(path);
-    peer.forget();
+    peer.use_rules(path);
 }
 
 /// The small stores of a run, by number.

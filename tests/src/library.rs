@@ -73,23 +73,26 @@ pub struct Library {
     pub fault: Option<Fault>,
 }
 
-/// Deliberate faults: memory that a listing is told of and that was not lent.
+/// Deliberate faults: a listing that is told of other memory than was lent.
 #[derive(Clone, Copy, PartialEq, Eq)]
 pub enum Fault {
     /// The table is said to have one word more, which is read.
     ReadPast,
     /// The output is said to have one word more, which is written.
     WritePast,
+    /// The output is said to have one word less, so that its last word is never written.
+    Unwritten,
 }
 
 impl Fault {
-    pub const ALL: [Fault; 2] = [Fault::ReadPast, Fault::WritePast];
+    pub const ALL: [Fault; 3] = [Fault::ReadPast, Fault::WritePast, Fault::Unwritten];
 
     /// The name by which the command line calls a fault.
     pub fn name(self) -> &'static str {
         match self {
             Fault::ReadPast => "read-past",
             Fault::WritePast => "write-past",
+            Fault::Unwritten => "unwritten",
         }
     }
 }
@@ -296,8 +299,12 @@ impl Library {
         let words = Library::lend(&mut self.statements, table, null);
         let rows = self.lend_rows(output);
         let count = self.small.lend_output(&[RUBBISH]);
-        let read = table.len() + usize::from(self.fault == Some(Fault::ReadPast));
-        let written = output.len() + usize::from(self.fault == Some(Fault::WritePast));
+        let (read, written) = match self.fault {
+            None => (table.len(), output.len()),
+            Some(Fault::ReadPast) => (table.len() + 1, output.len()),
+            Some(Fault::WritePast) => (table.len(), output.len() + 1),
+            Some(Fault::Unwritten) => (table.len(), output.len() - 1),
+        };
         // SAFETY: each pointer is that of a slice of the length given, apart from the others, unless
         // a fault is planted.
         let number = unsafe { f(words, read, order, rows, written, count) };

@@ -169,7 +169,10 @@ fn print_script(what: &str, text: &str, path: &Path) {
     if text.len() < 20_000 {
         println!("{text}");
     }
-    println!("the script is in {}; run it with --replay", path.display());
+    println!(
+        "the script is in {}; run it with --replay, in the same part",
+        path.display()
+    );
 }
 
 /// Reports a difference with the shortest script found, and ends.
@@ -321,7 +324,7 @@ fn each_kind(counts: &Counts) -> String {
 
 /// The model's histories, and the small stores beside Jena, where nothing else is asked.
 const HISTORIES: u64 = 15_000;
-const STORES: u64 = 400;
+const STORES: u64 = 1000;
 
 /// The part `Model`: everything that random and directed calls give, beside the model.
 fn model_part(harness: &mut Harness, options: &Options) {

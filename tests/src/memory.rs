@@ -62,7 +62,6 @@ pub fn run(seed: u64) {
 /// A listing of a table of one row, with a planted fault.
 pub fn fail(fault: Fault) {
     let mut harness = Harness::new(Model::default(), Memory::Heap);
-    harness.model_judges = false;
     let mut session = Session::new(&mut harness);
     let lengths = [Store::words(1); 4];
     let output = Output { words: 6, fill: 1 };
@@ -81,9 +80,9 @@ pub fn fail(fault: Fault) {
 
 /// The cases of the sample: what runs one, and how many.
 const CASES: [(fn(&mut Harness, u64) -> Result<(), Failure>, u64); 3] = [
-    (histories::grown, 100),
-    (histories::lent, 100),
-    (histories::damaged, 300),
+    (histories::grown, 300),
+    (histories::lent, 300),
+    (histories::damaged, 900),
 ];
 
 /// Runs the sample; the place and the failure of the first difference.

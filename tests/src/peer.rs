@@ -6,13 +6,14 @@ use crate::model::terms::*;
 use crate::session::Outcome;
 use crate::store::Store;
 use std::fmt;
+use std::path::Path;
 
 /// The rows of each side that a difference shows.
 const SHOWN: usize = 20;
 
 /// Jena, what it was told last, and what has been compared.
 pub struct Peer {
-    pub jena: Jena,
+    jena: Jena,
     /// The words of the statements and facts whose triples Jena has.
     told: [Vec<u32>; 2],
     pub seen: Seen,
@@ -71,7 +72,7 @@ impl Peer {
         if self.told.each_ref() == explicit {
             return Ok(());
         }
-        self.forget();
+        self.told = Default::default();
         let triples: Vec<Triple> = explicit.into_iter().flat_map(|t| rows_of(t)).collect();
         let kept: Rows = rows_of(&store.kept).map(|row| row.to_vec()).collect();
         same("the facts that hold", &kept, self.jena.load(&triples))?;
@@ -81,9 +82,11 @@ impl Peer {
         Ok(())
     }
 
-    /// Has the next store told afresh.
-    pub fn forget(&mut self) {
+    /// Gives Jena a file of rules, and forgets what was told and compared before.
+    pub fn use_rules(&mut self, rules: &Path) {
+        self.jena.use_rules(rules);
         self.told = Default::default();
+        self.seen = Seen::default();
     }
 }
 
