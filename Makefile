@@ -1,7 +1,7 @@
 # make run: the worked example's delivery.  make test: everything that is proved, run and tried.  make bench: measured speed.
 SHELL := /bin/bash
 .SHELLFLAGS := -eu -o pipefail -c
-.PHONY: run test trial bench library jena cargo toolchain
+.PHONY: run test trial bench library jena valgrind cargo toolchain
 
 run: toolchain
 	@echo "proving and building the program (some minutes the first time) .." >&2
@@ -15,9 +15,13 @@ test: toolchain cargo
 	$(MAKE) --no-print-directory trial; \
 	tail -n 1 "$$log"
 
-# The exported library against an independent model.
-trial: library cargo
-	@CARGO_TARGET_DIR=target/tests cargo run --release --offline --quiet --manifest-path tests/Cargo.toml
+# The exported library beside an independent model, beside Apache Jena, and under valgrind.
+TRIAL := CARGO_TARGET_DIR=target/tests cargo run --release --offline --quiet --manifest-path tests/Cargo.toml --
+
+trial: library cargo jena valgrind
+	@$(TRIAL)
+	@$(TRIAL) --part jena
+	@$(TRIAL) --part memory
 
 bench: library cargo
 	@CARGO_TARGET_DIR=target/bench cargo run --release --offline --quiet --manifest-path bench/Cargo.toml
@@ -41,16 +45,19 @@ $(JENA)/server: peers/jena/rdfs.rules $(wildcard peers/jena/peer/*.java)
 	@test -e $(JAVA)/jena-arq.jar || $(call install,libapache-jena-java,Apache Jena)
 	@rm -rf $(JENA) && mkdir -p $(JENA)/classes $(JENA)/texts
 	@cd $(JENA)/texts && jar xf $(JAVA)/jena-core.jar org/apache/jena/ext/xerces && mv org/apache/jena/ext/xerces . && rm -r org
-	@javac -Xlint:all -cp $(JENA_PATH) -d $(JENA)/classes peers/jena/peer/*.java
+	@javac -Xlint:all,-path -cp $(JENA_PATH) -d $(JENA)/classes peers/jena/peer/*.java
 	@echo "-cp $(JENA_PATH) peer.Server peers/jena/rdfs.rules" >$@
 
 # Installs a Debian package, and says what it is for where that fails.
 install = { apt-get update -qq && apt-get install -y -qq --no-install-recommends $(1); } >&2 \
 	|| { echo "$(2) is missing, and apt-get could not install Debian's package $(1)" >&2; exit 1; }
 
-# Rust's compiler and its build tool; no crate from a registry is used.
+# Rust's compiler and its build tool; no crate from a registry is used. Debian 12 has a later one under another name.
 cargo:
-	@command -v cargo >/dev/null || { apt-get update -qq && apt-get install -y -qq cargo; } >&2
+	@command -v cargo >/dev/null || $(call install,cargo-web,Rust's build tool cargo)
+
+valgrind:
+	@command -v valgrind >/dev/null || $(call install,valgrind,valgrind)
 
 # What all need: the Rattle toolchain's command `rt`, and a place for what it makes.
 toolchain:
