@@ -1,7 +1,7 @@
 # make run: the worked example's delivery.  make test: everything that is proved, run and tried.  make bench: measured speed.
 SHELL := /bin/bash
 .SHELLFLAGS := -eu -o pipefail -c
-.PHONY: run test trial bench library jena valgrind cargo toolchain
+.PHONY: run test trial bench bench-docs library jena prolog postgres valgrind cargo toolchain
 
 run: toolchain
 	@echo "proving and building the program (some minutes the first time) .." >&2
@@ -23,8 +23,17 @@ trial: library cargo jena valgrind
 	@$(TRIAL) --part jena
 	@$(TRIAL) --part memory
 
-bench: library cargo
-	@CARGO_TARGET_DIR=target/bench cargo run --release --offline --quiet --manifest-path bench/Cargo.toml
+# The exported library beside the peers named, and alone: target/bench/report.md and target/bench/plot.svg. `make bench BENCH_PEERS=` runs
+# it alone; `make bench BENCH_OPTIONS=--quick` takes a small workload.
+BENCH_PEERS ?= prolog postgres jena
+BENCH_OPTIONS ?=
+
+bench: library cargo $(BENCH_PEERS)
+	@CARGO_TARGET_DIR=target/bench cargo run --release --offline --quiet --manifest-path bench/Cargo.toml -- $(BENCH_PEERS) $(BENCH_OPTIONS)
+
+# The same, and the tables in docs/BENCHMARKS.md and docs/benchmarks.svg are those of this run.
+bench-docs:
+	@$(MAKE) --no-print-directory bench BENCH_OPTIONS=--docs
 
 library: toolchain
 	@echo "proving and building the exported library (some minutes the first time) .." >&2
@@ -47,6 +56,13 @@ $(JENA)/server: peers/jena/rdfs.rules $(wildcard peers/jena/peer/*.java)
 	@cd $(JENA)/texts && jar xf $(JAVA)/jena-core.jar org/apache/jena/ext/xerces && mv org/apache/jena/ext/xerces . && rm -r org
 	@javac -Xlint:all,-path -cp $(JENA_PATH) -d $(JENA)/classes peers/jena/peer/*.java
 	@echo "-cp $(JENA_PATH) peer.Server peers/jena/rdfs.rules" >$@
+
+# The two other peers of the bench.
+prolog:
+	@command -v swipl >/dev/null || $(call install,swi-prolog-nox,SWI-Prolog)
+
+postgres:
+	@test -x /usr/lib/postgresql/15/bin/initdb || $(call install,postgresql-15,PostgreSQL 15)
 
 # Installs a Debian package, and says what it is for where that fails.
 install = { apt-get update -qq && apt-get install -y -qq --no-install-recommends $(1); } >&2 \

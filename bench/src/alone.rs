@@ -1,10 +1,10 @@
 //! Our library by itself: ways of loading, and lone updates, listings and deliveries beside one memcpy of the store's tables or question 1.
 
-use crate::clock::{median, milliseconds, ratio, repeated, timed};
+use crate::clock::{median, repeated, timed};
 use crate::contest::Contestant;
 use crate::library::{Store, Table, Triple, Way};
 use crate::ours::Ours;
-use crate::tables::{grouped, time};
+use crate::tables::{grouped, time, times};
 use crate::workload::{self, delivery, Mix};
 use crate::{progress, Scale};
 use std::time::Duration;
@@ -119,7 +119,7 @@ pub fn spread(triples: &[Triple], n: usize) -> Vec<Triple> {
 
 /// A time, and in brackets how many of a unit it is worth.
 fn cell(duration: Duration, unit: Duration) -> String {
-    format!("{} ({:.1})", time(duration), ratio(duration, unit))
+    format!("{} ({})", time(duration), times(duration, unit))
 }
 
 /// Lone updates on stores of several sizes.
@@ -171,8 +171,8 @@ pub fn deliveries(scale: &Scale, statements: &[Triple]) -> String {
         repeated(21, || assert_eq!(store.deliver(&[]).0, 9))
     };
     let mut out = format!(
-        "A store of {} facts, {} statements and {} kept rows; question 1 alone takes {:.2} ms.\n\n",
-        grouped(old.len()), first.len(), grouped(store.kept[0] as usize), milliseconds(unit)
+        "A store of {} facts, {} statements and {} kept rows; question 1 alone takes {}.\n\n",
+        grouped(old.len()), first.len(), grouped(store.kept[0] as usize), time(unit)
     );
     out += "| delivery | time (in brackets: how many times question 1) |\n|---|---|\n";
     for (name, count, bytes) in [

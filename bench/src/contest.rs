@@ -1,13 +1,8 @@
 //! What our library and the programs beside it are all asked to do.
 
 use crate::library::{Triple, Way};
+pub use crate::pipe::{Outcome, Rows};
 use std::time::Duration;
-
-/// A result, or the words that end the run.
-pub type Outcome<T> = Result<T, String>;
-
-/// Rows of words.
-pub type Rows = Vec<Vec<u32>>;
 
 /// What an update does with its triple.
 #[derive(Clone, Copy, PartialEq)]

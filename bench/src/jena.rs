@@ -83,9 +83,7 @@ impl Contestant for Jena {
 
     fn load(&mut self, statements: &[Triple], facts: &[Triple]) -> Outcome<Duration> {
         self.rewriter.load(statements)?;
-        self.pipe.call("clear\n")?;
-        let loaded = self.pipe.time(&with_triples("add", &[statements, facts].concat()))?;
-        Ok(loaded + self.pipe.time("work\n")?)
+        self.pipe.load(&[statements, facts].concat())
     }
 
     /// Of some withdrawals one by one, the first is timed alone and the others are made in one go.
@@ -111,8 +109,11 @@ impl Contestant for Jena {
         change == Change::Withdraw
     }
 
+    /// A fact that followed before it became explicit is listed twice.
     fn kept(&mut self) -> Outcome<Rows> {
         let mut rows = self.pipe.call("facts\n")?.rows;
+        rows.sort();
+        rows.dedup();
         rows.iter_mut().for_each(|row| row.push(0));
         Ok(rows)
     }
@@ -125,6 +126,6 @@ impl Contestant for Jena {
     fn times(&mut self, way: Way, question: &[u32], runs: usize) -> Outcome<Vec<Duration>> {
         let request = format!("{} {} {}\n", Jena::command(way, "time"), WARM + runs, self.question(way, question)?);
         let answer = self.pipe.call(&request)?;
-        Ok(answer.last[1 + WARM..].iter().map(|&n| Duration::from_nanos(n)).collect())
+        Ok(answer.times()[1 + WARM..].to_vec())
     }
 }

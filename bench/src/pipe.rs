@@ -1,10 +1,14 @@
 //! A program that is driven by lines on its standard input and answers by lines on its standard output.
 
-use crate::contest::{Outcome, Rows};
-use crate::library::Triple;
 use std::io::{BufRead, BufReader, Write};
 use std::process::{Child, ChildStdin, ChildStdout, Command, Stdio};
 use std::time::Duration;
+
+/// A result, or the words that say why there is none.
+pub type Outcome<T> = Result<T, String>;
+
+/// Rows of words.
+pub type Rows = Vec<Vec<u32>>;
 
 /// The running program.
 pub struct Pipe {
@@ -14,10 +18,17 @@ pub struct Pipe {
     output: BufReader<ChildStdout>,
 }
 
-/// An answer: lines of numbers, and the numbers behind "ok" on its last line.
+/// An answer: rows of words, and what stands behind "ok" on the last line.
 pub struct Answer {
     pub rows: Rows,
-    pub last: Vec<u64>,
+    pub last: String,
+}
+
+impl Answer {
+    /// The numbers on the last line, as times in nanoseconds.
+    pub fn times(&self) -> Vec<Duration> {
+        self.last.split_whitespace().filter_map(|word| word.parse().ok()).map(Duration::from_nanos).collect()
+    }
 }
 
 impl Pipe {
@@ -42,10 +53,10 @@ impl Pipe {
                 Ok(_) => {}
             }
             if let Some(rest) = line.strip_prefix("ok") {
-                return Ok(Answer { rows, last: numbers(rest).ok_or_else(|| self.fault(request, &line))? });
+                return Ok(Answer { rows, last: rest.trim().to_string() });
             }
-            let row = numbers(&line).ok_or_else(|| self.fault(request, &line))?;
-            rows.push(row.into_iter().map(|n| n as u32).collect());
+            let row: Result<Vec<u32>, _> = line.split_whitespace().map(str::parse).collect();
+            rows.push(row.map_err(|_| self.fault(request, &line))?);
         }
     }
 
@@ -57,8 +68,14 @@ impl Pipe {
 
     /// Sends a request whose answer is one time in nanoseconds.
     pub fn time(&mut self, request: &str) -> Outcome<Duration> {
-        let answer = self.call(request)?;
-        answer.last.first().map(|&n| Duration::from_nanos(n)).ok_or_else(|| self.fault(request, "no time"))
+        let times = self.call(request)?.times();
+        times.first().copied().ok_or_else(|| self.fault(request, "no time"))
+    }
+
+    /// Has a server of the line protocol load triples into an empty store, and work out what holds: how long the two take.
+    pub fn load(&mut self, triples: &[[u32; 3]]) -> Outcome<Duration> {
+        self.call("clear\n")?;
+        Ok(self.time(&with_triples("add", triples))? + self.time("work\n")?)
     }
 }
 
@@ -70,13 +87,8 @@ impl Drop for Pipe {
     }
 }
 
-/// The numbers on a line.
-fn numbers(line: &str) -> Option<Vec<u64>> {
-    line.split_whitespace().map(|word| word.parse().ok()).collect()
-}
-
 /// A command with the lines of its triples.
-pub fn with_triples(command: &str, triples: &[Triple]) -> String {
+pub fn with_triples(command: &str, triples: &[[u32; 3]]) -> String {
     let mut text = format!("{command} {}\n", triples.len());
     text.extend(triples.iter().map(|t| format!("{} {} {}\n", t[0], t[1], t[2])));
     text

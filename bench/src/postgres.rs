@@ -118,6 +118,6 @@ impl Contestant for Postgres {
     fn times(&mut self, way: Way, question: &[u32], runs: usize) -> Outcome<Vec<Duration>> {
         let select = select(way, &self.rewriter.question(question)?);
         let answer = self.pipe.call(&format!("SELECT 'ok ' || string_agg(time::text, ' ') FROM timed('{select}', {runs}) time;\n"))?;
-        Ok(answer.last.iter().map(|&n| Duration::from_nanos(n)).collect())
+        Ok(answer.times())
     }
 }

@@ -77,9 +77,7 @@ impl Contestant for Prolog {
 
     fn load(&mut self, statements: &[Triple], facts: &[Triple]) -> Outcome<Duration> {
         self.rewriter.load(statements)?;
-        self.pipe.call("clear\n")?;
-        let loaded = self.pipe.time(&with_triples("add", &[statements, facts].concat()))?;
-        Ok(loaded + self.pipe.time("work\n")?)
+        self.pipe.load(&[statements, facts].concat())
     }
 
     fn update(&mut self, change: Change, triples: &[Triple]) -> Outcome<Duration> {
@@ -99,6 +97,6 @@ impl Contestant for Prolog {
     fn times(&mut self, way: Way, question: &[u32], runs: usize) -> Outcome<Vec<Duration>> {
         let clause = self.clause(way, question)?;
         let answer = self.pipe.call(&format!("time {runs} {clause}\n"))?;
-        Ok(answer.last[1..].iter().map(|&n| Duration::from_nanos(n)).collect())
+        Ok(answer.times()[1..].to_vec())
     }
 }

@@ -13,34 +13,27 @@ pub fn grouped(n: usize) -> String {
     parts.join(",")
 }
 
-/// A time in milliseconds, with three digits or more.
-pub fn time(duration: Duration) -> String {
-    format!("{} ms", three(milliseconds(duration)))
+/// A number with so many digits or more, and at most three behind the point.
+fn digits(x: f64, n: i32) -> String {
+    match n - 1 - x.log10().floor() as i32 {
+        decimals if decimals > 0 => format!("{x:.*}", decimals.min(3) as usize),
+        _ => grouped(x.round() as usize),
+    }
 }
 
-/// A number with three digits or more.
-fn three(x: f64) -> String {
-    match x {
-        x if x >= 99.5 => grouped(x.round() as usize),
-        x if x >= 9.95 => format!("{x:.1}"),
-        x if x >= 0.995 => format!("{x:.2}"),
-        _ => format!("{x:.3}"),
-    }
+/// A time in milliseconds.
+pub fn time(duration: Duration) -> String {
+    format!("{} ms", digits(milliseconds(duration), 3))
+}
+
+/// A ratio of two times.
+pub fn times(time: Duration, unit: Duration) -> String {
+    digits(ratio(time, unit), 2)
 }
 
 /// A part of a whole.
 pub fn percent(part: Duration, whole: Duration) -> String {
-    format!("{} %", two(100.0 * ratio(part, whole)))
-}
-
-/// A ratio with two digits or more.
-fn two(x: f64) -> String {
-    match x {
-        x if x >= 9.95 => grouped(x.round() as usize),
-        x if x >= 0.995 => format!("{x:.1}"),
-        x if x >= 0.0995 => format!("{x:.2}"),
-        _ => format!("{x:.3}"),
-    }
+    format!("{} %", digits(100.0 * ratio(part, whole), 2))
 }
 
 /// The head of a table whose last columns are ours and the others.
@@ -51,7 +44,7 @@ fn head(first: &[&str], names: &[&str]) -> String {
 
 /// Our time and the ratio of each other one to it.
 fn cells(ours: Duration, others: &[Duration]) -> String {
-    let ratios: String = others.iter().map(|&other| format!(" | {}", two(ratio(other, ours)))).collect();
+    let ratios: String = others.iter().map(|&other| format!(" | {}", times(other, ours))).collect();
     format!("{}{ratios}", time(ours))
 }
 
@@ -61,21 +54,21 @@ fn taken(contest: &Contest, pick: impl Fn(&Figures) -> Duration) -> Vec<Duration
 }
 
 /// A row: its name, and the cells for what is taken.
-fn row(name: &str, times: &[Duration]) -> String {
-    format!("| {name} | {} |\n", cells(times[0], &times[1..]))
+fn row(name: &str, measured: &[Duration]) -> String {
+    format!("| {name} | {} |\n", cells(measured[0], &measured[1..]))
 }
 
 /// Load and saturate, for each of our ways.
 pub fn loads(names: &[&str], contest: &Contest, alone: &Alone) -> String {
-    let times = taken(contest, |f| f.load);
+    let measured = taken(contest, |f| f.load);
     let mut out = head(&["our way"], names);
     for (name, ours) in [
-        ("deliveries, the statements first, the facts in no order", times[0]),
+        ("deliveries, the statements first, the facts in no order", measured[0]),
         ("the same, the facts in ascending order", alone.ascending),
         ("the facts lent as a table, one delivery of the statements", alone.statements_delivered),
         ("all lent as tables but one statement, which is added", alone.afresh),
     ] {
-        out += &format!("| {name} | {} |\n", cells(ours, &times[1..]));
+        out += &format!("| {name} | {} |\n", cells(ours, &measured[1..]));
     }
     out
 }
@@ -88,9 +81,9 @@ pub fn questions(names: &[&str], questions: &[(&str, Vec<u32>)], contest: &Conte
         out += &format!("{title}. Question 1 alone takes {}.\n\n", time(unit));
         out += &head(&["question", "rows", "times question 1"], names);
         for (i, (name, _)) in questions.iter().enumerate() {
-            let times = taken(contest, |f| f.questions[i][way]);
+            let measured = taken(contest, |f| f.questions[i][way]);
             let rows = grouped(contest.rows[i]);
-            out += &format!("| {name} | {rows} | {} | {} |\n", two(ratio(times[0], unit)), cells(times[0], &times[1..]));
+            out += &format!("| {name} | {rows} | {} | {} |\n", times(measured[0], unit), cells(measured[0], &measured[1..]));
         }
         out += "\n";
     }
@@ -108,11 +101,11 @@ pub fn updates(contestants: &[Box<dyn Contestant>], contest: &Contest, [facts, s
         (STATEMENTS, format!("{statements} statements X one by one")),
     ] {
         for (i, (word, change)) in [("added", Change::Add), ("withdrawn", Change::Withdraw)].into_iter().enumerate() {
-            let times = taken(contest, |f| f.updates[kind][i]);
-            let mut line = format!("| {} | {}", what.replace('X', word), time(times[0]));
-            for (contestant, other) in contestants.iter().zip(&times).skip(1) {
+            let measured = taken(contest, |f| f.updates[kind][i]);
+            let mut line = format!("| {} | {}", what.replace('X', word), time(measured[0]));
+            for (contestant, other) in contestants.iter().zip(&measured).skip(1) {
                 let star = if contestant.scales(change) && kind != DELIVERED { "*" } else { "" };
-                line += &format!(" | {}{star}", two(ratio(*other, times[0])));
+                line += &format!(" | {}{star}", times(*other, measured[0]));
             }
             out += &format!("{line} |\n");
         }
@@ -143,9 +136,9 @@ pub fn growth(names: &[&str], measures: &[(String, Pick)], contests: &[Contest])
     let mut out = head(&["what", "facts", "kept rows"], names);
     for (name, pick) in measures {
         for contest in contests {
-            let times = taken(contest, pick);
+            let measured = taken(contest, pick);
             let [facts, kept] = [contest.facts, contest.kept].map(grouped);
-            out += &row(&format!("{name} | {facts} | {kept}"), &times);
+            out += &row(&format!("{name} | {facts} | {kept}"), &measured);
         }
     }
     out

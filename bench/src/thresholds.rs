@@ -2,7 +2,7 @@
 
 use crate::alone::Alone;
 use crate::measure::{Contest, Figures, FACTS, STATEMENTS};
-use crate::tables::{grouped, percent};
+use crate::tables::{grouped, percent, times};
 use std::time::Duration;
 
 /// The least number n of runs, from 1, with n · rewritten + spared > n · kept + cost; none where no number is large enough.
@@ -56,7 +56,6 @@ pub fn thresholds(names: &[&str], questions: &[(&str, Vec<u32>)], contest: &Cont
 pub fn upkeep(ours: &Figures, alone: &Alone, counts: [usize; 2]) -> String {
     let [added, withdrawn] = one(ours.updates[FACTS], counts[0]);
     let [stated, unstated] = one(ours.updates[STATEMENTS], counts[1]);
-    let times = |a: Duration, b: Duration| format!("{:.1}", a.as_secs_f64() / b.as_secs_f64());
     let mut out = String::from("| what upkeep costs | our library | document 001, table 2: 1 M, 10 M, 100 M triples |\n|---|---|---|\n");
     out += &format!("| a fact added, as a multiple of adding it without upkeep | {} | 1.4, 1.1, 1.1 |\n", times(added, alone.plain[0]));
     out += &format!("| a fact withdrawn, as a multiple of withdrawing it without upkeep | {} | 19, 126, 891 |\n", times(withdrawn, alone.plain[1]));
