@@ -9,7 +9,7 @@ run: toolchain
 	@target/bin/families <crates/families/stdin
 
 # The last line is that of the toolchain's gate, which is held back until the trial of the library has passed too.
-test: toolchain cargo
+test: toolchain cargo jena valgrind
 	@log=$$(mktemp); trap 'rm -f "$$log"' EXIT; \
 	rt ci | tee "$$log" | sed -u '$$d' || { tail -n 1 "$$log"; exit 1; }; \
 	$(MAKE) --no-print-directory trial; \

@@ -412,13 +412,14 @@ fn harness(options: &Options) -> Harness {
     harness
 }
 
-/// Runs a script again.
+/// Runs a script again; beside Jena without the model, which is too slow for the large store.
 fn replay(harness: &mut Harness, options: &Options, path: &Path) {
     let text = std::fs::read_to_string(path).unwrap_or_else(|_| usage());
     let script = script::parse(&text).unwrap_or_else(|line| {
         eprintln!("no command: {line}");
         exit(2)
     });
+    harness.model_judges = harness.peer.is_none();
     match harness.replay(&script) {
         Ok(()) => println!("no difference in {} commands", script.len()),
         Err(failure) => report(harness, options, "replay", failure),

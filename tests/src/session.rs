@@ -88,6 +88,7 @@ pub struct Session<'a> {
     pub harness: &'a mut Harness,
     pub store: Store,
     pub last: Outcome,
+    /// The ledger, where the store was grown from empty.
     ledger: Option<Ledger>,
     script: Vec<Command>,
     trace: Option<File>,
