@@ -172,13 +172,15 @@ pub fn deliveries(scale: &Scale, statements: &[Triple]) -> String {
     };
     let mut out = format!(
         "A store of {} facts, {} statements and {} kept rows; question 1 alone takes {}.\n\n",
-        grouped(old.len()), first.len(), grouped(store.kept[0] as usize), time(unit)
+        grouped(old.len()),
+        first.len(),
+        grouped(store.kept[0] as usize),
+        time(unit)
     );
     out += "| delivery | time (in brackets: how many times question 1) |\n|---|---|\n";
-    for (name, count, bytes) in [
-        ("facts added", new.len(), delivery([&[], &[], &[], &new])),
-        ("statements added", second.len(), delivery([&[], &[], second, &[]])),
-    ] {
+    for (name, count, bytes) in
+        [("facts added", new.len(), delivery([&[], &[], &[], &new])), ("statements added", second.len(), delivery([&[], &[], second, &[]]))]
+    {
         let run = |_| {
             let mut store = store.clone();
             timed(|| assert_eq!(store.deliver(&bytes).1[1] as usize, count)).0

@@ -1,6 +1,6 @@
 //! Measures the exported library beside SWI-Prolog, PostgreSQL and Apache Jena, in one run on one workload, and by itself. Writes
 //! target/bench/report.md and target/bench/plot.svg; with --docs also the tables in docs/BENCHMARKS.md and docs/benchmarks.svg.
-//! The other arguments are the peers to run (prolog, postgres, jena), and --quick for a small workload that shows nothing but that all works.
+//! The other arguments are the peers to run (prolog, postgres, jena), and --quick for a small workload that shows only that all works.
 
 mod alone;
 mod clock;
@@ -43,7 +43,14 @@ pub struct Scale {
 impl Scale {
     /// What the documents show.
     fn full() -> Scale {
-        Scale { facts: 20_000, sizes: vec![5_000, 10_000, 20_000, 40_000, 65_000], rounds: 5, runs: 11, changed: [1_000, 20], changed_growing: 10 }
+        Scale {
+            facts: 20_000,
+            sizes: vec![5_000, 10_000, 20_000, 40_000, 65_000],
+            rounds: 5,
+            runs: 11,
+            changed: [1_000, 20],
+            changed_growing: 10,
+        }
     }
 
     /// A trial of the program.
@@ -102,7 +109,8 @@ fn measured(scale: &Scale, contestants: &mut [Box<dyn Contestant>]) -> Outcome<(
         ("Our library alone: deliveries", alone::deliveries(scale, &task.statements)),
     ];
     let counts = [task.statements.len(), contest.facts, contest.kept].map(tables::grouped);
-    let mut report = format!("The store for questions and updates has {} statements, {} facts and {} kept rows.\n", counts[0], counts[1], counts[2]);
+    let [statements, facts, kept] = counts;
+    let mut report = format!("The store for questions and updates has {statements} statements, {facts} facts and {kept} kept rows.\n");
     report.extend(sections.iter().map(|(title, table)| format!("\n### {title}\n\n{}\n", table.trim_end())));
     let panel = |(title, pick): &(String, _)| Panel { title: title.clone(), lines: lines(&contests, pick) };
     Ok((report, plot::plot(&names, &scale.sizes, &measures.iter().map(panel).collect::<Vec<_>>())))

@@ -150,5 +150,6 @@ fn same(name: &str, what: &str, ours: &Rows, mut theirs: Rows) -> Outcome<()> {
         return Ok(());
     }
     let differing = ours.iter().zip(&theirs).find(|(a, b)| !equal(a, b));
-    Err(format!("{name}: {what}: {} rows, our library has {}; the first that differs, ours and theirs: {differing:?}", theirs.len(), ours.len()))
+    let counts = format!("{} rows, our library has {}", theirs.len(), ours.len());
+    Err(format!("{name}: {what}: {counts}; the first that differs, ours and theirs: {differing:?}"))
 }

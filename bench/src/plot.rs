@@ -34,7 +34,8 @@ impl Axis {
 /// The whole plot.
 pub fn plot(names: &[&str], sizes: &[usize], panels: &[Panel]) -> String {
     let (width, height) = (PANEL.0 * ACROSS as f64, LEGEND + PANEL.1 * panels.len().div_ceil(ACROSS) as f64);
-    let mut out = format!("<svg xmlns=\"http://www.w3.org/2000/svg\" viewBox=\"0 0 {width} {height}\" width=\"{width}\" height=\"{height}\"");
+    let mut out = String::from("<svg xmlns=\"http://www.w3.org/2000/svg\"");
+    out += &format!(" viewBox=\"0 0 {width} {height}\" width=\"{width}\" height=\"{height}\"");
     out += " font-family=\"sans-serif\" font-size=\"11\">\n";
     out += &format!("<rect width=\"{width}\" height=\"{height}\" fill=\"white\"/>\n");
     for (i, name) in names.iter().enumerate() {

@@ -35,9 +35,9 @@ fn term(word: u32) -> String {
 fn clause(way: Way, question: &Question) -> String {
     let mut bound: Vec<u32> = Vec::new();
     let mut goals = Vec::new();
-    for atom in &question.atoms {
+    for (i, atom) in question.atoms.iter().enumerate() {
         let new = atom.variables().iter().any(|v| !bound.contains(v));
-        let goal = goal(way, atom);
+        let goal = goal(i, way, atom);
         goals.push(if new { goal } else { format!("once({goal})") });
         bound.extend(atom.variables());
     }
@@ -45,8 +45,8 @@ fn clause(way: Way, question: &Question) -> String {
     format!("r({}) :- {}", head.join(","), goals.join(","))
 }
 
-/// An atom as a goal.
-fn goal(way: Way, atom: &Atom) -> String {
+/// The i-th atom as a goal.
+fn goal(i: usize, way: Way, atom: &Atom) -> String {
     let [s, p, o] = atom.words.map(term);
     if atom.is_of_statements() {
         return format!("store:statement({s},{p},{o})");
@@ -54,20 +54,20 @@ fn goal(way: Way, atom: &Atom) -> String {
     if way == Way::Kept {
         return format!("k{p}({s},{o})");
     }
-    let by_property = |call: &str| format!("call(Property,{call})");
-    let shapes = [("", o.as_str(), format!("f1({s},Class)")), ("f", &o, by_property(&format!("{s},_"))),
-        ("f", &o, by_property(&format!("_,{s}")) + &format!(",{s}<0x80000000")), ("f", &p, by_property(&format!("{s},{o}")))];
+    let shapes = [
+        ("", &o, format!("f1({s},Source{i})")),
+        ("f", &o, format!("call(Source{i},{s},_)")),
+        ("f", &o, format!("call(Source{i},_,{s}),{s}<0x80000000")),
+        ("f", &p, format!("call(Source{i},{s},{o})")),
+    ];
     let mut goals = vec![format!("f{p}({s},{o})")];
     for (pairs, (prefix, target, call)) in atom.alternatives.iter().zip(shapes) {
         let list: Vec<String> = pairs.iter().map(|[source, target]| format!("{prefix}{source}-{target}")).collect();
-        let source = if prefix.is_empty() { "Class" } else { "Property" };
         if !pairs.is_empty() {
-            goals.push(format!("member({source}-{target},[{}]),{call}", list.join(",")));
+            goals.push(format!("member(Source{i}-{target},[{}]),{call}", list.join(",")));
         }
     }
-    // each atom has its own names for what stands on the left of its alternatives
-    let own = format!("_{}", atom.words.map(|w| w.to_string()).join("_"));
-    format!("({})", goals.join(";")).replace("Class", &format!("Class{own}")).replace("Property", &format!("Property{own}"))
+    format!("({})", goals.join(";"))
 }
 
 impl Contestant for Prolog {

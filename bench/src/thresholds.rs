@@ -39,11 +39,10 @@ pub fn thresholds(names: &[&str], questions: &[(&str, Vec<u32>)], contest: &Cont
         (stated, Duration::ZERO),
         (unstated, Duration::ZERO),
     ];
+    let ours_are =
+        ["saturation, by deliveries", "saturation, at once", "fact added", "fact withdrawn", "statement added", "statement withdrawn"];
     let others = names[1..].iter().map(|name| format!(" {name}: saturation |")).collect::<String>();
-    let mut out = format!(
-        "| question | saturation, by deliveries | saturation, worked out at once | fact added | fact withdrawn | statement added | statement withdrawn |{others}\n"
-    );
-    out += &format!("|{}\n", "---|".repeat(6 + names.len()));
+    let mut out = format!("| question | {} |{others}\n|{}\n", ours_are.join(" | "), "---|".repeat(6 + names.len()));
     for (i, (name, _)) in questions.iter().enumerate() {
         let ours = costs.iter().map(|&(cost, spared)| cell(threshold(ours.questions[i], cost, spared)));
         let others = contest.figures[1..].iter().map(|f| cell(threshold(f.questions[i], f.load, Duration::ZERO)));
@@ -57,11 +56,15 @@ pub fn upkeep(ours: &Figures, alone: &Alone, counts: [usize; 2]) -> String {
     let [added, withdrawn] = one(ours.updates[FACTS], counts[0]);
     let [stated, unstated] = one(ours.updates[STATEMENTS], counts[1]);
     let mut out = String::from("| what upkeep costs | our library | document 001, table 2: 1 M, 10 M, 100 M triples |\n|---|---|---|\n");
-    out += &format!("| a fact added, as a multiple of adding it without upkeep | {} | 1.4, 1.1, 1.1 |\n", times(added, alone.plain[0]));
-    out += &format!("| a fact withdrawn, as a multiple of withdrawing it without upkeep | {} | 19, 126, 891 |\n", times(withdrawn, alone.plain[1]));
+    for (what, time, plain, theirs) in
+        [("added", added, alone.plain[0], "1.4, 1.1, 1.1"), ("withdrawn", withdrawn, alone.plain[1], "19, 126, 891")]
+    {
+        out += &format!("| a fact {what}, as a multiple of the same without upkeep | {} | {theirs} |\n", times(time, plain));
+    }
     for (what, time, theirs) in [("added", stated, "2.3 %, 3.6 %, 6.4 %"), ("withdrawn", unstated, "3.2 %, 5.4 %, 21 %")] {
         let [delivered, afresh] = [ours.load, alone.afresh].map(|whole| percent(time, whole));
-        out += &format!("| a statement {what}, as a part of a saturation | {delivered} by deliveries, {afresh} worked out at once | {theirs} |\n");
+        let ours = format!("{delivered} by deliveries, {afresh} at once");
+        out += &format!("| a statement {what}, as a part of a saturation | {ours} | {theirs} |\n");
     }
     out
 }

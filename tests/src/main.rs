@@ -14,6 +14,10 @@ mod limits;
 mod memory;
 mod model;
 mod peer;
+#[allow(dead_code)]
+#[rustfmt::skip]
+#[path = "../../bench/src/pipe.rs"]
+mod pipe;
 mod random;
 mod script;
 mod session;
