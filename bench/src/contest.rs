@@ -32,7 +32,7 @@ pub trait Contestant {
         false
     }
 
-    /// The kept facts, each with its support where the store counts it, else with 0.
+    /// The kept facts, each with its support where the store counts them.
     fn kept(&mut self) -> Outcome<Rows>;
 
     /// The rows of a question.

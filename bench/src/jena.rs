@@ -8,8 +8,10 @@ use crate::rewriting::{variable, Atom, Question, Rewriter};
 use std::process::Command;
 use std::time::Duration;
 
-/// How often a question is answered before it is measured, for the compiler inside Java.
-pub const WARM: usize = 20;
+/// How often a question is answered before it is measured, for the compiler inside Java: at least and at most so many times, and for so
+/// long in between.
+const WARM: [u128; 2] = [5, 40];
+const WARMING: Duration = Duration::from_secs(2);
 
 pub struct Jena {
     pipe: Pipe,
@@ -114,7 +116,6 @@ impl Contestant for Jena {
         let mut rows = self.pipe.call("facts\n")?.rows;
         rows.sort();
         rows.dedup();
-        rows.iter_mut().for_each(|row| row.push(0));
         Ok(rows)
     }
 
@@ -124,8 +125,10 @@ impl Contestant for Jena {
     }
 
     fn times(&mut self, way: Way, question: &[u32], runs: usize) -> Outcome<Vec<Duration>> {
-        let request = format!("{} {} {}\n", Jena::command(way, "time"), WARM + runs, self.question(way, question)?);
-        let answer = self.pipe.call(&request)?;
-        Ok(answer.times()[1 + WARM..].to_vec())
+        let (command, question) = (Jena::command(way, "time"), self.question(way, question)?);
+        let mut times = |n: usize| Ok(self.pipe.call(&format!("{command} {n} {question}\n"))?.times()[1..].to_vec());
+        let first: Vec<Duration> = times(1)?;
+        times((WARMING.as_nanos() / first[0].as_nanos()).clamp(WARM[0], WARM[1]) as usize)?;
+        times(runs)
     }
 }
