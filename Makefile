@@ -1,7 +1,7 @@
 # make run: the worked example's delivery.  make test: everything that is proved, run and tried.  make bench: measured speed.
 SHELL := /bin/bash
 .SHELLFLAGS := -eu -o pipefail -c
-.PHONY: run test trial bench library cargo toolchain
+.PHONY: run test trial bench bench-docs library jena prolog postgres valgrind cargo toolchain
 
 run: toolchain
 	@echo "proving and building the program (some minutes the first time) .." >&2
@@ -9,26 +9,71 @@ run: toolchain
 	@target/bin/families <crates/families/stdin
 
 # The last line is that of the toolchain's gate, which is held back until the trial of the library has passed too.
-test: toolchain cargo
+test: toolchain cargo jena valgrind
 	@log=$$(mktemp); trap 'rm -f "$$log"' EXIT; \
 	rt ci | tee "$$log" | sed -u '$$d' || { tail -n 1 "$$log"; exit 1; }; \
 	$(MAKE) --no-print-directory trial; \
 	tail -n 1 "$$log"
 
-# The exported library against an independent model.
-trial: library cargo
-	@CARGO_TARGET_DIR=target/tests cargo run --release --offline --quiet --manifest-path tests/Cargo.toml
+# The exported library beside an independent model, beside Apache Jena, and under valgrind.
+TRIAL := CARGO_TARGET_DIR=target/tests cargo run --release --offline --quiet --manifest-path tests/Cargo.toml --
 
-bench: library cargo
-	@CARGO_TARGET_DIR=target/bench cargo run --release --offline --quiet --manifest-path bench/Cargo.toml
+trial: library cargo jena valgrind
+	@$(TRIAL)
+	@$(TRIAL) --part jena
+	@$(TRIAL) --part memory
+
+# The exported library beside the peers named, and alone: target/bench/report.md and target/bench/plot.svg. `make bench BENCH_PEERS=` runs
+# it alone; `make bench BENCH_OPTIONS=--quick` takes a small workload.
+BENCH_PEERS ?= prolog postgres jena
+BENCH_OPTIONS ?=
+
+bench: library cargo $(BENCH_PEERS)
+	@CARGO_TARGET_DIR=target/bench cargo run --release --offline --quiet --manifest-path bench/Cargo.toml -- $(BENCH_PEERS) $(BENCH_OPTIONS)
+
+# The same, and the tables in docs/BENCHMARKS.md and docs/benchmarks.svg are those of this run.
+bench-docs:
+	@$(MAKE) --no-print-directory bench BENCH_OPTIONS=--docs
 
 library: toolchain
 	@echo "proving and building the exported library (some minutes the first time) .." >&2
 	@rt staticlib capi >target/staticlib.log 2>&1 || { cat target/staticlib.log; exit 1; }
 
-# Rust's compiler and its build tool; no crate from a registry is used.
+# Apache Jena as a server on standard input and output, for comparisons (peers/jena); `java @target/jena/server` starts it. Debian's
+# package has Xerces' texts under another path than its classes, so they are laid out again in front of the class path.
+JAVA := /usr/share/java
+JENA := target/jena
+JENA_JARS := jena-arq jena-core jena-base jena-iri slf4j-api slf4j-nop commons-lang3 commons-compress guava jsonld-java thrift
+NONE :=
+JENA_PATH := $(subst $(NONE) $(NONE),:,$(JENA)/classes $(JENA)/texts $(JENA_JARS:%=$(JAVA)/%.jar))
+
+jena: $(JENA)/server
+
+$(JENA)/server: peers/jena/rdfs.rules $(wildcard peers/jena/peer/*.java)
+	@command -v javac >/dev/null || $(call install,openjdk-17-jdk-headless,the Java compiler)
+	@test -e $(JAVA)/jena-arq.jar || $(call install,libapache-jena-java,Apache Jena)
+	@rm -rf $(JENA) && mkdir -p $(JENA)/classes $(JENA)/texts
+	@cd $(JENA)/texts && jar xf $(JAVA)/jena-core.jar org/apache/jena/ext/xerces && mv org/apache/jena/ext/xerces . && rm -r org
+	@javac -Xlint:all,-path -cp $(JENA_PATH) -d $(JENA)/classes peers/jena/peer/*.java
+	@echo "-cp $(JENA_PATH) peer.Server peers/jena/rdfs.rules" >$@
+
+# The two other peers of the bench.
+prolog:
+	@command -v swipl >/dev/null || $(call install,swi-prolog-nox,SWI-Prolog)
+
+postgres:
+	@test -x /usr/lib/postgresql/15/bin/initdb || $(call install,postgresql-15,PostgreSQL 15)
+
+# Installs a Debian package, and says what it is for where that fails.
+install = { apt-get update -qq && apt-get install -y -qq --no-install-recommends $(1); } >&2 \
+	|| { echo "$(2) is missing, and apt-get could not install Debian's package $(1)" >&2; exit 1; }
+
+# Rust's compiler and its build tool; no crate from a registry is used. Debian 12 has a later one under another name.
 cargo:
-	@command -v cargo >/dev/null || { apt-get update -qq && apt-get install -y -qq cargo; } >&2
+	@command -v cargo >/dev/null || $(call install,cargo-web,Rust's build tool cargo)
+
+valgrind:
+	@command -v valgrind >/dev/null || $(call install,valgrind,valgrind)
 
 # What all need: the Rattle toolchain's command `rt`, and a place for what it makes.
 toolchain:

@@ -7,6 +7,7 @@ mod raw {
         pub fn families_deliver(s: *mut u32, sn: usize, f: *mut u32, fnn: usize, k: *mut u32, kn: usize, u: *mut u16, un: usize, bytes: *const u8, bn: usize, result: *mut u32) -> u32;
         pub fn families_ask_kept(s: *const u32, sn: usize, k: *const u32, kn: usize, q: *const u32, qn: usize, rows: *mut u32, rn: usize, count: *mut u32) -> u32;
         pub fn families_ask_rewritten(s: *const u32, sn: usize, f: *const u32, fnn: usize, q: *const u32, qn: usize, rows: *mut u32, rn: usize, count: *mut u32) -> u32;
+        pub fn families_alternatives(s: *const u32, sn: usize, subject: u32, property: u32, object: u32, rows: *mut u32, rn: usize, count: *mut u32) -> u32;
         pub fn families_list_statements(t: *const u32, n: usize, order: u32, rows: *mut u32, rn: usize, count: *mut u32) -> u32;
         pub fn families_list_facts(t: *const u32, n: usize, order: u32, rows: *mut u32, rn: usize, count: *mut u32) -> u32;
         pub fn families_list_kept(t: *const u32, n: usize, order: u32, rows: *mut u32, rn: usize, count: *mut u32) -> u32;
@@ -26,7 +27,7 @@ pub struct Store {
 }
 
 /// By which way a question is answered.
-#[derive(Clone, Copy)]
+#[derive(Clone, Copy, PartialEq)]
 pub enum Way {
     Kept,
     Rewritten,
@@ -95,6 +96,17 @@ impl Store {
             f(
                 self.statements.as_ptr(), self.statements.len(), t.as_ptr(), t.len(),
                 question.as_ptr(), question.len(), rows.as_mut_ptr(), rows.len(), &mut count,
+            )
+        };
+        (n, count)
+    }
+
+    /// The alternatives of an atom: the number that refused it, and the row count.
+    pub fn alternatives(&self, atom: Triple, rows: &mut [u32]) -> (u32, u32) {
+        let mut count = 0;
+        let n = unsafe {
+            raw::families_alternatives(
+                self.statements.as_ptr(), self.statements.len(), atom[0], atom[1], atom[2], rows.as_mut_ptr(), rows.len(), &mut count,
             )
         };
         (n, count)

@@ -18,9 +18,9 @@ impl Random {
     }
 }
 
-const CLASS: u32 = 1_000;
-const PROPERTY: u32 = 2_000;
-const THING: u32 = 10_000;
+pub const CLASS: u32 = 1_000;
+pub const PROPERTY: u32 = 2_000;
+pub const THING: u32 = 10_000;
 
 /// So many statements: half of them subclasses in a forest, the others subproperties, domains and ranges.
 pub fn statements(n: usize) -> Vec<Triple> {
@@ -52,8 +52,8 @@ pub struct Mix {
     pub stated: u32,
 }
 
-/// Some two and a half kept rows for each fact.
-pub const PLAIN: Mix = Mix { types: 2, literals: 1, stated: 0 };
+/// Some four kept rows for each fact: as many as a store of 65,000 facts has room for.
+pub const GROWING: Mix = Mix { types: 2, literals: 1, stated: 1 };
 
 /// Some five kept rows for each fact.
 pub const DENSE: Mix = Mix { types: 2, literals: 1, stated: 3 };
@@ -78,10 +78,19 @@ pub fn facts(n: usize, statements: usize, mix: Mix, seed: u64) -> Vec<Triple> {
     set.into_iter().collect()
 }
 
-/// A delivery that withdraws nothing and adds these statements and facts.
-pub fn delivery(statements: &[Triple], facts: &[Triple]) -> Vec<u8> {
-    let mut bytes = vec![0; 4];
-    for entries in [statements, facts] {
+/// The same facts in another order.
+pub fn shuffled(mut facts: Vec<Triple>, seed: u64) -> Vec<Triple> {
+    let mut random = Random::new(seed);
+    for i in (1..facts.len()).rev() {
+        facts.swap(i, random.below(i as u32 + 1) as usize);
+    }
+    facts
+}
+
+/// A delivery that withdraws and adds these: statements withdrawn, facts withdrawn, statements added, facts added.
+pub fn delivery(sections: [&[Triple]; 4]) -> Vec<u8> {
+    let mut bytes = Vec::new();
+    for entries in sections {
         bytes.extend((entries.len() as u16).to_le_bytes());
         bytes.extend(entries.iter().flatten().flat_map(|w| w.to_le_bytes()));
     }
@@ -106,7 +115,7 @@ pub fn question(atoms: &[Triple], head: &[u32]) -> Vec<u32> {
 pub fn questions() -> Vec<(&'static str, Vec<u32>)> {
     let (x, y, z) = (variable(0), variable(1), variable(2));
     vec![
-        ("x is of a class with few things", question(&[[x, 1, CLASS + 40]], &[x])),
+        ("x is of a class with few things", question(&[[x, 1, CLASS + 13]], &[x])),
         ("x is of a class with many things", question(&[[x, 1, CLASS]], &[x])),
         ("x has a property y", question(&[[x, PROPERTY, y]], &[x, y])),
         ("a thing is of class y", question(&[[THING + 17, 1, y]], &[y])),

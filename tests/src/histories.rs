@@ -17,7 +17,7 @@ fn rows(random: &mut Random, tight: &[usize], roomy: usize) -> usize {
 }
 
 /// The lengths of the tables of a history.
-fn lengths(random: &mut Random) -> [usize; 4] {
+pub fn lengths(random: &mut Random) -> [usize; 4] {
     let statements = rows(random, &[0, 1, 3, 6], 24);
     let facts = rows(random, &[0, 1, 3, 6], 20);
     let kept = rows(random, &[0, 1, 4, 10, 20], 90);
@@ -34,7 +34,7 @@ fn lengths(random: &mut Random) -> [usize; 4] {
 }
 
 /// One update or delivery.
-fn change(random: &mut Random, names: &Names, store: &Store, withdrawals: usize) -> Call {
+pub fn change(random: &mut Random, names: &Names, store: &Store, withdrawals: usize) -> Call {
     if random.once_in(6) {
         Call::Deliver(generate::delivery(random, names, store))
     } else {

@@ -1,7 +1,7 @@
 //! The exported library, as include/families.h declares it, behind safe functions.
 
-use crate::fence::Fence;
-use crate::model::terms::Triple;
+use crate::fence::{Fence, Memory};
+pub use crate::model::terms::Triple;
 use crate::script::{Call, Way};
 use crate::session::Outcome;
 use crate::store::{Store, Table};
@@ -58,7 +58,7 @@ const RUBBISH: u32 = 0xdead_beef;
 /// Room for the longest slice lent.
 const ROOM: usize = 16 << 20;
 
-/// The library, with fenced room for each slice of a call.
+/// The library, with room for each slice of a call.
 pub struct Library {
     statements: Fence,
     facts: Fence,
@@ -69,19 +69,46 @@ pub struct Library {
     small: Fence,
     /// Whether slices of no element are lent as null pointers, as a C caller may.
     pub null_when_empty: bool,
+    /// A deliberate fault of listings, where one is wanted.
+    pub fault: Option<Fault>,
+}
+
+/// Deliberate faults: a listing that is told of other memory than was lent.
+#[derive(Clone, Copy, PartialEq, Eq)]
+pub enum Fault {
+    /// The table is said to have one word more, which is read.
+    ReadPast,
+    /// The output is said to have one word more, which is written.
+    WritePast,
+    /// The output is said to have one word less, so that its last word is never written.
+    Unwritten,
+}
+
+impl Fault {
+    pub const ALL: [Fault; 3] = [Fault::ReadPast, Fault::WritePast, Fault::Unwritten];
+
+    /// The name by which the command line calls a fault.
+    pub fn name(self) -> &'static str {
+        match self {
+            Fault::ReadPast => "read-past",
+            Fault::WritePast => "write-past",
+            Fault::Unwritten => "unwritten",
+        }
+    }
 }
 
 impl Library {
-    pub fn new() -> Library {
+    pub fn new(memory: Memory) -> Library {
         Library {
-            statements: Fence::new(ROOM),
-            facts: Fence::new(ROOM),
-            kept: Fence::new(ROOM),
-            supports: Fence::new(ROOM),
-            input: Fence::new(ROOM),
-            output: Fence::new(ROOM),
-            small: Fence::new(64),
+            statements: Fence::new(memory, ROOM),
+            facts: Fence::new(memory, ROOM),
+            kept: Fence::new(memory, ROOM),
+            supports: Fence::new(memory, ROOM),
+            input: Fence::new(memory, ROOM),
+            output: Fence::new(memory, ROOM),
+            small: Fence::new(memory, 64),
             null_when_empty: false,
+            fault: None,
         }
     }
 
@@ -106,10 +133,19 @@ impl Library {
         }
     }
 
-    /// A fenced copy of a slice, or a null pointer where that is wanted.
+    /// A copy of a slice, or a null pointer where that is wanted.
     fn lend<T: Copy>(fence: &mut Fence, slice: &[T], null_when_empty: bool) -> *mut T {
         let pointer = fence.lend(slice);
         if slice.is_empty() && null_when_empty {
+            return std::ptr::null_mut();
+        }
+        pointer
+    }
+
+    /// The output of rows, likewise.
+    fn lend_rows(&mut self, output: &[u32]) -> *mut u32 {
+        let pointer = self.output.lend_output(output);
+        if output.is_empty() && self.null_when_empty {
             return std::ptr::null_mut();
         }
         pointer
@@ -167,7 +203,7 @@ impl Library {
     fn deliver(&mut self, store: &mut Store, bytes: &[u8]) -> Result<Outcome, String> {
         let (st, fa, ke, su) = self.lend_store(store);
         let input = Library::lend(&mut self.input, bytes, self.null_when_empty);
-        let result = self.small.lend(&[RUBBISH; 4]);
+        let result = self.small.lend_output(&[RUBBISH; 4]);
         // SAFETY: each pointer is that of a slice of the length given, apart from the others.
         let number = unsafe {
             raw::families_deliver(
@@ -210,8 +246,8 @@ impl Library {
         let st = Library::lend(&mut self.statements, &store.statements, null);
         let fa = Library::lend(&mut self.facts, facts, null);
         let qu = Library::lend(&mut self.input, question, null);
-        let rows = Library::lend(&mut self.output, output, null);
-        let count = self.small.lend(&[RUBBISH]);
+        let rows = self.lend_rows(output);
+        let count = self.small.lend_output(&[RUBBISH]);
         // SAFETY: each pointer is that of a slice of the length given, apart from the others.
         let number = unsafe {
             f(
@@ -241,8 +277,8 @@ impl Library {
     ) -> Result<Outcome, String> {
         let null = self.null_when_empty;
         let st = Library::lend(&mut self.statements, statements, null);
-        let rows = Library::lend(&mut self.output, output, null);
-        let count = self.small.lend(&[RUBBISH]);
+        let rows = self.lend_rows(output);
+        let count = self.small.lend_output(&[RUBBISH]);
         // SAFETY: each pointer is that of a slice of the length given, apart from the others.
         let number = unsafe {
             raw::families_alternatives(st, statements.len(), s, p, o, rows, output.len(), count)
@@ -261,10 +297,17 @@ impl Library {
     ) -> Result<Outcome, String> {
         let null = self.null_when_empty;
         let words = Library::lend(&mut self.statements, table, null);
-        let rows = Library::lend(&mut self.output, output, null);
-        let count = self.small.lend(&[RUBBISH]);
-        // SAFETY: each pointer is that of a slice of the length given, apart from the others.
-        let number = unsafe { f(words, table.len(), order, rows, output.len(), count) };
+        let rows = self.lend_rows(output);
+        let count = self.small.lend_output(&[RUBBISH]);
+        let (read, written) = match self.fault {
+            None => (table.len(), output.len()),
+            Some(Fault::ReadPast) => (table.len() + 1, output.len()),
+            Some(Fault::WritePast) => (table.len(), output.len() + 1),
+            Some(Fault::Unwritten) => (table.len(), output.len() - 1),
+        };
+        // SAFETY: each pointer is that of a slice of the length given, apart from the others, unless
+        // a fault is planted.
+        let number = unsafe { f(words, read, order, rows, written, count) };
         unchanged(&self.statements, table)?;
         whole(&[&self.statements])?;
         self.rows(number)

@@ -1,33 +1,83 @@
-//! Compares the exported library with an independent model on random and directed calls.
+//! Tries the exported library in three parts: against an independent model on random and directed
+//! calls, against Apache Jena on what holds and on questions, and under valgrind.
 //!
-//!     trial [--seed N] [--histories N] [--fault NAME] [--replay FILE]
+//!     trial [--part model|jena|memory] [--seed N] [--histories N] [--fault NAME] [--replay FILE]
 
+mod comparison;
 mod exhaustive;
 mod fence;
 mod generate;
 mod histories;
+mod jena;
 mod library;
 mod limits;
+mod memory;
 mod model;
+mod peer;
+#[allow(dead_code)]
+#[rustfmt::skip]
+#[path = "../../bench/src/pipe.rs"]
+mod pipe;
 mod random;
 mod script;
 mod session;
 mod store;
+#[allow(dead_code)]
+#[rustfmt::skip]
+#[path = "../../bench/src/workload.rs"]
+mod workload;
 
+use fence::Memory;
 use model::{Fault, Model};
+use peer::Peer;
 use random::case_seed;
 use session::{Counts, Failure, Harness};
-use std::path::PathBuf;
+use std::path::{Path, PathBuf};
 use std::process::{exit, Command};
 use std::time::Instant;
 
 const EXAMPLES: &str = include_str!("../cases/examples.script");
 
+/// The parts of the trial, each a run of its own.
+#[derive(Clone, Copy, PartialEq, Eq)]
+enum Part {
+    Model,
+    Jena,
+    Memory,
+    /// What valgrind runs for `Memory`.
+    Sample,
+}
+
+impl Part {
+    const ALL: [Part; 4] = [Part::Model, Part::Jena, Part::Memory, Part::Sample];
+
+    /// The name by which the command line calls a part.
+    fn name(self) -> &'static str {
+        match self {
+            Part::Model => "model",
+            Part::Jena => "jena",
+            Part::Memory => "memory",
+            Part::Sample => "sample",
+        }
+    }
+
+    /// The names of the faults that can be planted in a part.
+    fn faults(self) -> Vec<&'static str> {
+        match self {
+            Part::Model => Fault::ALL.map(Fault::name).to_vec(),
+            Part::Jena => comparison::FAULTS.map(|fault| fault.0).to_vec(),
+            Part::Memory | Part::Sample => library::Fault::ALL.map(library::Fault::name).to_vec(),
+        }
+    }
+}
+
 /// What the command line asks for.
 struct Options {
+    part: Part,
     seed: u64,
-    histories: u64,
-    fault: Option<Fault>,
+    /// Histories of the part `Model`, small stores of the part `Jena`.
+    histories: Option<u64>,
+    fault: Option<String>,
     replay: Option<PathBuf>,
     /// Set for the program that makes the calls; the one started by hand only watches it.
     watched: bool,
@@ -35,16 +85,24 @@ struct Options {
 }
 
 fn usage() -> ! {
-    let names: Vec<&str> = Fault::ALL.iter().map(|f| f.name()).collect();
-    eprintln!("usage: trial [--seed N] [--histories N] [--fault NAME] [--replay FILE]");
-    eprintln!("faults: {}", names.join(", "));
+    eprintln!(
+        "usage: trial [--part NAME] [--seed N] [--histories N] [--fault NAME] [--replay FILE]"
+    );
+    for part in [Part::Model, Part::Jena, Part::Memory] {
+        eprintln!(
+            "part {}, with the faults {}",
+            part.name(),
+            part.faults().join(", ")
+        );
+    }
     exit(2)
 }
 
 fn options() -> Options {
     let mut options = Options {
+        part: Part::Model,
         seed: 1,
-        histories: 15_000,
+        histories: None,
         fault: None,
         replay: None,
         watched: false,
@@ -61,15 +119,20 @@ fn options() -> Options {
         };
         match name.as_str() {
             "--seed" => options.seed = value.parse().unwrap_or_else(|_| usage()),
-            "--histories" => options.histories = value.parse().unwrap_or_else(|_| usage()),
-            "--fault" => {
-                let fault = Fault::ALL.into_iter().find(|f| f.name() == value);
-                options.fault = Some(fault.unwrap_or_else(|| usage()));
+            "--histories" => options.histories = Some(value.parse().unwrap_or_else(|_| usage())),
+            "--part" => {
+                let part = Part::ALL.into_iter().find(|p| p.name() == value);
+                options.part = part.unwrap_or_else(|| usage());
             }
+            "--fault" => options.fault = Some(value),
             "--replay" => options.replay = Some(value.into()),
             "--trace" => options.trace = Some(value.into()),
             _ => usage(),
         }
+    }
+    let faults = options.part.faults();
+    if options.fault.iter().any(|f| !faults.contains(&f.as_str())) {
+        usage();
     }
     options
 }
@@ -105,26 +168,30 @@ fn beside_program(name: &str) -> PathBuf {
 }
 
 /// Prints a script that is not too long, and says where it lies.
-fn print_script(what: &str, text: &str, path: &std::path::Path) {
+fn print_script(what: &str, text: &str, path: &Path) {
     println!("DIFFERENCE: {what}");
     if text.len() < 20_000 {
         println!("{text}");
     }
-    println!("the script is in {}; run it with --replay", path.display());
+    println!(
+        "the script is in {}; run it with --replay, in the same part",
+        path.display()
+    );
 }
 
 /// Reports a difference with the shortest script found, and ends.
 fn report(harness: &mut Harness, options: &Options, place: &str, failure: Failure) -> ! {
     let failure = harness.shortened(failure);
-    let mut text = format!("# seed {}, {place}\n# {}\n", options.seed, failure.what);
+    let what = failure.what.replace('\n', "\n# ");
+    let mut text = format!("# seed {}, {place}\n# {what}\n", options.seed);
     for command in &failure.script {
         text += &format!("{command}\n");
     }
     let path = beside_program("difference.script");
     std::fs::write(&path, &text).expect("the script cannot be written");
     print_script(&failure.what, &text, &path);
-    if let Some(fault) = options.fault {
-        println!("the model has the fault {}", fault.name());
+    if let Some(fault) = &options.fault {
+        println!("the fault {fault} is planted");
     }
     exit(1)
 }
@@ -191,7 +258,7 @@ fn run(harness: &mut Harness, seed: u64, histories: u64) -> Result<(), (String, 
 
 /// Whether a short run with a planted fault ends in a difference.
 fn finds(fault: Fault, options: &Options) -> bool {
-    let mut harness = Harness::new(Model { fault: Some(fault) });
+    let mut harness = Harness::new(Model { fault: Some(fault) }, Memory::Fenced);
     harness.trace = options.trace.clone();
     (0..300).any(|i| histories::grown(&mut harness, case_seed(options.seed, 0, i)).is_err())
 }
@@ -259,31 +326,17 @@ fn each_kind(counts: &Counts) -> String {
     totals.join(", ")
 }
 
-fn main() {
-    let options = options();
-    if !options.watched {
-        watch();
-    }
-    let mut harness = Harness::new(Model {
-        fault: options.fault,
-    });
-    harness.trace = options.trace.clone();
-    if let Some(path) = &options.replay {
-        let text = std::fs::read_to_string(path).unwrap_or_else(|_| usage());
-        let script = script::parse(&text).unwrap_or_else(|line| {
-            eprintln!("no command: {line}");
-            exit(2)
-        });
-        match harness.replay(&script) {
-            Ok(()) => println!("no difference in {} commands", script.len()),
-            Err(failure) => report(&mut harness, &options, "replay", failure),
-        }
-        return;
-    }
+/// The model's histories, and the small stores beside Jena, where nothing else is asked.
+const HISTORIES: u64 = 15_000;
+const STORES: u64 = 1000;
+
+/// The part `Model`: everything that random and directed calls give, beside the model.
+fn model_part(harness: &mut Harness, options: &Options) {
     let start = Instant::now();
-    test_itself(&options);
-    if let Err((place, failure)) = run(&mut harness, options.seed, options.histories) {
-        report(&mut harness, &options, &place, failure);
+    test_itself(options);
+    let histories = options.histories.unwrap_or(HISTORIES);
+    if let Err((place, failure)) = run(harness, options.seed, histories) {
+        report(harness, options, &place, failure);
     }
     print_counts(&harness.counts);
     let missing = missing(&harness.counts);
@@ -297,4 +350,99 @@ fn main() {
         calls(&harness.counts),
         each_kind(&harness.counts)
     );
+}
+
+/// The part `Jena`: kept facts and questions beside Apache Jena.
+fn jena_part(harness: &mut Harness, options: &Options) {
+    let start = Instant::now();
+    if options.fault.is_none() {
+        match comparison::find_faults(harness, options.seed, &beside_program("faulty.rules")) {
+            Ok(found) => println!("planted faults: {found} of {found} found"),
+            Err(name) => {
+                println!("the planted fault {name} was not found");
+                exit(1)
+            }
+        }
+    }
+    let stores = options.histories.unwrap_or(STORES);
+    if let Err((place, failure)) = comparison::run(harness, options.seed, stores) {
+        report(harness, options, &place, failure);
+    }
+    let time = start.elapsed().as_secs_f64();
+    let seen = harness.peer.as_ref().map(|peer| peer.seen.to_string());
+    println!(
+        "no difference from Jena in {time:.0} s: {}",
+        seen.unwrap_or_default()
+    );
+}
+
+/// What valgrind runs: a planted fault, or the sample.
+fn sample_part(harness: &mut Harness, options: &Options) {
+    let fault = library::Fault::ALL.into_iter();
+    if let Some(fault) = fault
+        .into_iter()
+        .find(|f| Some(f.name()) == options.fault.as_deref())
+    {
+        return memory::fail(fault);
+    }
+    let start = Instant::now();
+    if let Err((place, failure)) = memory::sample(harness, options.seed) {
+        report(harness, options, &place, failure);
+    }
+    let time = start.elapsed().as_secs_f64();
+    println!(
+        "no error seen by valgrind in {} calls in {time:.0} s: {}",
+        calls(&harness.counts),
+        each_kind(&harness.counts)
+    );
+}
+
+/// The harness of a part, with the fault that is asked for.
+fn harness(options: &Options) -> Harness {
+    let named = |name: &str| options.fault.as_deref() == Some(name);
+    let fault = Fault::ALL.into_iter().find(|f| named(f.name()));
+    let memory = match options.part {
+        Part::Sample => Memory::Heap,
+        _ => Memory::Fenced,
+    };
+    let mut harness = Harness::new(Model { fault }, memory);
+    harness.trace = options.trace.clone();
+    if options.part == Part::Jena {
+        harness.peer = Some(Peer::start());
+        if let Some(fault) = comparison::FAULTS.into_iter().find(|f| named(f.0)) {
+            comparison::plant(&mut harness, fault, &beside_program("faulty.rules"));
+        }
+    }
+    harness
+}
+
+/// Runs a script again; beside Jena without the model, which is too slow for the large store.
+fn replay(harness: &mut Harness, options: &Options, path: &Path) {
+    let text = std::fs::read_to_string(path).unwrap_or_else(|_| usage());
+    let script = script::parse(&text).unwrap_or_else(|line| {
+        eprintln!("no command: {line}");
+        exit(2)
+    });
+    harness.model_judges = harness.peer.is_none();
+    match harness.replay(&script) {
+        Ok(()) => println!("no difference in {} commands", script.len()),
+        Err(failure) => report(harness, options, "replay", failure),
+    }
+}
+
+fn main() {
+    let options = options();
+    if options.part == Part::Memory {
+        return memory::run(options.seed);
+    }
+    if !options.watched {
+        watch();
+    }
+    let mut harness = harness(&options);
+    match (&options.replay, options.part) {
+        (Some(path), _) => replay(&mut harness, &options, path),
+        (None, Part::Jena) => jena_part(&mut harness, &options),
+        (None, Part::Sample) => sample_part(&mut harness, &options),
+        (None, _) => model_part(&mut harness, &options),
+    }
 }

@@ -1,9 +1,11 @@
 //! Commands run on library and model side by side, everything compared after each.
 
+use crate::fence::Memory;
 use crate::library::Library;
 use crate::model::ledger::Ledger;
 use crate::model::questions::write_rows;
 use crate::model::{Model, IDLE};
+use crate::peer::Peer;
 use crate::script::{Call, Command, Expected, Way};
 use crate::store::{Store, Table};
 use std::collections::BTreeMap;
@@ -36,6 +38,10 @@ const SHORTENING: Duration = Duration::from_secs(20);
 /// What all sessions share.
 pub struct Harness {
     pub model: Model,
+    /// Whether the model judges each call; it is too slow for a large store.
+    pub model_judges: bool,
+    /// Another program that judges the accepted questions to grown stores, where one is wanted.
+    pub peer: Option<Peer>,
     pub library: Library,
     pub counts: Counts,
     /// A file that gets each command of the present session before it is run.
@@ -43,10 +49,12 @@ pub struct Harness {
 }
 
 impl Harness {
-    pub fn new(model: Model) -> Harness {
+    pub fn new(model: Model, memory: Memory) -> Harness {
         Harness {
             model,
-            library: Library::new(),
+            model_judges: true,
+            peer: None,
+            library: Library::new(memory),
             counts: Counts::new(),
             trace: None,
         }
@@ -80,6 +88,7 @@ pub struct Session<'a> {
     pub harness: &'a mut Harness,
     pub store: Store,
     pub last: Outcome,
+    /// The ledger, where the store was grown from empty.
     ledger: Option<Ledger>,
     script: Vec<Command>,
     trace: Option<File>,
@@ -154,25 +163,40 @@ impl<'a> Session<'a> {
         Ok(())
     }
 
-    /// Makes a call on library, model and ledger, and compares all that they give and leave.
+    /// Makes a call on the library, and compares what it gives and leaves with each judge.
     fn compare(&mut self, call: &Call) -> Result<(), String> {
-        let mut expected_store = self.store.clone();
-        let expected = self.harness.model.call(&mut expected_store, call);
+        let before = self.harness.model_judges.then(|| self.store.clone());
         let found = self.harness.library.call(&mut self.store, call)?;
-        *self
-            .harness
-            .counts
-            .entry((call.kind(), found.number))
-            .or_default() += 1;
-        differ_outcome(&found, &expected, "the model")?;
-        differ_store(&self.store, &expected_store, "the model")?;
-        if let Some(ledger) = &mut self.ledger {
-            if let Some(expected) = ledger_call(ledger, call) {
-                differ_outcome(&found, &expected, "the ledger")?;
-                differ_store(&self.store, &ledger.store(&self.store), "the ledger")?;
+        let answer = (call.kind(), found.number);
+        *self.harness.counts.entry(answer).or_default() += 1;
+        if let Some(before) = before {
+            self.judge_by_model(call, &found, before)?;
+        }
+        if let (Some(peer), Some(_)) = (&mut self.harness.peer, &self.ledger) {
+            if let (Call::Ask(_, question, _), 0) = (call, found.number) {
+                peer.judge(&self.store, question, &found)?;
             }
         }
         self.last = found;
+        Ok(())
+    }
+
+    /// Compares a call's outcome and the store after it with the model and the ledger.
+    fn judge_by_model(
+        &mut self,
+        call: &Call,
+        found: &Outcome,
+        mut store: Store,
+    ) -> Result<(), String> {
+        let expected = self.harness.model.call(&mut store, call);
+        differ_outcome(found, &expected, "the model")?;
+        differ_store(&self.store, &store, "the model")?;
+        if let Some(ledger) = &mut self.ledger {
+            if let Some(expected) = ledger_call(ledger, call) {
+                differ_outcome(found, &expected, "the ledger")?;
+                differ_store(&self.store, &ledger.store(&self.store), "the ledger")?;
+            }
+        }
         Ok(())
     }
 

@@ -1,0 +1,191 @@
+//! Our library by itself: ways of loading, and lone updates, listings and deliveries beside one memcpy of the store's tables or question 1.
+
+use crate::clock::{median, repeated, timed};
+use crate::contest::Contestant;
+use crate::library::{Store, Table, Triple, Way};
+use crate::ours::Ours;
+use crate::tables::{grouped, time, times};
+use crate::workload::{self, delivery, Mix};
+use crate::{progress, Scale};
+use std::time::Duration;
+
+/// Puts rows into a table, which must be empty; they become ascending.
+fn fill(table: &mut [u32], triples: &[Triple]) {
+    let mut sorted = triples.to_vec();
+    sorted.sort();
+    table[0] = sorted.len() as u32;
+    table[1..=3 * sorted.len()].copy_from_slice(&sorted.concat());
+}
+
+/// A store whose tables hold these statements and facts; the facts alone are kept, each with support 1, until a statement changes.
+fn lent(statements: &[Triple], facts: &[Triple]) -> Store {
+    let mut store = Store::empty(512, 65_535, 262_143);
+    fill(&mut store.statements, statements);
+    fill(&mut store.facts, facts);
+    fill(&mut store.kept, facts);
+    store.supports[..facts.len()].fill(1);
+    store
+}
+
+/// The store of a run, saturated: all statements but one are lent, and the last is added.
+fn saturated(statements: &[Triple], facts: &[Triple]) -> Store {
+    let (last, others) = statements.split_last().expect("a statement");
+    let mut store = lent(others, facts);
+    assert_eq!(store.add(*last), 0, "adding {last:?}");
+    store
+}
+
+/// How long our library takes to load and saturate the triples, by deliveries, in the order in which they come.
+fn delivered(statements: &[Triple], facts: &[Triple]) -> Duration {
+    Ours::new().load(statements, facts).expect("deliveries that are applied")
+}
+
+/// Ways of loading, and updates without statements, where a fact carries itself alone.
+pub struct Alone {
+    /// Deliveries, the facts in ascending order.
+    pub ascending: Duration,
+    /// The facts are lent as a table, and one delivery adds the statements.
+    pub statements_delivered: Duration,
+    /// All is lent but one statement, which is added: the kept facts are worked out afresh, once.
+    pub afresh: Duration,
+    /// A fact added and withdrawn where there are no statements.
+    pub plain: [Duration; 2],
+    /// Question 1 alone, for the kept way and for the rewritten way.
+    pub first_question: [Duration; 2],
+}
+
+impl Alone {
+    /// Measures all of it.
+    pub fn measure(scale: &Scale, statements: &[Triple], facts: &[Triple]) -> Alone {
+        progress("our library: ways of loading");
+        let bytes = delivery([&[], &[], statements, &[]]);
+        let (last, others) = statements.split_last().expect("a statement");
+        let by_delivery = |_| {
+            let mut store = lent(&[], facts);
+            timed(|| assert_eq!(store.deliver(&bytes).1[1] as usize, statements.len())).0
+        };
+        let by_one = |_| {
+            let mut store = lent(others, facts);
+            timed(|| assert_eq!(store.add(*last), 0)).0
+        };
+        let store = saturated(statements, facts);
+        let mut ascending = facts.to_vec();
+        ascending.sort();
+        Alone {
+            ascending: median((0..scale.rounds).map(|_| delivered(statements, &ascending)).collect()),
+            statements_delivered: median((0..scale.rounds).map(by_delivery).collect()),
+            afresh: median((0..scale.rounds).map(by_one).collect()),
+            plain: updates(&mut lent(&[], facts), &spread(facts, 50)),
+            first_question: [Way::Kept, Way::Rewritten].map(|way| first_question(&store, way)),
+        }
+    }
+}
+
+/// Question 1 alone: a question with no word is refused by 6 right after it.
+fn first_question(store: &Store, way: Way) -> Duration {
+    repeated(21, || assert_eq!(store.ask(way, &[], &mut []).0, 6))
+}
+
+/// One copy of all four tables.
+fn copy(store: &Store) -> Duration {
+    let mut to = store.clone();
+    repeated(21, || {
+        to.statements.copy_from_slice(&store.statements);
+        to.facts.copy_from_slice(&store.facts);
+        to.kept.copy_from_slice(&store.kept);
+        to.supports.copy_from_slice(&store.supports);
+    })
+}
+
+/// Additions and withdrawals of one triple after another: the median of each. The store has the triples before and after.
+fn updates(store: &mut Store, triples: &[Triple]) -> [Duration; 2] {
+    let mut added = Vec::new();
+    let mut withdrawn = Vec::new();
+    for &t in triples {
+        let (time, answer) = timed(|| store.withdraw(t));
+        assert_eq!(answer, 0, "withdrawing {t:?}");
+        withdrawn.push(time);
+        let (time, answer) = timed(|| store.add(t));
+        assert_eq!(answer, 0, "adding {t:?}");
+        added.push(time);
+    }
+    [median(added), median(withdrawn)]
+}
+
+/// So many of some triples, spread over them.
+pub fn spread(triples: &[Triple], n: usize) -> Vec<Triple> {
+    (0..n).map(|i| triples[i * triples.len() / n]).collect()
+}
+
+/// A time, and in brackets how many of a unit it is worth.
+fn cell(duration: Duration, unit: Duration) -> String {
+    format!("{} ({})", time(duration), times(duration, unit))
+}
+
+/// Lone updates on stores of several sizes.
+pub fn updates_by_size(scale: &Scale, statements: &[Triple], mix: Mix) -> String {
+    let mut out = String::from("| facts | kept rows | memcpy | add a fact | withdraw a fact | add a statement | withdraw a statement |\n");
+    out += "|---|---|---|---|---|---|---|\n";
+    for &n in &scale.sizes {
+        progress(&format!("our library: updates with {n} facts"));
+        let facts = workload::facts(n, statements.len(), mix, 7);
+        let mut store = saturated(statements, &facts);
+        let unit = copy(&store);
+        let [added, withdrawn] = updates(&mut store, &spread(&facts, 50));
+        let [stated, unstated] = updates(&mut store, &spread(statements, 10));
+        let cells = [added, withdrawn, stated, unstated].map(|t| cell(t, unit)).join(" | ");
+        out += &format!("| {} | {} | {} | {cells} |\n", grouped(n), grouped(store.kept[0] as usize), time(unit));
+    }
+    out
+}
+
+/// Listings of the largest store, as stored and in the other orders.
+pub fn listings(scale: &Scale, statements: &[Triple], mix: Mix) -> String {
+    progress("our library: listings");
+    let n = *scale.sizes.last().expect("a size");
+    let store = saturated(statements, &workload::facts(n, statements.len(), mix, 7));
+    let unit = copy(&store);
+    let mut rows = vec![0u32; store.kept.len()];
+    let mut out = format!("{} facts, {} kept rows.\n\n", grouped(n), grouped(store.kept[0] as usize));
+    out += "| listing | order 0 (as stored) | other orders |\n|---|---|---|\n";
+    for (name, table) in [("statements", Table::Statements), ("facts", Table::Facts), ("kept facts", Table::Kept)] {
+        let mut times = (0..6).map(|order| repeated(5, || assert_eq!(store.list(table, order, &mut rows).0, 0)));
+        let first = times.next().expect("an order");
+        let mut others: Vec<Duration> = times.collect();
+        others.sort();
+        out += &format!("| {name} | {} | {} to {} |\n", cell(first, unit), cell(others[0], unit), cell(others[4], unit));
+    }
+    out
+}
+
+/// Deliveries. One with no byte is refused by 9 right after question 1, so that its time is that of question 1.
+pub fn deliveries(scale: &Scale, statements: &[Triple]) -> String {
+    progress("our library: deliveries");
+    let facts = workload::facts(scale.facts + scale.facts / 4, statements.len(), workload::DENSE, 7);
+    let (new, old): (Vec<_>, Vec<_>) = facts.iter().enumerate().partition(|(i, _)| i % 5 == 0);
+    let [new, old] = [new, old].map(|part| part.into_iter().map(|(_, &t)| t).collect::<Vec<Triple>>());
+    let (first, second) = statements.split_at(statements.len() / 2);
+    let store = saturated(first, &old);
+    let unit = {
+        let mut store = store.clone();
+        repeated(21, || assert_eq!(store.deliver(&[]).0, 9))
+    };
+    let mut out = format!(
+        "A store of {} facts, {} statements and {} kept rows; question 1 alone takes {}.\n\n",
+        grouped(old.len()),
+        first.len(),
+        grouped(store.kept[0] as usize),
+        time(unit)
+    );
+    out += "| delivery | time (in brackets: how many times question 1) |\n|---|---|\n";
+    for (name, count, bytes) in
+        [("facts added", new.len(), delivery([&[], &[], &[], &new])), ("statements added", second.len(), delivery([&[], &[], second, &[]]))]
+    {
+        let run = |_| {
+            let mut store = store.clone();
+            timed(|| assert_eq!(store.deliver(&bytes).1[1] as usize, count)).0
+        };
+        out += &format!("| {} {name} | {} |\n", grouped(count), cell(median((0..scale.rounds).map(run).collect()), unit));
+    }
+    out
+}

@@ -1,0 +1,78 @@
+//! Questions taken apart for the programs beside ours: atoms, and what the rewritten way puts in their place.
+
+use crate::contest::Outcome;
+use crate::library::{Store, Triple};
+
+/// The most alternatives of an atom that are asked for.
+const ROOM: usize = 3 * 100_000;
+
+/// An atom, and by kind the alternatives that our library gives for it (1 subclass, 2 domain, 3 range, 4 subproperty), as source and
+/// target. A statement's atom has none.
+pub struct Atom {
+    pub words: Triple,
+    pub alternatives: [Vec<[u32; 2]>; 4],
+}
+
+/// A question's atoms, with their alternatives, and its head variables.
+pub struct Question {
+    pub atoms: Vec<Atom>,
+    pub head: Vec<u32>,
+}
+
+/// The number of a variable.
+pub fn variable(word: u32) -> Option<u32> {
+    (word >= 0xC000_0000).then_some(word - 0xC000_0000)
+}
+
+impl Atom {
+    /// Whether the atom can match statements alone; a variable property is not part of this workload.
+    pub fn is_of_statements(&self) -> bool {
+        (2..=5).contains(&self.words[1])
+    }
+
+    /// The variables of the atom.
+    pub fn variables(&self) -> Vec<u32> {
+        self.words.iter().filter(|&&word| variable(word).is_some()).copied().collect()
+    }
+}
+
+/// What rewrites questions: our library with the statements loaded, and nothing else.
+pub struct Rewriter(Store);
+
+impl Rewriter {
+    /// One for no statements.
+    pub fn new() -> Rewriter {
+        Rewriter(Store::empty(512, 0, 0))
+    }
+
+    /// Takes the place of the statements before.
+    pub fn load(&mut self, statements: &[Triple]) -> Outcome<()> {
+        *self = Rewriter::new();
+        let refused = statements.iter().find(|&&t| self.0.add(t) != 0);
+        refused.map_or(Ok(()), |t| Err(format!("the statement {t:?} was refused")))
+    }
+
+    /// Takes a question apart.
+    pub fn question(&self, words: &[u32]) -> Outcome<Question> {
+        let end = 2 + 3 * words[0] as usize;
+        let atoms = words[2..end].chunks(3).map(|words| self.atom([words[0], words[1], words[2]])).collect::<Outcome<_>>()?;
+        Ok(Question { atoms, head: words[end..].to_vec() })
+    }
+
+    /// An atom with its alternatives.
+    fn atom(&self, words: Triple) -> Outcome<Atom> {
+        let mut atom = Atom { words, alternatives: Default::default() };
+        if variable(words[1]).is_some() {
+            return Err("a question with a variable property".into());
+        }
+        let mut rows = vec![0; ROOM];
+        let (number, count) = self.0.alternatives(words, &mut rows);
+        if number != 0 {
+            return Err(format!("alternatives refused by {number}"));
+        }
+        for row in rows.chunks(3).take(count as usize).filter(|row| row[0] > 0) {
+            atom.alternatives[row[0] as usize - 1].push([row[1], row[2]]);
+        }
+        Ok(atom)
+    }
+}

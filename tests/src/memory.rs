@@ -1,0 +1,97 @@
+//! A sample of the trial under valgrind, each slice in a heap block of exactly its length.
+
+use crate::fence::Memory;
+use crate::histories;
+use crate::library::Fault;
+use crate::model::Model;
+use crate::random::case_seed;
+use crate::script::{Call, Command, Output};
+use crate::session::{Failure, Harness, Session};
+use crate::store::{Store, Table};
+use std::process::{exit, Stdio};
+
+/// The exit status by which valgrind says that it saw an error.
+const SEEN: i32 = 99;
+
+/// Runs the sample under valgrind: the exit status.
+fn status(arguments: &[&str], quiet: bool) -> Option<i32> {
+    let program = std::env::current_exe().expect("this program has no path");
+    let mut command = std::process::Command::new("valgrind");
+    command
+        .args(["--quiet", &format!("--error-exitcode={SEEN}")])
+        .arg(program);
+    command
+        .args(["--watched", "--part", "sample"])
+        .args(arguments);
+    if quiet {
+        command.stdout(Stdio::null()).stderr(Stdio::null());
+    }
+    let status = command.status().expect("valgrind cannot be started");
+    status.code()
+}
+
+/// Demands that valgrind sees each planted fault, and nothing in the sample.
+pub fn run(seed: u64) {
+    for fault in Fault::ALL {
+        let found = status(&["--fault", fault.name()], true);
+        if found != Some(SEEN) {
+            println!(
+                "valgrind did not see the planted fault {}: {found:?}",
+                fault.name()
+            );
+            exit(1);
+        }
+    }
+    println!(
+        "planted faults: {0} of {0} seen by valgrind",
+        Fault::ALL.len()
+    );
+    match status(&["--seed", &seed.to_string()], false) {
+        Some(0) => {}
+        Some(SEEN) => {
+            println!("valgrind saw an error in the library; seed {seed}");
+            exit(1)
+        }
+        other => {
+            println!("the sample under valgrind ended with {other:?}; seed {seed}");
+            exit(1)
+        }
+    }
+}
+
+/// A listing of a table of one row, with a planted fault.
+pub fn fail(fault: Fault) {
+    let mut harness = Harness::new(Model::default(), Memory::Heap);
+    let mut session = Session::new(&mut harness);
+    let lengths = [Store::words(1); 4];
+    let output = Output { words: 6, fill: 1 };
+    let list = Call::List(Table::Statements, 0, output);
+    for command in [
+        Command::Empty(lengths),
+        Command::Call(Call::Add([16, 2, 17])),
+    ] {
+        session
+            .run(command)
+            .unwrap_or_else(|f| panic!("{}", f.what));
+    }
+    session.harness.library.fault = Some(fault);
+    let _ = session.call(list);
+}
+
+/// The cases of the sample: what runs one, and how many.
+const CASES: [(fn(&mut Harness, u64) -> Result<(), Failure>, u64); 3] = [
+    (histories::grown, 300),
+    (histories::lent, 300),
+    (histories::damaged, 900),
+];
+
+/// Runs the sample; the place and the failure of the first difference.
+pub fn sample(harness: &mut Harness, seed: u64) -> Result<(), (String, Failure)> {
+    for (number, (case, cases)) in CASES.into_iter().enumerate() {
+        for i in 0..cases {
+            case(harness, case_seed(seed, 32 + number as u64, i))
+                .map_err(|f| (format!("sample {number}, case {i}"), f))?;
+        }
+    }
+    Ok(())
+}
