@@ -37,7 +37,7 @@ fn are_rows(t: &[u32], n: usize, statements: bool) -> bool
     'rows: while i < n {
         let row = i;
         i += 1;
-        if !is_allowed(statements, row_at(t, 0)) {
+        if !is_allowed(statements, row_at(t, row)) {
             return false;
         }
         if row == 0 {
