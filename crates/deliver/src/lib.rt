@@ -76,7 +76,7 @@ pub fn deliver(
 ) -> Delivered
     ensures { λ r. ⌜ (r, tables (now (statements .exit)) (now (facts .exit)) (now (kept .exit)) (now (supports .exit))) ≡ deliver (tables (now (statements .entry)) (now (facts .entry)) (now (kept .entry)) (now (supports .entry))) (now (bytes .entry)) ⌝ }
 {
-    if !table::is_store(statements, facts, kept, supports) {
+    if !form::is_store(statements, facts, kept, supports) {
         return refuse(1);
     }
     if !delivery::is_whole(bytes) {

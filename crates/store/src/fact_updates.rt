@@ -21,7 +21,7 @@ ghost use Rattle.store.specs.Update.{outcome, add, withdraw};
 pub fn kept_capacity(kept: &[u32], supports: &[u16]) -> usize
     ensures { λ r. ⌜ r ≡ min (capacity mostKept (now (kept .entry))) (length (now (supports .entry))) ⌝ }
 {
-    let rows = table::capacity(kept.len(), table::MOST_KEPT);
+    let rows = table::capacity(kept.len(), form::MOST_KEPT);
     if rows < supports.len() {
         rows
     } else {
@@ -44,7 +44,7 @@ fn add_new_fact(
     ensures { λ r. ⌜ outcome r (tables (now (statements .entry)) (now (facts .exit)) (now (kept .exit)) (now (supports .exit))) ≡ add (tables (now (statements .entry)) (now (facts .entry)) (now (kept .entry)) (now (supports .entry))) fact ⌝ }
 {
     let n = facts[0] as usize;
-    if table::capacity(facts.len(), table::MOST_FACTS) <= n {
+    if table::capacity(facts.len(), form::MOST_FACTS) <= n {
         return Answer::Refused(4);
     }
     let mut list = carry::no_rows();

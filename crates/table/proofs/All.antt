@@ -1,6 +1,6 @@
 -- Laws of tests of each element and of zeros. Assumes nothing.
 use Prim.Native.Nat.{ℕ, zero, suc, _+_, _≤_, _<_}
-use mathlib.Core.Path.{_≡_, refl, ap₂, subst}
+use mathlib.Core.Path.{_≡_, refl, sym, ap, ap₂, _∙_, subst}
 use mathlib.Core.Bool.{Bool, true, false, _&&_}
 use mathlib.Core.Logic.{⊎-elim}
 use mathlib.Core.List.{List, [], _∷_, _++_, List·Memᴰ, List·Memᴰ·head, List·Memᴰ·tail, List·Memᴰ·cases-cons, List·Memᴰ·not-nil}
@@ -10,6 +10,7 @@ use lib.ListN.{length, getD, drop, replicate, drop-of-length-le}
 use lib.Seq.{drop-cons}
 use lib.Dec.{eqb}
 use borrow.Author.Tests.{eqb-true, eq-eqb, ne-eqb}
+use Rattle.rdf.specs.declared.Triple.{Triple}
 use Rattle.rdf.proofs.Ascending.{and-left, and-right}
 use Rattle.table.specs.Table.{all, areZero}
 
@@ -63,6 +64,10 @@ module _ {A : Type 0} (test : A → Bool) where
   pub all-end : (xs : List A) (i : ℕ) → length xs ≤ i → all test (drop i xs) ≡ true
   unfolding all
   all-end xs i h = rw (drop-of-length-le xs h)
+
+-- A test of a row that was read: b is its answer.
+pub answered : (test : Triple → Bool) {t u : Triple} {a b : Bool} → t ≡ u → a ≡ test t → a ≡ b → test u ≡ b
+answered test e p q = ap test (sym e) ∙ sym p ∙ q
 
 -- ---- zeros
 

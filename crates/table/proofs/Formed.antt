@@ -1,21 +1,20 @@
 -- A well-formed table is the layout of its rows, which ascend, are allowed and are within the capacity, and back. Assumes nothing.
 use Prim.Native.Nat.{ℕ, suc, _+_, _-_, _*_, _/_, _^_, _≤_, _<_}
-use mathlib.Core.Path.{_≡_, refl}
-use mathlib.Core.Bool.{Bool, true, false, _&&_}
+use mathlib.Core.Path.{_≡_}
+use mathlib.Core.Bool.{Bool, true}
 use mathlib.Core.List.{List, [], _∷_, _++_}
-use native.Mathlib.Numerals.{add-one}
 use native.Mathlib.Omega.{arith}
 use lib.ListN.{length, drop, replicate, length-append, length-replicate, length-drop, take-append-drop}
 use lib.Seq.{drop-at}
 use lib.Dec.{leb}
-use borrow.Author.Tests.{leb-true, le-leb, lt-leb}
+use borrow.Author.Tests.{leb-true, le-leb}
 use Rattle.rdf.specs.declared.Triple.{Triple}
 use Rattle.rdf.specs.Order.{isAscending, Ascending}
 use Rattle.rdf.proofs.Ascending.{and-left, and-right, isAscending-iff}
-use Rattle.table.specs.Table.{capacity, count, firstRows, rows, flatten, layout, areZero, all, isTable}
+use Rattle.table.specs.Table.{capacity, firstRows, rows, flatten, layout, areZero, all, isTable}
 use Rattle.table.specs.Laid.{Spare, WellFormed}
 use Rattle.table.proofs.Rows.{length-firstRows, flatten-firstRows, firstRows-flatten, firstRows-rows, length-flatten, laid}
-use Rattle.table.proofs.All.{and-assoc, replicate-of, areZero-replicate}
+use Rattle.table.proofs.All.{replicate-of, areZero-replicate}
 
 -- ---- capacity
 
@@ -48,25 +47,6 @@ capacity-room most ws h = omega arith
 pub capacity-limit : (most : ℕ) (ws : List ℕ) → most ≤ (length ws - 1) / 3 → most ≡ capacity most ws
 unfolding capacity
 capacity-limit most ws h = omega arith
-
--- ---- the tests of a table, one by one
-
-pub no-word : (allowed : Triple → Bool) (most : ℕ) (ws : List ℕ) → length ws ≡ 0 → isTable allowed most ws ≡ false
-unfolding isTable
-no-word allowed most [] h = refl
-no-word allowed most (n ∷ ws) h = absurd (omega arith)
-
-pub too-many : (allowed : Triple → Bool) (most : ℕ) (ws : List ℕ) → 0 < length ws → capacity most ws < count ws → isTable allowed most ws ≡ false
-unfolding isTable
-too-many allowed most [] h k = absurd (omega arith)
-too-many allowed most (n ∷ ws) h k = rw (lt-leb n (capacity most (n ∷ ws)) k)
-
-pub enough : (allowed : Triple → Bool) (most : ℕ) (ws : List ℕ) → 0 < length ws → count ws ≤ capacity most ws
-    → isTable allowed most ws ≡ ((isAscending (firstRows (count ws) (drop 1 ws)) && all allowed (firstRows (count ws) (drop 1 ws))) && areZero (drop (count ws * 3 + 1) ws))
-unfolding isTable
-enough allowed most [] h k = absurd (omega arith)
-enough allowed most (n ∷ ws) h k =
-    rw (le-leb n (capacity most (n ∷ ws)) k, add-one (n * 3)) (and-assoc (isAscending (firstRows n ws)) (all allowed (firstRows n ws)) (areZero (drop (n * 3) ws)))
 
 -- ---- the whole test
 

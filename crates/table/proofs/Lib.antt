@@ -5,7 +5,6 @@ pub mod Shift
 pub mod Insert
 pub mod Remove
 pub mod All
-pub mod Scan
 pub mod Formed
 pub mod Supports
 pub mod Change

@@ -1,17 +1,17 @@
 -- Well-formed supports are the layout of the supports of the rows, each between 1 and the number of facts, and back. Assumes nothing.
 use Prim.Native.Nat.{ℕ, _+_, _-_, _≤_, _<_}
 use mathlib.Core.Path.{_≡_}
-use mathlib.Core.Bool.{Bool, true, false, _&&_}
+use mathlib.Core.Bool.{true}
 use mathlib.Core.List.{List, _++_}
 use native.Mathlib.Omega.{arith}
 use lib.ListN.{length, getD, take, drop, replicate, length-append, length-replicate, length-drop, take-append-drop}
 use lib.Seq.{take-at, drop-at, getD-take, length-take-le}
 use lib.Dec.{leb}
-use borrow.Author.Tests.{leb-true, le-leb, lt-leb}
+use borrow.Author.Tests.{leb-true, le-leb}
 use Rattle.rdf.proofs.Ascending.{and-left, and-right}
 use Rattle.table.specs.Table.{areZero, all, isSupport, isSupportTable, supportLayout}
 use Rattle.table.specs.Laid.{Supports}
-use Rattle.table.proofs.All.{and-false, all-getD, all-more, all-stop, all-end, replicate-of, areZero-replicate}
+use Rattle.table.proofs.All.{all-getD, replicate-of, areZero-replicate}
 
 -- ---- one support
 
@@ -20,12 +20,6 @@ isSupport-between facts u e = (leb-true 1 u (and-left _ _ e), leb-true u facts (
 
 pub between-isSupport : (facts u : ℕ) → 1 ≤ u → u ≤ facts → isSupport facts u ≡ true
 between-isSupport facts u h k = rw (le-leb 1 u h, le-leb u facts k)
-
-pub too-low : (facts u : ℕ) → u < 1 → isSupport facts u ≡ false
-too-low facts u h = rw (lt-leb 1 u h)
-
-pub too-high : (facts u : ℕ) → facts < u → isSupport facts u ≡ false
-too-high facts u h = rw (lt-leb u facts h) (and-false (leb 1 u))
 
 -- ---- the table
 
@@ -65,30 +59,3 @@ supports-is {facts} {n} {us} S = rw (S .is-layout) (supportLayout-is facts (leng
 pub support-between : {facts n : ℕ} {us : List ℕ} → Supports facts n us → (i : ℕ) → i < n → (1 ≤ getD us i 0) × (getD us i 0 ≤ facts)
 support-between {facts} {n} {us} S i h =
     isSupport-between facts (getD us i 0) (rw (getD-take n us i 0 h) at (all-getD (isSupport facts) (take n us) 0 (S .each-support) i (rw (length-take-le n us (S .within)) h)))
-
--- ---- the test
-
-pub too-few : (facts n : ℕ) (us : List ℕ) → length us < n → isSupportTable facts n us ≡ false
-unfolding isSupportTable
-too-few facts n us h = rw (lt-leb n (length us) h)
-
-pub enough-places : (facts n : ℕ) (us : List ℕ) → n ≤ length us → isSupportTable facts n us ≡ (all (isSupport facts) (take n us) && areZero (drop n us))
-unfolding isSupportTable
-enough-places facts n us h = rw (le-leb n (length us) h)
-
--- The scan of the supports goes by what is left.
-module _ (facts n : ℕ) (us : List ℕ) (fits : n ≤ length us) (i : ℕ) where
-  at-support : (b : Bool) → i < n → isSupport facts (getD us i 0) ≡ b → isSupport facts (getD (take n us) i 0) ≡ b
-  at-support b h e = rw (getD-take n us i 0 h) e
-
-  inside : i < n → i < length (take n us)
-  inside h = rw (length-take-le n us fits) h
-
-  pub support-more : i < n → 1 ≤ getD us i 0 → getD us i 0 ≤ facts → all (isSupport facts) (drop i (take n us)) ≡ all (isSupport facts) (drop (i + 1) (take n us))
-  support-more h a b = all-more (isSupport facts) (take n us) i 0 (inside h) (at-support true h (between-isSupport facts (getD us i 0) a b))
-
-  pub support-stop : i < n → isSupport facts (getD us i 0) ≡ false → all (isSupport facts) (drop i (take n us)) ≡ false
-  support-stop h e = all-stop (isSupport facts) (take n us) i 0 (inside h) (at-support false h e)
-
-  pub support-end : n ≤ i → all (isSupport facts) (drop i (take n us)) ≡ true
-  support-end h = all-end (isSupport facts) (take n us) i (rw (length-take-le n us fits) h)

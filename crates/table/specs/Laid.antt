@@ -1,18 +1,13 @@
 -- What a table's words are, as functions on tables ask for it and as the laws give it. Definitions only.
 use Prim.Native.Nat.{ℕ, _+_, _*_, _^_, _≤_, _<_}
 use mathlib.Core.Path.{_≡_}
-use mathlib.Core.Bool.{Bool, true, false}
+use mathlib.Core.Bool.{Bool, true}
 use mathlib.Core.List.{List}
 use lib.ListN.{length, take}
 use Rattle.rdf.specs.declared.Triple.{Triple}
 use Rattle.rdf.specs.Triple.{isAllowedStatement, isAllowedFact}
 use Rattle.rdf.specs.Order.{Ascending}
 use Rattle.table.specs.Table.{mostStatements, mostFacts, mostKept, capacity, count, rows, layout, all, isSupport, supportLayout}
-
--- Which rows may stand in a table: statements, or facts.
-abbrev pub allowedIn : Bool → Triple → Bool
-allowedIn true = isAllowedStatement
-allowedIn false = isAllowedFact
 
 -- Words that are the layout of their rows. The count and the room follow from the first.
 pub record Laid (ws : List ℕ) : Type 0 where

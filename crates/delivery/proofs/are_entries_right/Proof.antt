@@ -5,7 +5,7 @@ use Prim.Native.Nat.{_+_, _*_, _≤_}
 use lib.ListN.{length}
 use borrow.Author.Tests.{not-true, not-false}
 use Rattle.table.specs.Table.{all}
-use Rattle.table.proofs.Scan.{answered}
+use Rattle.table.proofs.All.{answered}
 use Rattle.delivery.specs.Message.{entriesFrom}
 use Rattle.delivery.specs.Fields.{isRightIn}
 use Rattle.delivery.proofs.Walk.{entries-more, entries-stop, entries-end}

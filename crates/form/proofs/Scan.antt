@@ -1,6 +1,6 @@
 -- The scan of a table's rows: of the whole the answer is that of what is left. Assumes nothing.
 use Prim.Native.Nat.{ℕ, zero, suc, _+_, _-_, _*_, _≤_, _<_}
-use mathlib.Core.Path.{_≡_, refl, sym, ap, _∙_}
+use mathlib.Core.Path.{_≡_, refl, sym}
 use mathlib.Core.Bool.{Bool, true, false, _&&_}
 use mathlib.Core.List.{List, [], _∷_}
 use native.Mathlib.Nat.{add-zero}
@@ -34,10 +34,6 @@ asc-end (t ∷ ts) (suc i) h = asc-end ts i (omega arith)
 
 not-isLess : (t u : Triple) → ¬ Less t u → isLess t u ≡ false
 not-isLess t u n = byOrder-elim (λ (b : Bool). b ≡ false) (compareTriples t u) (λ l. absurd (n l)) (λ _. refl) (λ _. refl)
-
--- A test of a row that was read: b is its answer.
-pub answered : (test : Triple → Bool) {t u : Triple} {a b : Bool} → t ≡ u → a ≡ test t → a ≡ b → test u ≡ b
-answered test e p q = ap test (sym e) ∙ sym p ∙ q
 
 module _ (test : Triple → Bool) (ws : List ℕ) (n : ℕ) where
   -- What is to be tested of the rows from i on: that they ascend from the row before, and that each passes.

@@ -1,7 +1,7 @@
 -- By `is_table`.
 use borrow.Author.Needs.{needs}
-use Rattle.table.proofs.is_statement_table.Statement.{statement}
-use Rattle.table.proofs.is_statement_table.Tie as tie
+use Rattle.form.proofs.is_statement_table.Statement.{statement}
+use Rattle.form.proofs.is_statement_table.Tie as tie
 
 is-table-requires : tie.Need-is-table-requires
 is-table-requires c κs = search needs

@@ -3,11 +3,11 @@ use mathlib.Core.Path.{sym, _∙_}
 use native.Mathlib.Omega.{arith}
 use borrow.Author.Tests.{not-true, not-false}
 use Rattle.rdf.specs.Triple.{isAllowedFact}
 use Rattle.table.specs.Table.{isStore, mostFacts, mostKept}
 use Rattle.table.proofs.Formed.{some-word}
 use borrow.Author.Needs.{needs}
-use Rattle.table.proofs.is_store.Statement.{statement}
-use Rattle.table.proofs.is_store.Tie as tie
+use Rattle.form.proofs.is_store.Statement.{statement}
+use Rattle.form.proofs.is_store.Tie as tie
 
 is-statement-table-requires : tie.Need-is-statement-table-requires
 is-statement-table-requires c κs = search needs

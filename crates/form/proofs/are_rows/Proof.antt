@@ -5,10 +5,11 @@ use mathlib.Core.Path.{_≡_, refl, sym, _∙_}
 use native.Mathlib.Omega.{arith}
 use borrow.Author.Tests.{not-true, not-false}
 use borrow.Author.Count.{below-more}
-use Rattle.table.specs.Laid.{allowedIn}
-use Rattle.table.proofs.Scan.{answered, left, refused, first, ascended, not-ascended, ended, Same, less-before, more-before, same-before}
-use Rattle.table.proofs.are_rows.Statement.{statement}
-use Rattle.table.proofs.are_rows.Tie as tie
+use Rattle.form.specs.Allowed.{allowedIn}
+use Rattle.table.proofs.All.{answered}
+use Rattle.form.proofs.Scan.{left, refused, first, ascended, not-ascended, ended, Same, less-before, more-before, same-before}
+use Rattle.form.proofs.are_rows.Statement.{statement}
+use Rattle.form.proofs.are_rows.Tie as tie
 
 abbrev Inv-words : tie.InvT-words
 Inv-words t n statements i row at before k₀ k = (k ≤ 3) × Same t before at k

@@ -2,12 +2,13 @@
 use Prim.Native.Nat.{_≤_}
 use mathlib.Core.Path.{refl, sym}
 use native.Mathlib.Omega.{arith}
 use Rattle.table.specs.Table.{capacity, count}
-use Rattle.table.specs.Laid.{allowedIn}
-use Rattle.table.proofs.Formed.{capacity-fits, no-word, too-many, enough}
+use Rattle.form.specs.Allowed.{allowedIn}
+use Rattle.table.proofs.Formed.{capacity-fits}
+use Rattle.form.proofs.Tests.{no-word, too-many, enough}
 use borrow.Author.Needs.{needs}
-use Rattle.table.proofs.is_table.Statement.{statement}
-use Rattle.table.proofs.is_table.Tie as tie
+use Rattle.form.proofs.is_table.Statement.{statement}
+use Rattle.form.proofs.is_table.Tie as tie
 
 returns : tie.Need-returns
 returns c =

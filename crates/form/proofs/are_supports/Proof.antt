@@ -4,10 +4,10 @@ use Prim.Native.Nat.{_-_, _≤_}
 use mathlib.Core.Path.{_≡_, refl, sym, _∙_}
 use native.Mathlib.Omega.{arith}
 use lib.ListN.{take, drop}
 use Rattle.table.specs.Table.{all, isSupport}
-use Rattle.table.proofs.Supports.{too-low, too-high, support-more, support-stop, support-end}
-use Rattle.table.proofs.are_supports.Statement.{statement}
-use Rattle.table.proofs.are_supports.Tie as tie
+use Rattle.form.proofs.Tests.{too-low, too-high, support-more, support-stop, support-end}
+use Rattle.form.proofs.are_supports.Statement.{statement}
+use Rattle.form.proofs.are_supports.Tie as tie
 
 abbrev Inv-loop : tie.InvT-loop
 Inv-loop u facts n i₀ i = (i ≤ n) × (all (isSupport facts) (take n u) ≡ all (isSupport facts) (drop i (take n u)))

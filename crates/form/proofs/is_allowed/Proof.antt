@@ -1,7 +1,7 @@
 -- By the two kinds of tables.
 use borrow.Author.Needs.{needs}
-use Rattle.table.proofs.is_allowed.Statement.{statement}
-use Rattle.table.proofs.is_allowed.Tie as tie
+use Rattle.form.proofs.is_allowed.Statement.{statement}
+use Rattle.form.proofs.is_allowed.Tie as tie
 
 is-allowed-statement-requires : tie.Need-is-allowed-statement-requires
 is-allowed-statement-requires c κs = search needs
