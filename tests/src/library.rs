@@ -135,20 +135,13 @@ impl Library {
 
     /// A copy of a slice, or a null pointer where that is wanted.
     fn lend<T: Copy>(fence: &mut Fence, slice: &[T], null_when_empty: bool) -> *mut T {
-        let pointer = fence.lend(slice);
-        if slice.is_empty() && null_when_empty {
-            return std::ptr::null_mut();
-        }
-        pointer
+        or_null(fence.lend(slice), slice.is_empty() && null_when_empty)
     }
 
     /// The output of rows, likewise.
     fn lend_rows(&mut self, output: &[u32]) -> *mut u32 {
-        let pointer = self.output.lend_output(output);
-        if output.is_empty() && self.null_when_empty {
-            return std::ptr::null_mut();
-        }
-        pointer
+        let null = output.is_empty() && self.null_when_empty;
+        or_null(self.output.lend_output(output), null)
     }
 
     fn lend_store(&mut self, store: &Store) -> (*mut u32, *mut u32, *mut u32, *mut u16) {
@@ -322,6 +315,14 @@ impl Library {
             output: self.output.read().to_vec(),
             ..Outcome::default()
         })
+    }
+}
+
+/// A pointer, or a null pointer where that is wanted.
+fn or_null<T>(pointer: *mut T, null: bool) -> *mut T {
+    match null {
+        true => std::ptr::null_mut(),
+        false => pointer,
     }
 }
 

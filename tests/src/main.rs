@@ -66,7 +66,8 @@ impl Part {
         match self {
             Part::Model => Fault::ALL.map(Fault::name).to_vec(),
             Part::Jena => comparison::FAULTS.map(|fault| fault.0).to_vec(),
-            Part::Memory | Part::Sample => library::Fault::ALL.map(library::Fault::name).to_vec(),
+            Part::Memory => Vec::new(),
+            Part::Sample => library::Fault::ALL.map(library::Fault::name).to_vec(),
         }
     }
 }
@@ -84,16 +85,20 @@ struct Options {
     trace: Option<PathBuf>,
 }
 
+impl Options {
+    /// Whether a fault of this name is asked for.
+    fn plants(&self, fault: &str) -> bool {
+        self.fault.as_deref() == Some(fault)
+    }
+}
+
 fn usage() -> ! {
     eprintln!(
         "usage: trial [--part NAME] [--seed N] [--histories N] [--fault NAME] [--replay FILE]"
     );
-    for part in [Part::Model, Part::Jena, Part::Memory] {
-        eprintln!(
-            "part {}, with the faults {}",
-            part.name(),
-            part.faults().join(", ")
-        );
+    eprintln!("parts: model, jena, memory");
+    for part in [Part::Model, Part::Jena] {
+        eprintln!("faults of {}: {}", part.name(), part.faults().join(", "));
     }
     exit(2)
 }
@@ -326,9 +331,9 @@ fn each_kind(counts: &Counts) -> String {
     totals.join(", ")
 }
 
-/// The model's histories, and the small stores beside Jena, where nothing else is asked.
+/// The model's histories, and the small stores beside Jena, where no number is asked for.
 const HISTORIES: u64 = 15_000;
-const STORES: u64 = 1000;
+const STORES: u64 = 1_000;
 
 /// The part `Model`: everything that random and directed calls give, beside the model.
 fn model_part(harness: &mut Harness, options: &Options) {
@@ -378,11 +383,8 @@ fn jena_part(harness: &mut Harness, options: &Options) {
 
 /// What valgrind runs: a planted fault, or the sample.
 fn sample_part(harness: &mut Harness, options: &Options) {
-    let fault = library::Fault::ALL.into_iter();
-    if let Some(fault) = fault
-        .into_iter()
-        .find(|f| Some(f.name()) == options.fault.as_deref())
-    {
+    let mut faults = library::Fault::ALL.into_iter();
+    if let Some(fault) = faults.find(|f| options.plants(f.name())) {
         return memory::fail(fault);
     }
     let start = Instant::now();
@@ -399,8 +401,7 @@ fn sample_part(harness: &mut Harness, options: &Options) {
 
 /// The harness of a part, with the fault that is asked for.
 fn harness(options: &Options) -> Harness {
-    let named = |name: &str| options.fault.as_deref() == Some(name);
-    let fault = Fault::ALL.into_iter().find(|f| named(f.name()));
+    let fault = Fault::ALL.into_iter().find(|f| options.plants(f.name()));
     let memory = match options.part {
         Part::Sample => Memory::Heap,
         _ => Memory::Fenced,
@@ -409,7 +410,8 @@ fn harness(options: &Options) -> Harness {
     harness.trace = options.trace.clone();
     if options.part == Part::Jena {
         harness.peer = Some(Peer::start());
-        if let Some(fault) = comparison::FAULTS.into_iter().find(|f| named(f.0)) {
+        let mut faults = comparison::FAULTS.into_iter();
+        if let Some(fault) = faults.find(|f| options.plants(f.0)) {
             comparison::plant(&mut harness, fault, &beside_program("faulty.rules"));
         }
     }

@@ -22,8 +22,8 @@ pub struct Peer {
 /// What has been compared.
 #[derive(Default)]
 pub struct Seen {
-    pub stores: u64,
-    pub kept_rows: u64,
+    stores: u64,
+    kept_rows: u64,
     /// Answers by the number of the question's atoms.
     atoms: [u64; 7],
     with_rows: u64,
@@ -160,7 +160,7 @@ impl fmt::Display for Seen {
         let (stores, kept, rows) = (self.stores, self.kept_rows, self.rows);
         write!(
             f,
-            "{stores} stores with {kept} kept rows, {} answers with {rows} rows: ",
+            "{stores} states of stores with {kept} kept rows, {} answers with {rows} rows: ",
             self.answers()
         )?;
         for (n, answers) in self.atoms.iter().enumerate().skip(1) {
