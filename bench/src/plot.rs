@@ -39,13 +39,13 @@ pub fn plot(names: &[&str], sizes: &[usize], panels: &[Panel]) -> String {
     out += " font-family=\"sans-serif\" font-size=\"11\">\n";
     out += &format!("<rect width=\"{width}\" height=\"{height}\" fill=\"white\"/>\n");
     for (i, name) in names.iter().enumerate() {
-        let x = 60.0 + 160.0 * i as f64;
+        let x = 68.0 + 160.0 * i as f64;
         out += &format!("<path d=\"M{x} 24h36\" stroke=\"{}\" stroke-width=\"2\"/>\n", COLOURS[i]);
         out += &mark(i, x + 18.0, 24.0);
         out += &text(x + 44.0, 28.0, "start", name);
     }
     for (i, panel) in panels.iter().enumerate() {
-        let (x, y) = ((i % ACROSS) as f64 * PANEL.0 + 60.0, (i / ACROSS) as f64 * PANEL.1 + LEGEND + 40.0);
+        let (x, y) = ((i % ACROSS) as f64 * PANEL.0 + 68.0, (i / ACROSS) as f64 * PANEL.1 + LEGEND + 40.0);
         out += &format!("<g transform=\"translate({x} {y})\">\n{}</g>\n", drawn(panel, sizes));
     }
     out + "</svg>\n"
@@ -84,7 +84,7 @@ fn drawn(panel: &Panel, sizes: &[usize]) -> String {
         out += &text(at, AREA.1 + 18.0, "middle", &format!("{}", size as f64 / 1000.0));
     }
     out += &text(AREA.0 / 2.0, AREA.1 + 34.0, "middle", "thousand facts");
-    out += &format!("<text transform=\"translate(-46 {}) rotate(-90)\" text-anchor=\"middle\">milliseconds</text>\n", AREA.1 / 2.0);
+    out += &format!("<text transform=\"translate(-56 {}) rotate(-90)\" text-anchor=\"middle\">milliseconds</text>\n", AREA.1 / 2.0);
     for (i, line) in panel.lines.iter().enumerate() {
         let points: Vec<(f64, f64)> = sizes.iter().zip(line).map(|(&n, &ms)| (x.place(n as f64), AREA.1 - y.place(ms))).collect();
         let path: Vec<String> = points.iter().map(|(x, y)| format!("{x:.1},{y:.1}")).collect();

@@ -115,7 +115,7 @@ pub fn question(atoms: &[Triple], head: &[u32]) -> Vec<u32> {
 pub fn questions() -> Vec<(&'static str, Vec<u32>)> {
     let (x, y, z) = (variable(0), variable(1), variable(2));
     vec![
-        ("x is of a class with few things", question(&[[x, 1, CLASS + 13]], &[x])),
+        ("x is of a class with few things", question(&[[x, 1, CLASS + 26]], &[x])),
         ("x is of a class with many things", question(&[[x, 1, CLASS]], &[x])),
         ("x has a property y", question(&[[x, PROPERTY, y]], &[x, y])),
         ("a thing is of class y", question(&[[THING + 17, 1, y]], &[y])),
