@@ -1,15 +1,14 @@
 -- Alternatives put into an output: none, one, some after others, and row by row. Assumes nothing.
-use Prim.Native.Nat.{ℕ, zero, suc, _+_, _-_, _*_, _<_}
+use Prim.Native.Nat.{ℕ, _+_, _-_, _*_, _<_}
 use mathlib.Core.Path.{_≡_, refl, sym, ap, _∙_, subst}
 use mathlib.Core.Logic.{_↔_, ⊎-elim}
 use mathlib.Core.List.{List, [], _∷_, _++_, map, flatMap, map-append, append-nil, append-assoc, List·Memᴰ, List·Memᴰ·append-cases, Memᴰ·cast, Memᴰ·map, Memᴰ·of-map, Memᴰ·append-left, Memᴰ·append-right}
 use native.Mathlib.Numerals.{add-one}
 use native.Mathlib.Omega.{arith}
-use lib.ListN.{drop}
 use Rattle.rdf.specs.declared.Triple.{Triple}
 use Rattle.rdf.proofs.Lists.{flatMap-in}
 use Rattle.table.specs.Table.{tripleFrom, firstRows}
-use Rattle.table.proofs.Rows.{length-firstRows, tripleFrom-drop, getD-firstRows}
+use Rattle.table.proofs.Rows.{length-firstRows, firstRows-snoc, getD-firstRows}
 use Rattle.table.proofs.Place.{getD-member}
 use Rattle.rows.specs.Rows.{row}
 use Rattle.carry.specs.Words.{words}
@@ -20,14 +19,6 @@ use Rattle.collect.proofs.Collecting.{collects-ext, collects-then}
 use Rattle.alternatives.specs.Putting.{Puts}
 
 -- ---- lists
-
--- The first i + 1 rows are the first i and row i.
-firstRows-snoc : (i : ℕ) (ws : List ℕ) → firstRows (suc i) ws ≡ firstRows i ws ++ (tripleFrom ws (i * 3) ∷ [])
-unfolding firstRows
-firstRows-snoc zero ws = refl
-firstRows-snoc (suc i) ws =
-    ap (λ (l : List Triple). tripleFrom ws 0 ∷ l) (firstRows-snoc i (drop 3 ws))
-    ∙ ap (λ (t : Triple). tripleFrom ws 0 ∷ (firstRows i (drop 3 ws) ++ (t ∷ []))) (tripleFrom-drop 3 ws (i * 3) (suc i * 3) (omega arith))
 
 -- What two lists give is what the first gives and then what the second gives.
 flatMap-append : {A B : Type 0} (f : A → List B) (l m : List A) → flatMap f (l ++ m) ≡ flatMap f l ++ flatMap f m

@@ -8,7 +8,7 @@ use native.Mathlib.Omega.{arith}
 use lib.Dec.{eqb}
 use borrow.Author.Tests.{eq-eqb, ne-eqb, eqb-false, not-true}
 use Rattle.rdf.specs.declared.Triple.{Triple}
-use Rattle.rdf.specs.Term.{type, subClassOf, domain, range, isLiteral, isVocabulary}
+use Rattle.rdf.specs.Term.{type, subClassOf, range, isLiteral, isVocabulary}
 use Rattle.rdf.specs.Triple.{triple}
 use Rattle.rdf.specs.Order.{triple-eq}
 use Rattle.rdf.proofs.Lists.{flatMap-in, flatMap-out}

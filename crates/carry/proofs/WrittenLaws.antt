@@ -3,7 +3,7 @@ use mathlib.Core.Path.{_≡_, refl, sym, ap, _∙_}
 use mathlib.Core.Bool.{true}
 use mathlib.Core.List.{List, map, List·Memᴰ, Memᴰ·cast, Memᴰ·map, Memᴰ·of-map, Memᴰ·append-left, Memᴰ·append-right, List·Memᴰ·append-cases}
 use mathlib.Core.Logic.{⊎-elim, by-cases}
-use Prim.Native.Nat.{ℕ, zero, suc, _+_, _*_, _≤_, _<_}
+use Prim.Native.Nat.{ℕ, _+_, _*_, _≤_, _<_}
 use native.Mathlib.Decide.{ℕ-discrete, decLt}
 use native.Mathlib.Omega.{arith}
 use lib.ListN.{length, getD, drop, take, set, replicate, length-set, length-replicate}
@@ -15,9 +15,8 @@ use Rattle.rdf.specs.Triple.{triple}
 use Rattle.rdf.specs.Order.{triple-eq, ascend}
 use Rattle.rdf.proofs.Ascending.{ascend-asc, ascend-in, ascend-out, ascending-ext}
 use Rattle.table.specs.Table.{tripleFrom, rowAt, firstRows, rows, count, flatten, isStatementTable}
-use Rattle.table.proofs.Rows.{length-firstRows, length-rows, getD-firstRows}
+use Rattle.table.proofs.Rows.{length-firstRows, getD-firstRows}
 use Rattle.table.proofs.Place.{getD-member, member-getD}
-use Rattle.table.proofs.Formed.{isTable-wellFormed, capacity-most, ready}
 use Rattle.rows.specs.Rows.{tabulate, ordered, rowAt as wordsAt}
 use Rattle.rows.specs.Effects.{HoldsRows}
 use Rattle.rdfs.specs.Closure.{properties, subjectClasses, objectClasses, conclusions, carried}

@@ -2,7 +2,7 @@
 use Prim.Native.Nat.{ℕ, _+_, _*_, _/_, _≤_, _<_}
 use mathlib.Core.Path.{_≡_, refl, sym, ap, ap₂, _∙_, subst}
 use mathlib.Core.Bool.{true, false}
-use mathlib.Core.Logic.{_↔_, ⊎-elim}
+use mathlib.Core.Logic.{⊎-elim}
 use mathlib.Core.List.{List, [], _∷_, List·Memᴰ, List·Memᴰ·head, List·Memᴰ·tail, List·Memᴰ·cases-cons, List·Memᴰ·not-nil}
 use native.Mathlib.Nat.{le-div-iff-mul-le}
 use native.Mathlib.Omega.{arith}
@@ -10,7 +10,7 @@ use lib.ListN.{length, replicate, length-replicate}
 use borrow.Author.Tests.{le-leb, lt-leb, leb-false}
 use Rattle.rows.specs.Rows.{less, rowAt, rows, ordered, Above, Ascending}
 use Rattle.rows.proofs.Order.{never, less-irrefl, less-trans}
-use Rattle.rows.proofs.Ordered.{ordered-iff, ordered-ascends, ordered-ext, ascending-ext, above-member}
+use Rattle.rows.proofs.Ordered.{ordered-iff, ordered-ascends, ascending-ext, above-member}
 use Rattle.rows.proofs.RowWords.{drop-ext}
 use Rattle.rows.proofs.Tables.{tabulate-length}
 use Rattle.output.specs.declared.Reply.the-variants.{Rows, Refused}
@@ -18,11 +18,6 @@ use Rattle.output.specs.Output.{areFitting, filled, replied, give}
 use Rattle.output.proofs.Filled.{getD-zeros, rows-filled}
 use Rattle.collect.specs.declared.Collected.{Collected}
 use Rattle.collect.specs.Collected.{Exceeds, Collects, gathered}
-
--- What is given depends on the members alone: neither order nor repeats matter.
-pub gathered-ext : (m : ℕ) (R S : List (List ℕ)) (len : ℕ) → ((x : List ℕ) → List·Memᴰ x R ↔ List·Memᴰ x S) → gathered m R len ≡ gathered m S len
-unfolding gathered
-gathered-ext m R S len f = rw (ordered-ext R S f)
 
 -- Ascending rows are no more than ascending rows that have them all.
 other-than : (a b x : List ℕ) (A : List (List ℕ)) → less b a ≡ true → Above a A → List·Memᴰ x (a ∷ A) → x ≡ b → ⊥

@@ -1,5 +1,5 @@
 -- Demand 3 (document 01, "The ledger"): what a list of calls leaves in a store, against the ledger. Definitions only.
-use Prim.Native.Nat.{ℕ, zero, suc}
+use Prim.Native.Nat.{ℕ}
 use mathlib.Core.Path.{_≡_}
 use mathlib.Core.Bool.{true}
 use mathlib.Core.List.{List, [], _∷_, List·Memᴰ}
@@ -19,7 +19,7 @@ use Rattle.deliver.specs.Deliver.{deliver}
 use Rattle.query.specs.Question.{headCount, atoms, head, isQuestion, isHeadBound}
 use Rattle.query.specs.Answer.{IsAnswer, rewrittenGraph}
 use Rattle.query.specs.Ask.{questionRows, askKept, askRewritten}
-use Rattle.ledger.specs.Ledger.{Call, Capacities, capacities, Ledger, empty, Run, Entries, calls, ledgerEntries}
+use Rattle.ledger.specs.Ledger.{Call, capacities, Ledger, empty, Run, Entries, calls, ledgerEntries}
 
 -- The store's entries, by the definitions that their contracts cite.
 abbrev pub storeEntries : Entries Tables

@@ -11,7 +11,7 @@ use Rattle.rdf.specs.Order.{equalTriples, choose, insert, remove}
 use Rattle.rdf.specs.Refusal.{firstNo, tripleQuestions}
 use Rattle.table.specs.Table.{mostStatements, mostFacts, mostKept}
 use Rattle.rdfs.specs.Closure.{isIn}
-use Rattle.rdfs.specs.Saturation.{saturation, keptRows}
+use Rattle.rdfs.specs.Saturation.{saturation}
 use Rattle.update.specs.declared.Answer.{Answer}
 use Rattle.update.specs.declared.Answer.the-variants.{Applied, Idle, Refused}
 use Rattle.delivery.specs.Message.{read}

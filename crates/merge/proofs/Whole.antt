@@ -49,10 +49,6 @@ over-absent : (m u : Triple) (k : Kept) → NotBelow m k → Less u m → lookup
 over-absent m u [] n l = lookup-nil u
 over-absent m u (e ∷ k) n l = lookup-other e k u (λ q. n .0 (rw q at l)) ∙ over-absent m u k (n .1) l
 
-under-absent : (m u : Triple) (j : Kept) → Under m j → ¬ Less u m → lookup j u ≡ 0
-under-absent m u [] n l = lookup-nil u
-under-absent m u (e ∷ j) n l = lookup-other e j u (λ q. l (rw q (n .0))) ∙ under-absent m u j (n .1) l
-
 lookup-low : (m u : Triple) (j k : Kept) → NotBelow m k → Less u m → lookup (j ++ k) u ≡ lookup j u
 lookup-low m u [] k n l = over-absent m u k n l ∙ sym (lookup-nil u)
 lookup-low m u (e ∷ j) k n l = by-cases (equalTriples u (e .0)) (λ q. lookup-same e (j ++ k) u q ∙ sym (lookup-same e j u q)) (λ z. lookup-other e (j ++ k) u z ∙ lookup-low m u j k n l ∙ sym (lookup-other e j u z))

@@ -1,18 +1,15 @@
 -- Words that hold rows in front and zeros behind: cleared words, and words that `sort` leaves over them. Assumes nothing.
 use mathlib.Core.Path.{_≡_, refl, sym, ap, ap₂, _∙_}
-use mathlib.Core.Logic.{⊎-elim}
 use mathlib.Core.List.{List, _++_}
 use Prim.Native.Nat.{ℕ, zero, suc, _-_, _*_, _/_, _≤_}
-use native.Mathlib.Nat.{zero-mul, mul-le-mul-right}
+use native.Mathlib.Nat.{zero-mul}
 use native.Mathlib.Numerals.{unary-clauses}
 use native.Mathlib.Omega.{arith}
 use lib.Dec.{leb}
 use lib.ListN.{length, getD, take, drop, replicate, length-replicate, getD-replicate, take-append-drop}
 use lib.Seq.{ext-getD, length-take-le}
 use Rattle.rows.specs.Rows.{rows, flat}
-use Rattle.rows.specs.Effects.{WordsZeroed, HoldsRows}
-use Rattle.rows.proofs.RowWords.{drop-ext}
-use Rattle.rows.proofs.Tables.{le-or}
+use Rattle.rows.specs.Effects.{WordsZeroed}
 use Rattle.rows.proofs.HeldWords.{flat-rows}
 use Rattle.output.specs.Output.{areFitting, filled}
 
@@ -47,14 +44,6 @@ rows-filled m r len s R l h e d =
     let a : take (r * m) s ≡ flat R = sym (q ∙ ap (λ (x : ℕ). take (r * m) (drop x s)) o) ∙ ap flat e in
     let z : length (flat R) ≡ r * m = ap length (sym a) ∙ length-take-le (r * m) s (omega arith) in
     sym (take-append-drop (r * m) s) ∙ ap₂ (λ (x y : List ℕ). x ++ y) a (d ∙ drop-zeros (r * m) len ∙ ap (λ (k : ℕ). replicate (len - k) 0) (sym z))
-
--- What `HoldsRows` says over a cleared output: the rows in front, zeros behind.
-pub holds-filled : (m n r len : ℕ) (s : List ℕ) (R : List (List ℕ)) → HoldsRows m n (replicate len 0) s r R → length s ≡ len → n * m ≤ len → s ≡ filled len R
-holds-filled m n r len s R H l h =
-    let k : r * m ≤ n * m = mul-le-mul-right m (H .count) in
-    rows-filled m r len s R l (omega arith) (H .holds)
-    (drop-ext (r * m) (replicate len 0) s (l ∙ sym (length-replicate {A = ℕ} len 0))
-    (λ w g. ⊎-elim (λ i. H .after w i) (λ i. H .zeros w g i ∙ sym (getD-zeros len w)) (le-or (n * m) w)))
 
 -- Whether rows fit depends on their number alone.
 pub fitting-count : (m len n : ℕ) (R : List (List ℕ)) → length R ≡ n → leb n (len / m) ≡ areFitting m len R

@@ -5,11 +5,11 @@ use mathlib.Core.Logic.{_⊎_, inl, inr, ⊎-elim}
 use mathlib.Core.List.{List, [], _∷_, List·Memᴰ, List·Memᴰ·head, List·Memᴰ·tail}
 use native.Mathlib.Numerals.{add-one}
 use native.Mathlib.Omega.{arith}
-use lib.ListN.{length, take, drop, length-map, length-append, take-append-drop, drop-of-length-le}
+use lib.ListN.{length, take, drop, length-append, take-append-drop, drop-of-length-le}
 use lib.Seq.{drop-cons}
 use Rattle.rdf.specs.declared.Triple.{Triple}
 use Rattle.rdf.specs.Triple.{triple}
-use Rattle.rdf.specs.Order.{less-irrefl, Trichotomy, less, same, more, compareTriples, byOrder, Above, Ascending, insert}
+use Rattle.rdf.specs.Order.{less-irrefl, compareTriples, Above, Ascending, insert}
 use Rattle.rdf.proofs.Ascending.{above-member, insert-asc, insert-old, insert-cases}
 use Rattle.table.specs.declared.Found.{Found}
 use Rattle.table.specs.declared.Found.the-variants.{At, Gap}
@@ -19,23 +19,19 @@ use Rattle.table.proofs.Rows.{length-firstRows, length-rows, getD-firstRows, fi
 use Rattle.table.proofs.Place.{at-member, gap-absent, member-at, absent-gap}
 use Rattle.table.proofs.Change.{insertAt-gap, insert-at}
 use Rattle.rdfs.specs.Saturation.{Kept, raise, raiseAll, keptRows}
+use Rattle.rdfs.proofs.Kept.{length-keptRows}
 use Rattle.kept.specs.Entries.{Sought}
 use Rattle.kept.proofs.Less.{ascending-drop}
 use Rattle.raise.specs.Raising.{absence}
+use Rattle.raise.proofs.Raise.{byOrder-map}
 
 -- ---- the rows of kept facts raised
-
-byOrder-same-map : {t u : Triple} {A B : Type 0} (f : A → B) (d : Trichotomy t u) {x y z : A} {x' y' z' : B} → f x ≡ x' → f y ≡ y' → f z ≡ z' → f (byOrder d x y z) ≡ byOrder d x' y' z'
-unfolding byOrder
-byOrder-same-map f (less h) a b c = a
-byOrder-same-map f (same e) a b c = b
-byOrder-same-map f (more h) a b c = c
 
 -- Raising a row puts it into the set of rows.
 pub raise-rows : (t : Triple) (k : Kept) → keptRows (raise t k) ≡ insert t (keptRows k)
 unfolding raise insert
 raise-rows t [] = refl
-raise-rows t (e ∷ k) = byOrder-same-map keptRows (compareTriples t (e .0)) refl refl (ap (λ (l : List Triple). e .0 ∷ l) (raise-rows t k))
+raise-rows t (e ∷ k) = byOrder-map keptRows (compareTriples t (e .0)) refl refl (ap (λ (l : List Triple). e .0 ∷ l) (raise-rows t k))
 
 pub raiseAll-asc : (ts : List Triple) (k : Kept) → Ascending (keptRows k) → Ascending (keptRows (raiseAll ts k))
 unfolding raiseAll
@@ -55,9 +51,6 @@ raiseAll-cases {u} (t ∷ ts) k m =
     (insert-cases t (keptRows (raiseAll ts k)) (subst (List·Memᴰ u) (raise-rows t (raiseAll ts k)) m))
 
 -- ---- one row more
-
-length-keptRows : (k : Kept) → length (keptRows k) ≡ length k
-length-keptRows k = length-map k (λ (e : Triple × ℕ). e .0)
 
 -- A row that is there adds none,
 raise-present : (t : Triple) (k : Kept) → Ascending (keptRows k) → List·Memᴰ t (keptRows k) → length (raise t k) ≡ length k

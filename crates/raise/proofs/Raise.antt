@@ -44,11 +44,12 @@ AllBefore ts (e ∷ d) = AllLess ts (e .0)
 
 -- ---- raise in a list of two parts
 
-byOrder-map : {t u : Triple} {A B : Type 0} (f : A → B) (d : Trichotomy t u) (x y z : A) → f (byOrder d x y z) ≡ byOrder d (f x) (f y) (f z)
+-- A choice by order, of what a function gives.
+pub byOrder-map : {t u : Triple} {A B : Type 0} (f : A → B) (d : Trichotomy t u) {x y z : A} {x' y' z' : B} → f x ≡ x' → f y ≡ y' → f z ≡ z' → f (byOrder d x y z) ≡ byOrder d x' y' z'
 unfolding byOrder
-byOrder-map f (less h) x y z = refl
-byOrder-map f (same e) x y z = refl
-byOrder-map f (more h) x y z = refl
+byOrder-map f (less h) a b c = a
+byOrder-map f (same e) a b c = b
+byOrder-map f (more h) a b c = c
 
 -- A row less than the first of the second part is raised in the first part,
 raise-front : (t : Triple) (k d : Kept) → AllBefore (t ∷ []) d → raise t (k ++ d) ≡ raise t k ++ d
@@ -57,7 +58,7 @@ raise-front t [] [] h = refl
 raise-front t [] (e ∷ d) h = byOrder-less (compareTriples t (e .0)) _ _ _ (h .0)
 raise-front t (e ∷ k) d h =
     rw (raise-front t k d h)
-    (sym (byOrder-map (λ (r : Kept). r ++ d) (compareTriples t (e .0)) ((t, 1) ∷ e ∷ k) ((e .0, suc (e .1)) ∷ k) (e ∷ raise t k)))
+    (sym (byOrder-map (λ (r : Kept). r ++ d) (compareTriples t (e .0)) {x = (t, 1) ∷ e ∷ k} {y = (e .0, suc (e .1)) ∷ k} {z = e ∷ raise t k} refl refl refl))
 
 -- and one that the first part is less than, in the second.
 raise-past : (t : Triple) (k d : Kept) → AllLess (keptRows k) t → raise t (k ++ d) ≡ k ++ raise t d

@@ -11,7 +11,7 @@ use Rattle.rdf.specs.Triple.{triple}
 use Rattle.rdf.specs.Order.{Less, Ascending}
 use Rattle.table.specs.declared.Ordering.the-variants.{Lower, Equal, Higher}
 use Rattle.table.specs.Table.{count, tripleFrom, rowAt, firstRows, rows}
-use Rattle.table.proofs.Rows.{length-firstRows, getD-firstRows, length-rows}
+use Rattle.table.proofs.Rows.{length-firstRows, getD-firstRows, firstRows-snoc, length-rows}
 use Rattle.rdfs.specs.Saturation.{Kept, raiseAll, keptRows}
 use Rattle.update.specs.Store.{keptOf}
 use Rattle.kept.specs.Entries.{entries, Room, Entered, Holding}
@@ -28,13 +28,6 @@ unfolding firstRows
 take-firstRows zero c rs h = refl
 take-firstRows (suc j) zero rs h = absurd (omega arith)
 take-firstRows (suc j) (suc c) rs h = ap (λ (l : List Triple). tripleFrom rs 0 ∷ l) (take-firstRows j c (drop 3 rs) (omega arith))
-
--- One row more.
-pub firstRows-snoc : (j c : ℕ) (rs : List ℕ) → j < c → firstRows (suc j) rs ≡ firstRows j rs ++ (tripleFrom rs (j * 3) ∷ [])
-firstRows-snoc j c rs h =
-    sym (take-firstRows (suc j) c rs h)
-    ∙ take-suc (firstRows c rs) j (triple 0 0 0) (rw length-firstRows h)
-    ∙ (λ z. take-firstRows j c rs (omega arith) z ++ (getD-firstRows c rs j (triple 0 0 0) h z ∷ []))
 
 -- In ascending rows those before row j are less.
 pub firstRows-less : (j c : ℕ) (rs : List ℕ) → j < c → Ascending (firstRows c rs) → AllLess (firstRows j rs) (tripleFrom rs (j * 3))
@@ -173,7 +166,7 @@ module _ (ws₀ us₀ rs : List ℕ) (c missing : ℕ) where
         let lt : Less x (rowAt ws i) = rw (q, r) at (l .1) in
         let jc : j < c = let a = P .j-le in omega arith in
         let below : AllLess (firstRows (suc j) rs) (rowAt ws i) =
-        rw (firstRows-snoc j c rs jc) (all-less-snoc (firstRows j rs) x (all-less-weaken (firstRows j rs) lt (firstRows-less j c rs jc (A .raised-ascend))) lt) in
+        rw (firstRows-snoc j rs) (all-less-snoc (firstRows j rs) x (all-less-weaken (firstRows j rs) lt (firstRows-less j c rs jc (A .raised-ascend))) lt) in
         let t : take (suc i) K ≡ take i K ++ (e ∷ []) = take-suc K i noEntry (let a = P .i-le in omega (arith, long)) ∙ ap (λ (d : Triple × ℕ). take i K ++ (d ∷ [])) (entry-is P i (omega arith)) in
         rw q (turn P i (suc j) (rowAt ws i) (getD us i 0) (omega arith) (omega arith) (rising-higher (take i K) e (rw t at (P .rising)) below) (rw q at N))
 
@@ -194,14 +187,14 @@ module _ (ws₀ us₀ rs : List ℕ) (c missing : ℕ) where
         let one : getD us i 0 + 1 ≡ suc n = add-one n in
         rw (q, r)
         (turn P i j x (suc n) (omega arith) (omega arith)
-        (rising-equal (firstRows j rs) x (take i K) n (rw (t, firstRows-snoc j c rs jc) at (P .rising)) below (firstRows-less j c rs jc (A .raised-ascend))) (rw (q, r, one) at N))
+        (rising-equal (firstRows j rs) x (take i K) n (rw (t, firstRows-snoc j rs) at (P .rising)) below (firstRows-less j c rs jc (A .raised-ascend))) (rw (q, r, one) at N))
 
     -- The last row enters before what is done,
     rising-enters : {ws us : List ℕ} (i j k : ℕ) (P : Pass ws us i (suc j) k) → LastSays Lower i ws (tripleFrom rs (j * 3)) → Rising M (firstRows j rs) (take i K) ((tripleFrom rs (j * 3), 1) ∷ drop k (entries m ws us))
     rising-enters {ws} i j k P l =
         let x : Triple = tripleFrom rs (j * 3) in
         let jc : j < c = let a = P .j-le in omega arith in
-        rising-lower (firstRows j rs) x (take i K) (rw (firstRows-snoc j c rs jc) at (P .rising)) (below i P l) (firstRows-less j c rs jc (A .raised-ascend))
+        rising-lower (firstRows j rs) x (take i K) (rw (firstRows-snoc j rs) at (P .rising)) (below i P l) (firstRows-less j c rs jc (A .raised-ascend))
       where
         below : {ws us : List ℕ} {j k : ℕ} {x : Triple} (i : ℕ) (P : Pass ws us i j k) → LastSays Lower i ws x → AllLess (keptRows (take i K)) x
         below zero P l = tt

@@ -1,13 +1,13 @@
 -- Laws of ascending lists of triples: `insert`, `remove`, `ascend` and the test. Assumes nothing.
-use mathlib.Core.Path.{_≡_, refl, sym, ap, ap₂, _∙_}
+use mathlib.Core.Path.{_≡_, refl, sym, ap₂, _∙_}
 use mathlib.Core.Bool.{Bool, true, false, _&&_}
 use mathlib.Core.List.{List, [], _∷_, List·Memᴰ, List·Memᴰ·head, List·Memᴰ·tail, List·Memᴰ·cases-cons, List·Memᴰ·not-nil, Memᴰ·cast}
 use mathlib.Core.Logic.{_⊎_, inl, inr, ⊎-elim, _↔_}
-use Prim.Native.Nat.{ℕ, zero, suc, _+_, _-_, _≤_, _<_}
+use Prim.Native.Nat.{ℕ, suc, _-_, _≤_}
 use native.Mathlib.Omega.{arith}
 use lib.ListN.{length}
 use Rattle.rdf.specs.declared.Triple.{Triple}
-use Rattle.rdf.specs.Order.{Less, less-irrefl, Trichotomy, less, same, more, compareTriples, equalTriples, byOrder, isLess, isAbove, isAscending, Above, Ascending, insert, remove, ascend}
+use Rattle.rdf.specs.Order.{Less, less-irrefl, Trichotomy, less, same, more, compareTriples, equalTriples, isLess, isAbove, isAscending, Above, Ascending, insert, remove, ascend}
 use Rattle.rdf.proofs.Order.{less-trans, less-ne, choose-elim, byOrder-elim, byOrder-less}
 
 pub above-asc : (t : Triple) (F : List Triple) → Above t F → Ascending F

@@ -1,6 +1,5 @@
 -- Laws of the order of triples and of branches on a decision. Assumes nothing.
 use mathlib.Core.Path.{_≡_, refl, ap}
-use Prim.Native.Nat.{ℕ, _<_}
 use native.Mathlib.Omega.{arith}
 use Rattle.rdf.specs.declared.Triple.{Triple}
 use Rattle.rdf.specs.Order.{Less, by-subject, by-property, by-object, less-irrefl, Trichotomy, less, same, more, choose, byOrder}

@@ -1,7 +1,6 @@
 -- What `areSidesAllowed` says of each property, as the code tests it. Assumes nothing.
 use mathlib.Core.Path.{_≡_}
 use mathlib.Core.Bool.{Bool, _&&_}
-use Prim.Native.Nat.{ℕ}
 use native.Mathlib.Omega.{arith}
 use borrow.Author.Tests.{eq-eqb, ne-eqb}
 use Rattle.rdf.specs.declared.Triple.{Triple}

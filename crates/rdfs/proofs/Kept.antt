@@ -4,7 +4,7 @@ use mathlib.Core.List.{[], _∷_, List·Memᴰ, List·Memᴰ·head, List·Memᴰ
 use mathlib.Core.Logic.{⊎-elim, by-cases, _↔_}
 use Prim.Native.Nat.{ℕ, zero, suc, _+_, _-_, _≤_, _<_}
 use native.Mathlib.Omega.{arith}
-use lib.ListN.{length}
+use lib.ListN.{length, length-map}
 use Rattle.rdf.specs.declared.Triple.{Triple}
 use Rattle.rdf.specs.Order.{Less, Trichotomy, less, same, more, compareTriples, equalTriples, choose, Above, Ascending}
 use Rattle.rdf.proofs.Order.{less-trans, less-ne, choose-yes, choose-no, byOrder-elim}
@@ -214,6 +214,10 @@ kept-ext (e ∷ j) (g ∷ k) a b h = go (kept-ext j k (kept-counts (e .0) j (a .
     go ih (more l) = let p = b .0 in absurd (omega (arith, h (g .0), lookup-same g k (g .0) refl, first-absent e j l a (g .0) refl))
 
 -- ---- the rows and the supports of a list of kept facts
+
+-- There are as many rows as kept facts.
+pub length-keptRows : (k : Kept) → length (keptRows k) ≡ length k
+length-keptRows k = length-map k (λ (e : Triple × ℕ). e .0)
 
 -- The rows of a list above t ascend from t on.
 above-rows : (t : Triple) (k : Kept) → KeptAbove t k → Above t (keptRows k)

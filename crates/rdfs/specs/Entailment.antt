@@ -1,7 +1,7 @@
 -- What follows from statements and facts: RDF 1.1 Semantics, section 9.2.1, the rules rdfs2, rdfs3, rdfs7 and rdfs9, as
 -- document 01, "What follows", narrows them. Definitions only.
 use mathlib.Core.Path.{_≡_}
-use mathlib.Core.Bool.{true, false}
+use mathlib.Core.Bool.{false}
 use mathlib.Core.List.{List, [], _∷_, List·Memᴰ}
 use mathlib.Core.Logic.{_⊎_}
 use Prim.Native.Nat.{ℕ}

@@ -1,8 +1,8 @@
 -- The computed alternatives are exactly those of document 01, each once, ascending. Assumes nothing.
 use mathlib.Core.Path.{_≡_, refl, sym, ap, _∙_, subst}
-use mathlib.Core.Bool.{Bool, true, false, not, cond}
+use mathlib.Core.Bool.{Bool, true, not}
 use mathlib.Core.Logic.{_↔_, _⊎_, inl, inr, ⊎-elim}
-use mathlib.Core.List.{List, [], _∷_, _++_, map, flatMap, List·Memᴰ, List·Memᴰ·head, List·Memᴰ·tail, List·Memᴰ·cases-cons, List·Memᴰ·not-nil, Memᴰ·cast, Memᴰ·map, Memᴰ·of-map, Memᴰ·append-left, Memᴰ·append-right, List·Memᴰ·append-cases}
+use mathlib.Core.List.{List, [], _∷_, map, flatMap, List·Memᴰ, List·Memᴰ·head, List·Memᴰ·tail, List·Memᴰ·cases-cons, List·Memᴰ·not-nil, Memᴰ·cast, Memᴰ·map, Memᴰ·of-map, Memᴰ·append-left, Memᴰ·append-right, List·Memᴰ·append-cases}
 use Prim.Native.Nat.{ℕ}
 use native.Mathlib.Omega.{arith}
 use lib.Dec.{eqb}
@@ -14,10 +14,10 @@ use Rattle.rdf.specs.Order.{Ascending, triple-eq}
 use Rattle.rdf.proofs.Order.{of-subject, of-property, of-object}
 use Rattle.rdf.proofs.Lists.{cond-elim, true-not-false, flatMap-in, flatMap-out}
 use Rattle.rdf.proofs.Ascending.{ascend-asc, ascend-in, ascend-out}
-use Rattle.rdfs.specs.Entailment.{Reach, stay, step, ReachFrom}
+use Rattle.rdfs.specs.Entailment.{Reach, stay, step}
 use Rattle.rdfs.specs.Closure.{reach, spread, objects}
 use Rattle.rdfs.proofs.Reach.{reach-iff, spread-iff}
-use Rattle.rdfs.proofs.Carried.{StepFrom, objects-iff}
+use Rattle.rdfs.proofs.Carried.{objects-iff}
 use Rattle.reformulation.specs.Alternative.{admitsClass, admitsProperty, IsAlternative, as-it-is, by-subclass, by-domain, by-range, by-subproperty, select, toClasses, toProperties, without, alternativesFrom, alternatives}
 
 -- ---- selections

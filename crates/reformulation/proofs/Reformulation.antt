@@ -1,7 +1,7 @@
 -- The alternatives of an atom are sound and complete: over the explicit facts they give exactly what holds and what the atom
 -- admits. Assumes nothing.
-use mathlib.Core.Path.{_≡_, refl, sym, ap, _∙_, subst}
-use mathlib.Core.Bool.{Bool, true, false, _&&_}
+use mathlib.Core.Path.{_≡_, refl, sym, _∙_, subst}
+use mathlib.Core.Bool.{true, false, _&&_}
 use mathlib.Core.Logic.{_↔_, by-cases}
 use mathlib.Core.List.{List, List·Memᴰ}
 use Prim.Native.Nat.{ℕ}
@@ -10,11 +10,11 @@ use Rattle.rdf.specs.declared.Triple.{Triple}
 use Rattle.rdf.specs.Term.{type, subClassOf, subPropertyOf, domain, range, isLiteral}
 use Rattle.rdf.specs.Triple.{triple}
 use Rattle.rdf.specs.Order.{triple-eq}
-use Rattle.rdf.proofs.Ascending.{and-left, and-right}
-use Rattle.rdfs.specs.Entailment.{Holds, explicit, rdfs2, rdfs3, rdfs7, rdfs9, Reach, stay, step, ReachFrom, NoVocabulary}
-use Rattle.rdfs.specs.Closure.{objects, properties}
-use Rattle.rdfs.proofs.Entailment.{Carrier, holds-iff-carried}
-use Rattle.rdfs.proofs.Carried.{StepFrom, objects-iff, properties-iff, SubjectStart, from-type, from-domain, start-iff, Part, as-property, as-subject, as-object, carried-iff, carried-part}
+use Rattle.rdf.proofs.Ascending.{and-left}
+use Rattle.rdfs.specs.Entailment.{Holds, explicit, rdfs2, rdfs3, rdfs7, rdfs9, Reach, stay, step, NoVocabulary}
+use Rattle.rdfs.specs.Closure.{properties}
+use Rattle.rdfs.proofs.Entailment.{holds-iff-carried}
+use Rattle.rdfs.proofs.Carried.{objects-iff, properties-iff, SubjectStart, from-type, from-domain, start-iff, Part, as-property, as-subject, as-object, carried-iff, carried-part}
 use Rattle.reformulation.specs.Alternative.{admits, admitsClass, admitsProperty, IsAlternative, as-it-is, by-subclass, by-domain, by-range, by-subproperty, Gives, itself, a-class, of-subject, of-object, a-property, Reformulated, admitsTriple}
 
 -- ---- sound

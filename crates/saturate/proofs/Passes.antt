@@ -6,7 +6,7 @@ use mathlib.Core.Logic.{by-cases}
 use Prim.Native.Nat.{ℕ, zero, suc, _+_, _-_, _*_, _^_, _≤_, _<_}
 use native.Mathlib.Omega.{arith}
 use native.Mathlib.Decide.{decLt}
-use lib.ListN.{length, set, take, drop, replicate, length-append, length-replicate, length-drop}
+use lib.ListN.{length, set, take, drop, replicate, length-append, length-drop}
 use lib.Seq.{take-at}
 use borrow.Author.Tests.{le-leb, lt-leb}
 use Rattle.table.specs.Table.{flatten, layout, supportLayout}
@@ -37,10 +37,6 @@ zero-more ws ws' i l u e =
     let a : i ≡ suc (i - 1) = omega arith in
     let b : length ws - (i - 1) ≡ suc (length ws - i) = omega arith in
     rw (e, b) (ap (λ (k : ℕ). set (take k ws ++ replicate (length ws - i) 0) (i - 1) 0) a ∙ set-zero ws (i - 1) (length ws - i) (omega arith))
-
-pub zero-length : (ws : List ℕ) (i : ℕ) → i ≤ length ws → length (zeroFrom i ws) ≡ length ws
-unfolding zeroFrom
-zero-length ws i l = simp (length-append, lib.ListN.length-take, length-replicate {A = ℕ}) (omega arith)
 
 -- ---- the words of a whole list
 

@@ -28,13 +28,13 @@ use Rattle.rdfs.proofs.Saturation.{among}
 use Rattle.schema.specs.Walks.{Edge, Plus}
 use Rattle.schema.specs.Nodes.{propertyNode, subjectNode, objectNode, edges, none, Columns}
 use Rattle.schema.specs.Squares.{at, Marks}
-use Rattle.schema.specs.Sums.{sumTo, sumAt}
+use Rattle.schema.specs.Sums.{sumTo}
 use Rattle.schema.specs.Compiled.{Compiled, subjectAt, propertyAt, objectAt, nodeBit, startNode, either, explicitAt, ownBit, subjectAdds, objectAdds, propertyAdds}
 use Rattle.schema.proofs.Walks.{plus-ends, plus-starts}
 use Rattle.schema.proofs.Closing.{edges-of, subject-class-node, subject-property-node}
 use Rattle.schema.proofs.Meaning.{key, key-type, key-other, not-type, Carry, carry, by-class, by-property, by-object}
 use Rattle.schema.proofs.Bits.{bit-is, Own, bit-own, bit-other, Led, bit-property}
-use Rattle.schema.proofs.Sums.{sum-ext, sum-add, sum-zero, sum-le, sum-first, sum-range, sumAt-is}
+use Rattle.schema.proofs.Sums.{sum-ext, sum-add, sum-zero, sum-le, sum-first, sum-range}
 use Rattle.schema.proofs.Tables.{fact-words, row-subject, row-property, row-object, row-member, statements-are, statements-small, statements-plain, edges-are}
 
 -- ---- the bit of a node
@@ -263,19 +263,6 @@ module _ (f : List ℕ) (n x i e : ℕ) (b : SubjectRange f n x i e) where
   property-sum st m d o c g h =
       sum-range (propertyAdds st m d f x o c) g i e n (b .low) (b .high)
       (λ y l. property-adds-subject st m d f x o c y (b .before y l)) h (λ y l k. property-adds-subject st m d f x o c y (b .after y l k))
-
--- What the facts of the object x add to column c is added by the places i .. e of an index where these stand.
-pub object-sum : (st : List ℕ) (m : ℕ) (r f ix : List ℕ) (n x c i e : ℕ) (g : ℕ → ℕ) → ((h : ℕ → ℕ) → sumAt h ix n ≡ sumTo h n) → i ≤ e → e ≤ n
-    → ((a : ℕ) → a < i → ¬ (objectAt f (getD ix a 0) ≡ x)) → ((a : ℕ) → i ≤ a → a < e → objectAdds st m r f x c (getD ix a 0) ≡ g a) → ((a : ℕ) → e ≤ a → a < n → ¬ (objectAt f (getD ix a 0) ≡ x))
-    → sumTo (objectAdds st m r f x c) n + sumTo g i ≡ sumTo g e
-object-sum st m r f ix n x c i e g p low high before within after =
-    omega (
-      arith,
-      p (objectAdds st m r f x c),
-      sumAt-is (objectAdds st m r f x c) ix n,
-      sum-range (λ a. objectAdds st m r f x c (getD ix a 0)) g i e n low high
-          (λ a l. object-adds-not st m 0 r r f x c (getD ix a 0) (before a l)) within (λ a l h. object-adds-not st m 0 r r f x c (getD ix a 0) (after a l h)),
-    )
 
 -- One bit or another.
 either-iff : (a b : ℕ) → (either a b ≡ 1) ↔ ((a ≡ 1) ⊎ (b ≡ 1))

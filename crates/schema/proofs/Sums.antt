@@ -9,11 +9,6 @@ use native.Mathlib.Numerals.{add-one}
 use lib.ListN.{getD}
 use Rattle.schema.specs.Sums.{sumTo, sumAt}
 
--- Nothing is summed below 0.
-pub sum-none : (h : ℕ → ℕ) → sumTo h 0 ≡ 0
-unfolding sumTo
-sum-none h = refl
-
 -- One place more.
 pub sum-more : (h : ℕ → ℕ) (n : ℕ) → sumTo h (n + 1) ≡ h n + sumTo h n
 unfolding sumTo

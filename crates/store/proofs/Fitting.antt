@@ -16,6 +16,7 @@ use Rattle.table.proofs.Supports.{length-supportLayout, supportLayout-is, isSup
 use Rattle.table.proofs.All.{all-member, member-all}
 use Rattle.table.proofs.Store.{isStore-formed}
 use Rattle.rdfs.specs.Saturation.{Kept, keptRows, keptSupports}
+use Rattle.rdfs.proofs.Kept.{length-keptRows}
 use Rattle.update.specs.Store.{Tables, tables, areFormed, Contents, contents, keptOf, contentsOf, put, statementCapacity, factCapacity, keptCapacity}
 use Rattle.kept.proofs.Entries.{keptSupports-entries, keptOf-entries}
 use Rattle.kept.proofs.Formed.{kept-tables, keptRows-keptOf, length-keptOf}
@@ -62,9 +63,6 @@ pub record SameLengths (T T' : Tables) : Type 0 where
   pub same-kept : length (T .kept) ≡ length (T' .kept)
   pub same-supports : length (T .supports) ≡ length (T' .supports)
 
-pub length-rows-of : (k : Kept) → length (keptRows k) ≡ length k
-length-rows-of k = length-map k (λ (e : Triple × ℕ). e .0)
-
 pub length-supports-of : (k : Kept) → length (keptSupports k) ≡ length k
 length-supports-of k = length-map k (λ (e : Triple × ℕ). e .1)
 
@@ -76,7 +74,7 @@ module _ {c : Contents} {T : Tables} (X : Fitting c T) (H : Worded T) where
   fact-room = capacity-fits mostFacts (T .facts) (length (c .facts)) (H .fact-words) (X .facts-fit)
 
   kept-room : length (keptRows (c .kept)) * 3 < length (T .kept)
-  kept-room = capacity-fits mostKept (T .kept) (length (keptRows (c .kept))) (H .kept-words) (rw (length-rows-of (c .kept)) (let h = X .kept-fit in omega arith))
+  kept-room = capacity-fits mostKept (T .kept) (length (keptRows (c .kept))) (H .kept-words) (rw (length-keptRows (c .kept)) (let h = X .kept-fit in omega arith))
 
   -- Put into the tables they are well formed,
   pub put-formed : areFormed (put c T) ≡ true
@@ -84,10 +82,10 @@ module _ {c : Contents} {T : Tables} (X : Fitting c T) (H : Worded T) where
   put-formed =
       let s = layout-isTable isAllowedStatement mostStatements (length (T .statements)) (c .statements) statement-room (let h = X .statements-fit in omega (arith, capacity-most mostStatements (T .statements))) (X .statements-ascend) (member-all isAllowedStatement (c .statements) (X .statements-allowed)) in
       let f = layout-isTable isAllowedFact mostFacts (length (T .facts)) (c .facts) fact-room (let h = X .facts-fit in omega (arith, capacity-most mostFacts (T .facts))) (X .facts-ascend) (member-all isAllowedFact (c .facts) (X .facts-allowed)) in
-      let k = layout-isTable isAllowedFact mostKept (length (T .kept)) (keptRows (c .kept)) kept-room (rw (length-rows-of (c .kept)) (let h = X .kept-fit in omega (arith, capacity-most mostKept (T .kept)))) (X .kept-ascend) (member-all isAllowedFact (keptRows (c .kept)) (X .kept-allowed)) in
+      let k = layout-isTable isAllowedFact mostKept (length (T .kept)) (keptRows (c .kept)) kept-room (rw (length-keptRows (c .kept)) (let h = X .kept-fit in omega (arith, capacity-most mostKept (T .kept)))) (X .kept-ascend) (member-all isAllowedFact (keptRows (c .kept)) (X .kept-allowed)) in
       let u = supportLayout-is (length (c .facts)) (length (T .supports)) (length (c .kept)) (keptSupports (c .kept)) (length-supports-of (c .kept)) (let h = X .kept-fit in omega arith)
       (member-all (isSupport (length (c .facts))) (keptSupports (c .kept)) (λ n m. let b = X .supports-between n m in between-isSupport (length (c .facts)) n (b .0) (b .1))) in
-      rw (s, f, k) (simp (count-layout, length-rows-of (c .kept)) u)
+      rw (s, f, k) (simp (count-layout, length-keptRows (c .kept)) u)
 
   -- and the tables keep their lengths.
   pub put-lengths : SameLengths (put c T) T

@@ -19,10 +19,11 @@ use Rattle.table.proofs.Store.{isStore-formed}
 use Rattle.rdfs.specs.Closure.{carried}
 use Rattle.rdfs.specs.Saturation.{keptSupports}
 use Rattle.rdfs.proofs.Carried.{carried-ascends}
+use Rattle.rdfs.proofs.Kept.{length-keptRows}
 use Rattle.rdfs.proofs.Saturation.{lowerAll-length}
 use Rattle.update.specs.Store.{Tables, areFormed, Contents, contentsOf, put}
 use Rattle.update.specs.Update.{withoutTriple, isThere, withdrawalQuestions, Outcome, withdraw}
-use Rattle.store.proofs.Fitting.{Fitting, put-formed, supports-are, length-rows-of, length-supports-of, formed-fitting, formed-worded}
+use Rattle.store.proofs.Fitting.{Fitting, put-formed, supports-are, length-supports-of, formed-fitting, formed-worded}
 use Rattle.store.proofs.Applied.{lowered-supports, fitting-counts, fact-leaves}
 use Rattle.store.proofs.Laws.{decide-elim}
 
@@ -58,7 +59,7 @@ formed-places T e = isStore-formed (T .statements) (T .facts) (T .kept) (T .supp
 -- The supports are those of the contents,
 put-supports : (c : Contents) (T : Tables) → supportsOf (put c T) ≡ keptSupports (c .kept)
 unfolding put
-put-supports c T = rw (count-layout, length-rows-of) (take-supportLayout (length (T .supports)) (length (c .kept)) (keptSupports (c .kept)) (length-supports-of (c .kept)))
+put-supports c T = rw (count-layout, length-keptRows) (take-supportLayout (length (T .supports)) (length (c .kept)) (keptSupports (c .kept)) (length-supports-of (c .kept)))
 
 -- so is the number of facts,
 put-facts : (c : Contents) (T : Tables) → count (put c T .facts) ≡ length (c .facts)
@@ -68,7 +69,7 @@ put-facts c T = count-layout (length (T .facts)) (c .facts)
 -- and there is a place for each kept fact where there is room.
 put-places : (c : Contents) (T : Tables) → length (c .kept) ≤ length (T .supports) → count (put c T .kept) ≤ length (put c T .supports)
 unfolding put
-put-places c T h = rw (count-layout, length-rows-of, length-supportLayout (length (T .supports)) (keptSupports (c .kept)) (rw (length-supports-of (c .kept)) h)) h
+put-places c T h = rw (count-layout, length-keptRows, length-supportLayout (length (T .supports)) (keptSupports (c .kept)) (rw (length-supports-of (c .kept)) h)) h
 
 -- ---- the contents left
 

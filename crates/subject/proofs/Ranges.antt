@@ -61,9 +61,3 @@ to-part h a b n ab bn low high =
     let q : n - 0 ≡ n = omega arith in
     let z : sumTo h (0 + n) ≡ 0 + sumFrom h 0 n = from-to h 0 n in
     omega (arith, rw e at z, rw q at (from-part h 0 a b n (omega arith) ab bn (λ y l u. low y u) high))
-
--- Terms that are sums.
-pub from-add : (h g k : ℕ → ℕ) (a n : ℕ) → ((y : ℕ) → a ≤ y → y < a + n → h y ≡ g y + k y) → sumFrom h a n ≡ sumFrom g a n + sumFrom k a n
-unfolding sumFrom
-from-add h g k a zero e = refl
-from-add h g k a (suc n) e = omega (arith, e a (omega arith) (omega arith), from-add h g k (a + 1) n (λ y l u. e y (omega arith) (omega arith)))

@@ -9,7 +9,7 @@ use native.Mathlib.Omega.{arith}
 use lib.ListN.{length, length-append, length-drop}
 use lib.Seq.{length-take-le}
 use Rattle.rdf.specs.declared.Triple.{Triple}
-use Rattle.rdf.specs.Order.{Less, compareTriples, equalTriples, Ascending, insert, remove}
+use Rattle.rdf.specs.Order.{Less, compareTriples, equalTriples, insert, remove}
 use Rattle.rdf.proofs.Order.{less-ne, byOrder-elim, byOrder-less, byOrder-same, byOrder-more, choose-yes, choose-no}
 use Rattle.rdf.proofs.Ascending.{insert-asc, insert-cases, remove-asc, remove-sub, remove-length}
 use Rattle.table.specs.declared.Found.{Found}
@@ -19,7 +19,7 @@ use Rattle.table.specs.Search.{next, place, insertAt, removeAt}
 use Rattle.table.specs.Laid.{WellFormed}
 use Rattle.table.proofs.All.{all-member, member-all}
 use Rattle.table.proofs.Formed.{capacity-fits, capacity-most, wellFormed-of}
-use Rattle.table.proofs.Place.{missing-at, gap-absent}
+use Rattle.table.proofs.Place.{missing-at}
 
 -- What insertion does at a place.
 abbrev Inserted : Triple → List Triple → Found → Type 0
@@ -73,9 +73,6 @@ unfolding remove
 remove-absent x [] n = refl
 remove-absent x (u ∷ us) n =
     rw (choose-no (equalTriples x u) us (u ∷ remove x us) (λ e. n (List·Memᴰ·head e))) (ap (λ (r : List Triple). u ∷ r) (remove-absent x us (λ m. n (List·Memᴰ·tail m))))
-
-pub remove-gap : (x : Triple) (us : List Triple) (i : ℕ) → Ascending us → place x us ≡ Gap i → remove x us ≡ us
-remove-gap x us i a e = remove-absent x us (gap-absent x us i a e)
 
 -- ---- lengths and tests
 

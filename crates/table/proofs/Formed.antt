@@ -18,10 +18,6 @@ use Rattle.table.proofs.All.{replicate-of, areZero-replicate}
 
 -- ---- capacity
 
-pub capacity-length : (most : ℕ) (ws vs : List ℕ) → length ws ≡ length vs → capacity most ws ≡ capacity most vs
-unfolding capacity
-capacity-length most ws vs e = rw e
-
 -- A count within the capacity has room for its rows.
 pub capacity-fits : (most : ℕ) (ws : List ℕ) (n : ℕ) → 0 < length ws → n ≤ capacity most ws → n * 3 < length ws
 unfolding capacity

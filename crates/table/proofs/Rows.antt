@@ -34,6 +34,14 @@ getD-firstRows zero ws i d h = absurd (omega arith)
 getD-firstRows (suc n) ws zero d h = refl
 getD-firstRows (suc n) ws (suc i) d h = getD-firstRows n (drop 3 ws) i d (omega arith) ∙ tripleFrom-drop 3 ws (i * 3) (suc i * 3) (omega arith)
 
+-- The first i + 1 rows are the first i and row i.
+pub firstRows-snoc : (i : ℕ) (ws : List ℕ) → firstRows (suc i) ws ≡ firstRows i ws ++ (tripleFrom ws (i * 3) ∷ [])
+unfolding firstRows
+firstRows-snoc zero ws = refl
+firstRows-snoc (suc i) ws =
+    ap (λ (l : List Triple). tripleFrom ws 0 ∷ l) (firstRows-snoc i (drop 3 ws))
+    ∙ ap (λ (t : Triple). tripleFrom ws 0 ∷ (firstRows i (drop 3 ws) ++ (t ∷ []))) (tripleFrom-drop 3 ws (i * 3) (suc i * 3) (omega arith))
+
 -- Row i of a table is element i of its first n rows.
 pub getD-rowAt : (ws : List ℕ) (n i : ℕ) (d : Triple) → i < n → getD (firstRows n (drop 1 ws)) i d ≡ rowAt ws i
 unfolding rowAt
@@ -99,9 +107,3 @@ layout-fits ws ts e = let h : length ws ≡ _ = ap length e in omega (arith, sim
 
 pub laid : (ws : List ℕ) → ws ≡ layout (length ws) (rows ws) → Laid ws
 laid ws e = record { is-layout = e; counted = sym (length-rows ws); fits = layout-fits ws (rows ws) e }
-
-pub laid-of : (ws : List ℕ) (len : ℕ) (ts : List Triple) → ws ≡ layout len ts → length ts * 3 < len → Laid ws
-laid-of ws len ts e h =
-    let q : rows ws ≡ ts = rows-of ws len ts e in
-    let l : length ws ≡ len = ap length e ∙ length-layout len ts h in
-    laid ws (rw (q, l) e)

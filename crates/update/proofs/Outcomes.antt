@@ -20,11 +20,6 @@ no-yes : (n : ℕ) (b : Bool) (qs : List (ℕ × Bool)) → b ≡ true → first
 unfolding firstNo
 no-yes n b qs e = rw e refl
 
--- and the first answered no gives its number.
-no-no : (n : ℕ) (b : Bool) (qs : List (ℕ × Bool)) → b ≡ false → firstNo ((n, b) ∷ qs) ≡ n
-unfolding firstNo
-no-no n b qs e = rw e refl
-
 -- Questions 1 to 3 are passed.
 pub record Passes (T : Tables) (t : Triple) : Type 0 where
   pub formed : areFormed T ≡ true

@@ -1,6 +1,5 @@
 -- i stays within the output, and the column is at most the one behind it. Assumes nothing.
 use Prim.Native.Nat.{_≤_, _-_, _+_}
-use native.Mathlib.Omega.{arith}
 use lib.ListN.{length}
 use borrow.Author.Needs.{needs}
 use Rattle.question_cases.proofs.print_rows.Statement.{statement}

@@ -1,6 +1,6 @@
 use borrow.Author.Needs.{needs}
 -- i stays within the triples. Assumes nothing.
-use Prim.Native.Nat.{_≤_, _-_, _*_, _/_}
+use Prim.Native.Nat.{_≤_, _-_, _*_}
 use mathlib.Core.Path.{_≡_}
 use lib.ListN.{length}
 use Rattle.update_cases.proofs.add_all.Statement.{statement}

@@ -1,7 +1,6 @@
 use borrow.Author.Needs.{needs}
 -- i stays within the supports and the rows. Assumes nothing.
-use Prim.Native.Nat.{_≤_, _-_, _*_, _/_}
-use mathlib.Core.Path.{_≡_}
+use Prim.Native.Nat.{_≤_, _-_, _*_}
 use lib.ListN.{length}
 use Rattle.update_cases.proofs.print_kept.Statement.{statement}
 use Rattle.update_cases.proofs.print_kept.Tie as tie
