@@ -28,7 +28,7 @@ fn lent(statements: &[Triple], facts: &[Triple]) -> Store {
 }
 
 /// The store of a run, saturated: all statements but one are lent, and the last is added.
-fn saturated(statements: &[Triple], facts: &[Triple]) -> Store {
+pub fn saturated(statements: &[Triple], facts: &[Triple]) -> Store {
     let (last, others) = statements.split_last().expect("a statement");
     let mut store = lent(others, facts);
     assert_eq!(store.add(*last), 0, "adding {last:?}");

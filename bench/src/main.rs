@@ -14,6 +14,7 @@ mod plot;
 mod postgres;
 mod prolog;
 mod rewriting;
+mod stack;
 mod tables;
 mod thresholds;
 mod workload;
@@ -107,6 +108,7 @@ fn measured(scale: &Scale, contestants: &mut [Box<dyn Contestant>]) -> Outcome<(
         ("Our library alone: updates by size", alone::updates_by_size(scale, &task.statements, workload::GROWING)),
         ("Our library alone: listings", alone::listings(scale, &task.statements, workload::GROWING)),
         ("Our library alone: deliveries", alone::deliveries(scale, &task.statements)),
+        ("Our library alone: stack", stack::calls(scale, &task.statements)),
     ];
     let counts = [task.statements.len(), contest.facts, contest.kept].map(tables::grouped);
     let [statements, facts, kept] = counts;

@@ -1,0 +1,119 @@
+//! How much stack a call of the exported library takes: it runs on a thread whose stack was painted, and what is no longer painted was used.
+
+use crate::alone::saturated;
+use crate::library::{Store, Table, Triple, Way};
+use crate::tables::grouped;
+use crate::workload::{self, delivery, question, variable, CLASS, PROPERTY};
+use crate::{progress, Scale};
+use std::alloc::{alloc, dealloc, Layout};
+use std::ffi::c_void;
+use std::ptr::{null_mut, write_bytes};
+
+/// Room for pthread's attributes, which take 56 bytes.
+type Attributes = [u64; 8];
+
+extern "C" {
+    fn pthread_attr_init(attributes: *mut Attributes) -> i32;
+    fn pthread_attr_setstack(attributes: *mut Attributes, stack: *mut c_void, size: usize) -> i32;
+    fn pthread_attr_destroy(attributes: *mut Attributes) -> i32;
+    fn pthread_create(thread: *mut usize, attributes: *const Attributes, run: extern "C" fn(*mut c_void) -> *mut c_void, call: *mut c_void) -> i32;
+    fn pthread_join(thread: usize, value: *mut *mut c_void) -> i32;
+}
+
+/// The size of the painted stack, more than any call takes, and the paint.
+const STACK: usize = 16 << 20;
+const PAINT: u8 = 0xA5;
+
+/// What the thread runs: the call that it is given.
+extern "C" fn run(call: *mut c_void) -> *mut c_void {
+    let call = unsafe { &mut *call.cast::<&mut dyn FnMut()>() };
+    call();
+    null_mut()
+}
+
+/// Runs a call on the stack that is given, and waits for its end.
+unsafe fn run_on(stack: *mut u8, mut call: &mut dyn FnMut()) {
+    let mut attributes: Attributes = [0; 8];
+    let mut thread = 0;
+    let call: *mut &mut dyn FnMut() = &mut call;
+    assert_eq!(pthread_attr_init(&mut attributes), 0);
+    assert_eq!(pthread_attr_setstack(&mut attributes, stack.cast(), STACK), 0);
+    assert_eq!(pthread_create(&mut thread, &attributes, run, call.cast()), 0);
+    assert_eq!(pthread_join(thread, null_mut()), 0);
+    assert_eq!(pthread_attr_destroy(&mut attributes), 0);
+}
+
+/// The bytes of stack that a thread with this call takes.
+fn touched(call: &mut dyn FnMut()) -> usize {
+    let layout = Layout::from_size_align(STACK, 4096).expect("a layout");
+    unsafe {
+        let stack = alloc(layout);
+        assert!(!stack.is_null(), "no memory for a stack");
+        write_bytes(stack, PAINT, STACK);
+        run_on(stack, call);
+        let painted = (0..STACK).take_while(|&i| stack.add(i).read_volatile() == PAINT).count();
+        dealloc(stack, layout);
+        STACK - painted
+    }
+}
+
+/// The bytes of stack that a call takes, beside what any thread takes.
+fn taken(mut call: impl FnMut()) -> usize {
+    touched(&mut call) - touched(&mut || ())
+}
+
+/// A question of six atoms, as many as there may be.
+fn longest_question() -> Vec<u32> {
+    let [x, y, z] = [0, 1, 2].map(variable);
+    let atoms = [[x, 1, CLASS + 40], [x, PROPERTY, y], [y, 1, CLASS], [y, PROPERTY, z], [z, 1, CLASS], [z, 1, CLASS + 40]];
+    question(&atoms, &[x, y, z])
+}
+
+/// The stack that each update takes: a triple is withdrawn and added again, by itself and by a delivery.
+fn updates(store: &mut Store, of: &str, triple: Triple, section: usize) -> [(String, usize); 3] {
+    let withdrawn = taken(|| assert_eq!(store.withdraw(triple), 0));
+    let added = taken(|| assert_eq!(store.add(triple), 0));
+    let one: &[Triple] = &[triple];
+    let mut sections: [&[Triple]; 4] = [&[]; 4];
+    sections[section] = one;
+    sections[section + 2] = one;
+    let bytes = delivery(sections);
+    let delivered = taken(|| assert_eq!(store.deliver(&bytes).1[1], 2));
+    [
+        (format!("a {of} added"), added),
+        (format!("a {of} withdrawn"), withdrawn),
+        (format!("a {of} withdrawn and added by a delivery"), delivered),
+    ]
+}
+
+/// The stack that questions, alternatives and listings take.
+fn questions(store: &Store) -> Vec<(String, usize)> {
+    let mut rows = vec![0; store.kept.len()];
+    let words = longest_question();
+    let ask = |way, rows: &mut [u32]| taken(|| assert_eq!(store.ask(way, &words, rows).0, 0));
+    let kept = ask(Way::Kept, &mut rows);
+    let rewritten = ask(Way::Rewritten, &mut rows);
+    let alternatives = taken(|| assert_eq!(store.alternatives([variable(0), 1, CLASS], &mut rows).0, 0));
+    let listing = (0..6).map(|order| taken(|| assert_eq!(store.list(Table::Kept, order, &mut rows).0, 0))).max();
+    vec![
+        ("a question of six atoms by the kept way".to_string(), kept),
+        ("the same by the rewritten way".to_string(), rewritten),
+        ("the alternatives of an atom".to_string(), alternatives),
+        ("a listing of the kept facts, the most of six orders".to_string(), listing.expect("an order")),
+    ]
+}
+
+/// The stack that each kind of call takes on the largest store.
+pub fn calls(scale: &Scale, statements: &[Triple]) -> String {
+    progress("our library: stack");
+    let facts = workload::facts(*scale.sizes.last().expect("a size"), statements.len(), workload::GROWING, 7);
+    let mut store = saturated(statements, &facts);
+    let mut measured = updates(&mut store, "fact", facts[0], 1).to_vec();
+    measured.extend(updates(&mut store, "statement", statements[0], 0));
+    measured.extend(questions(&store));
+    let mut out = String::from("| call | stack |\n|---|---|\n");
+    for (name, bytes) in measured {
+        out += &format!("| {name} | {} kB |\n", grouped(bytes.div_ceil(1000)));
+    }
+    out
+}
