@@ -3,14 +3,13 @@
 // which it is the object. The same run counts the rows and, where they fit, writes them. About linear in facts times columns.
 ghost use mathlib.Core.Path.{_≡_};
 ghost use mathlib.Core.Bool.{true};
-ghost use Prim.Native.Nat.{ℕ, _+_, _*_, _^_, _≤_, _<_};
-ghost use lib.ListN.{length, getD};
+ghost use Prim.Native.Nat.{ℕ, _*_, _≤_, _<_};
+ghost use lib.ListN.{length};
 ghost use Rattle.table.specs.Table.{isStatementTable, isFactTable, count};
 ghost use Rattle.rdfs.specs.Saturation.{Kept};
 ghost use Rattle.rdfs.specs.Counts.{Counts};
 ghost use Rattle.schema.specs.Nodes.{Columns};
 ghost use Rattle.schema.specs.Squares.{at};
-ghost use Rattle.schema.specs.Ascent.{termOf};
 ghost use Rattle.index.specs.Index.{Index, Once, Sorted};
 ghost use Rattle.counts.specs.Prepared.{Prepared, Facts};
 ghost use Rattle.counts.specs.Supported.{Supported, Small};
@@ -20,7 +19,8 @@ mod run; // run.rt: the run over the subjects
 
 use run::put_rows;
 
-// A square of bits of 0. Large arrays come out of functions of their own.
+// A square of bits of 0. Large arrays come as zeros out of functions of their own and are lent to those that fill them: an array that is
+// computed and returned would be copied on the stack.
 fn no_bits() -> [u8; 262144]
     ensures { λ r. ⌜ (length r ≡ 262144) × ((i c : ℕ) → at r i c ≡ 0) ⌝ }
 {
@@ -62,49 +62,42 @@ fn no_ends() -> [usize; 513]
     [0usize; 513]
 }
 
-// The square of what the statements lead to by subclasses, subproperties and via.
-fn square(statements: &[u32], m: usize, columns: &[u64], ns: usize, via: u32) -> [u8; 262144]
+// Fills a square of 0: what the statements lead to by subclasses, subproperties and via.
+fn fill_square(
+    statements: &[u32],
+    m: usize,
+    columns: &[u64],
+    ns: usize,
+    via: u32,
+    square: &mut [u8],
+)
     requires { ⌜ Columns (now statements) m (now columns) ns ⌝ }
     requires { ⌜ (m * 3 < length (now statements)) × (ns ≤ length (now columns)) ⌝ }
-    ensures { λ r. ⌜ Ranges (now (statements .entry)) m (now (columns .entry)) ns via r ⌝ }
+    requires { ⌜ (length (now square) ≡ 262144) × ((i c : ℕ) → at (now square) i c ≡ 0) ⌝ }
+    ensures { λ _. ⌜ Ranges (now (statements .entry)) m (now (columns .entry)) ns via (now (square .exit)) ⌝ }
 {
-    let mut bits = no_bits();
     let mut gain = no_gain();
-    schema::close(statements, m, columns, ns, via, &mut bits, &mut gain);
-    bits
+    schema::close(statements, m, columns, ns, via, square, &mut gain);
 }
 
-// The square of domains: what the statements lead to by subclasses, subproperties and domains, themselves left out.
-fn domain_square(statements: &[u32], m: usize, columns: &[u64], ns: usize) -> [u8; 262144]
+// Fills a square of 0: what the statements lead to by subclasses, subproperties and domains, themselves left out.
+fn fill_domains(statements: &[u32], m: usize, columns: &[u64], ns: usize, square: &mut [u8])
     requires { ⌜ Columns (now statements) m (now columns) ns ⌝ }
     requires { ⌜ (m * 3 < length (now statements)) × (ns ≤ length (now columns)) ⌝ }
-    ensures { λ r. ⌜ Domains (now (statements .entry)) m (now (columns .entry)) ns r ⌝ }
+    requires { ⌜ (length (now square) ≡ 262144) × ((i c : ℕ) → at (now square) i c ≡ 0) ⌝ }
+    ensures { λ _. ⌜ Domains (now (statements .entry)) m (now (columns .entry)) ns (now (square .exit)) ⌝ }
 {
-    let mut bits = square(statements, m, columns, ns, 4);
-    schema::clear_own(statements, m, columns, ns, &mut bits);
-    bits
+    fill_square(statements, m, columns, ns, 4, square);
+    schema::clear_own(statements, m, columns, ns, square);
 }
 
-// The terms of the columns.
-fn keys_of(columns: &[u64], ns: usize) -> [u32; 512]
-    requires { ⌜ (ns ≤ length (now columns)) × (ns ≤ 512) ⌝ }
-    requires { ⌜ ((c : ℕ) → c < ns → getD (now columns) c 0 < 2 ^ 33) ⌝ }
-    ensures { λ r. ⌜ ((c : ℕ) → c < ns → getD r c 0 ≡ termOf (getD (now (columns .entry)) c 0)) ⌝ }
-{
-    let mut keys = no_keys();
-    schema::terms(columns, ns, &mut keys);
-    keys
-}
-
-// The places of the facts, in the order of their objects.
-fn index_of(facts: &[u32]) -> [u32; 65536]
+// Fills the places of the facts, in the order of their objects.
+fn fill_places(facts: &[u32], ix: &mut [u32])
     requires { ⌜ Facts (now facts) (count (now facts)) ⌝ }
-    ensures { λ r. ⌜ Index (now (facts .entry)) r (count (now (facts .entry))) × Once (count (now (facts .entry))) r × Sorted (now (facts .entry)) r (count (now (facts .entry))) ⌝ }
+    requires { ⌜ length (now ix) ≡ 65536 ⌝ }
+    ensures { λ _. ⌜ Index (now (facts .entry)) (now (ix .exit)) (count (now (facts .entry))) × Once (count (now (facts .entry))) (now (ix .exit)) × Sorted (now (facts .entry)) (now (ix .exit)) (count (now (facts .entry))) ⌝ }
 {
-    let n = facts[0] as usize;
-    let mut ix = no_places();
-    index::by_object(facts, &mut ix, n);
-    ix
+    index::by_object(facts, ix, facts[0] as usize);
 }
 
 // Sets the words from index a on to 0.
@@ -215,10 +208,14 @@ pub fn saturate(
     let mut columns = no_columns();
     let ns = schema::columns(statements, m, &mut columns);
     let nc = schema::classes(&columns, ns);
-    let keys = keys_of(&columns, ns);
-    let domains = domain_square(statements, m, &columns, ns);
-    let ranges = square(statements, m, &columns, ns, 5);
-    let ix = index_of(facts);
+    let mut keys = no_keys();
+    schema::terms(&columns, ns, &mut keys);
+    let mut domains = no_bits();
+    fill_domains(statements, m, &columns, ns, &mut domains);
+    let mut ranges = no_bits();
+    fill_square(statements, m, &columns, ns, 5, &mut ranges);
+    let mut ix = no_places();
+    fill_places(facts, &mut ix);
     put_all(
         statements,
         m,

@@ -1,5 +1,4 @@
 -- The tables are well formed, so the compiled statements and the facts are as the passes ask, and the saturation has the supports that they count.
-use Prim.Native.Nat.{_-_}
 use native.Mathlib.Omega.{arith}
 use Rattle.table.specs.Table.{rows, mostStatements, mostFacts}
 use Rattle.rdf.specs.Triple.{isAllowedStatement, isAllowedFact}
@@ -34,26 +33,50 @@ slice-aggregate-classes c = search needs
 classes-requires : tie.Need-classes-requires
 classes-requires c κs = (omega (arith, statement-count (c .before .before .before .before .before .before .before .before .before .before .args .statements .now) (isTable-wellFormed isAllowedStatement mostStatements (c .before .before .before .before .before .before .before .before .before .before .args .statements .now) (c .before .before .before .before .before .before .before .before .before .before .pre .0)) .0, statement-count (c .before .before .before .before .before .before .before .before .before .before .args .statements .now) (isTable-wellFormed isAllowedStatement mostStatements (c .before .before .before .before .before .before .before .before .before .before .args .statements .now) (c .before .before .before .before .before .before .before .before .before .before .pre .0)) .1, c .before .before .before .before .no-columns .ensures, c .before .before .columns2 .kept .1 .1 .0, c .before .before .columns2 .ensures .few), c .before .before .columns2 .ensures .rising)
 
-slice-aggregate-keys-of : tie.Need-slice-aggregate-keys-of
-slice-aggregate-keys-of c = search needs
+no-keys-requires : tie.Need-no-keys-requires
+no-keys-requires c κs = search needs
 
-keys-of-requires : tie.Need-keys-of-requires
-keys-of-requires c κs = (omega (arith, statement-count (c .before .before .before .before .before .before .before .before .before .before .before .before .args .statements .now) (isTable-wellFormed isAllowedStatement mostStatements (c .before .before .before .before .before .before .before .before .before .before .before .before .args .statements .now) (c .before .before .before .before .before .before .before .before .before .before .before .before .pre .0)) .0, statement-count (c .before .before .before .before .before .before .before .before .before .before .before .before .args .statements .now) (isTable-wellFormed isAllowedStatement mostStatements (c .before .before .before .before .before .before .before .before .before .before .before .before .args .statements .now) (c .before .before .before .before .before .before .before .before .before .before .before .before .pre .0)) .1, c .before .before .before .before .before .before .no-columns .ensures, c .before .before .before .before .columns2 .kept .1 .1 .0, c .before .before .before .before .columns2 .ensures .few), c .before .before .before .before .columns2 .ensures .small)
+slice-aggregate-terms : tie.Need-slice-aggregate-terms
+slice-aggregate-terms c = search needs
 
-slice-aggregate-domain-square : tie.Need-slice-aggregate-domain-square
-slice-aggregate-domain-square c = search needs
+slice-aggregate-terms-2 : tie.Need-slice-aggregate-terms-2
+slice-aggregate-terms-2 c = search needs
 
-domain-square-requires : tie.Need-domain-square-requires
-domain-square-requires c κs = (columns-are (c .before .before .before .before .before .before .before .before .before .before .before .before .before .before .args .statements .now) (isTable-wellFormed isAllowedStatement mostStatements (c .before .before .before .before .before .before .before .before .before .before .before .before .before .before .args .statements .now) (c .before .before .before .before .before .before .before .before .before .before .before .before .before .before .pre .0)) _ _ _ (c .before .before .before .before .before .before .columns2 .ensures) (c .before .before .before .classes .ensures), omega (arith, statement-count (c .before .before .before .before .before .before .before .before .before .before .before .before .before .before .args .statements .now) (isTable-wellFormed isAllowedStatement mostStatements (c .before .before .before .before .before .before .before .before .before .before .before .before .before .before .args .statements .now) (c .before .before .before .before .before .before .before .before .before .before .before .before .before .before .pre .0)) .0, statement-count (c .before .before .before .before .before .before .before .before .before .before .before .before .before .before .args .statements .now) (isTable-wellFormed isAllowedStatement mostStatements (c .before .before .before .before .before .before .before .before .before .before .before .before .before .before .args .statements .now) (c .before .before .before .before .before .before .before .before .before .before .before .before .before .before .pre .0)) .1, c .before .before .before .before .before .before .before .before .no-columns .ensures, c .before .before .before .before .before .before .columns2 .kept .1 .1 .0, c .before .before .before .before .before .before .columns2 .ensures .few))
+terms-requires : tie.Need-terms-requires
+terms-requires c κs = (omega (arith, statement-count (c .before .before .before .before .before .before .before .before .before .before .before .before .before .before .args .statements .now) (isTable-wellFormed isAllowedStatement mostStatements (c .before .before .before .before .before .before .before .before .before .before .before .before .before .before .args .statements .now) (c .before .before .before .before .before .before .before .before .before .before .before .before .before .before .pre .0)) .0, statement-count (c .before .before .before .before .before .before .before .before .before .before .before .before .before .before .args .statements .now) (isTable-wellFormed isAllowedStatement mostStatements (c .before .before .before .before .before .before .before .before .before .before .before .before .before .before .args .statements .now) (c .before .before .before .before .before .before .before .before .before .before .before .before .before .before .pre .0)) .1, c .before .before .before .before .before .before .before .before .no-columns .ensures, c .before .before .before .before .before .before .columns2 .kept .1 .1 .0, c .before .before .before .before .before .before .columns2 .ensures .few, c .before .before .no-keys .ensures), c .before .before .before .before .before .before .columns2 .ensures .small)
 
-slice-aggregate-square : tie.Need-slice-aggregate-square
-slice-aggregate-square c = search needs
+no-bits-requires : tie.Need-no-bits-requires
+no-bits-requires c κs = search needs
 
-square-requires : tie.Need-square-requires
-square-requires c κs = (columns-are (c .before .before .before .before .before .before .before .before .before .before .before .before .before .before .before .before .args .statements .now) (isTable-wellFormed isAllowedStatement mostStatements (c .before .before .before .before .before .before .before .before .before .before .before .before .before .before .before .before .args .statements .now) (c .before .before .before .before .before .before .before .before .before .before .before .before .before .before .before .before .pre .0)) _ _ _ (c .before .before .before .before .before .before .before .before .columns2 .ensures) (c .before .before .before .before .before .classes .ensures), omega (arith, statement-count (c .before .before .before .before .before .before .before .before .before .before .before .before .before .before .before .before .args .statements .now) (isTable-wellFormed isAllowedStatement mostStatements (c .before .before .before .before .before .before .before .before .before .before .before .before .before .before .before .before .args .statements .now) (c .before .before .before .before .before .before .before .before .before .before .before .before .before .before .before .before .pre .0)) .0, statement-count (c .before .before .before .before .before .before .before .before .before .before .before .before .before .before .before .before .args .statements .now) (isTable-wellFormed isAllowedStatement mostStatements (c .before .before .before .before .before .before .before .before .before .before .before .before .before .before .before .before .args .statements .now) (c .before .before .before .before .before .before .before .before .before .before .before .before .before .before .before .before .pre .0)) .1, c .before .before .before .before .before .before .before .before .before .before .no-columns .ensures, c .before .before .before .before .before .before .before .before .columns2 .kept .1 .1 .0, c .before .before .before .before .before .before .before .before .columns2 .ensures .few))
+slice-aggregate-fill-domains : tie.Need-slice-aggregate-fill-domains
+slice-aggregate-fill-domains c = search needs
 
-index-of-requires : tie.Need-index-of-requires
-index-of-requires c κs = facts-are (c .before .before .before .before .before .before .before .before .before .before .before .before .before .before .before .before .before .args .facts .now) (isTable-wellFormed isAllowedFact mostFacts (c .before .before .before .before .before .before .before .before .before .before .before .before .before .before .before .before .before .args .facts .now) (c .before .before .before .before .before .before .before .before .before .before .before .before .before .before .before .before .before .pre .1 .0))
+slice-aggregate-fill-domains-2 : tie.Need-slice-aggregate-fill-domains-2
+slice-aggregate-fill-domains-2 c = search needs
+
+fill-domains-requires : tie.Need-fill-domains-requires
+fill-domains-requires c κs = (columns-are (c .before .before .before .before .before .before .before .before .before .before .before .before .before .before .before .before .before .before .before .args .statements .now) (isTable-wellFormed isAllowedStatement mostStatements (c .before .before .before .before .before .before .before .before .before .before .before .before .before .before .before .before .before .before .before .args .statements .now) (c .before .before .before .before .before .before .before .before .before .before .before .before .before .before .before .before .before .before .before .pre .0)) _ _ _ (c .before .before .before .before .before .before .before .before .before .before .before .columns2 .ensures) (c .before .before .before .before .before .before .before .before .classes .ensures), (omega (arith, statement-count (c .before .before .before .before .before .before .before .before .before .before .before .before .before .before .before .before .before .before .before .args .statements .now) (isTable-wellFormed isAllowedStatement mostStatements (c .before .before .before .before .before .before .before .before .before .before .before .before .before .before .before .before .before .before .before .args .statements .now) (c .before .before .before .before .before .before .before .before .before .before .before .before .before .before .before .before .before .before .before .pre .0)) .0, statement-count (c .before .before .before .before .before .before .before .before .before .before .before .before .before .before .before .before .before .before .before .args .statements .now) (isTable-wellFormed isAllowedStatement mostStatements (c .before .before .before .before .before .before .before .before .before .before .before .before .before .before .before .before .before .before .before .args .statements .now) (c .before .before .before .before .before .before .before .before .before .before .before .before .before .before .before .before .before .before .before .pre .0)) .1, c .before .before .before .before .before .before .before .before .before .before .before .before .before .no-columns .ensures, c .before .before .before .before .before .before .before .before .before .before .before .columns2 .kept .1 .1 .0, c .before .before .before .before .before .before .before .before .before .before .before .columns2 .ensures .few), c .before .before .no-bits .ensures))
+
+no-bits-requires-2 : tie.Need-no-bits-requires-2
+no-bits-requires-2 c κs = search needs
+
+slice-aggregate-fill-square : tie.Need-slice-aggregate-fill-square
+slice-aggregate-fill-square c = search needs
+
+slice-aggregate-fill-square-2 : tie.Need-slice-aggregate-fill-square-2
+slice-aggregate-fill-square-2 c = search needs
+
+fill-square-requires : tie.Need-fill-square-requires
+fill-square-requires c κs = (columns-are (c .before .before .before .before .before .before .before .before .before .before .before .before .before .before .before .before .before .before .before .before .before .before .before .before .args .statements .now) (isTable-wellFormed isAllowedStatement mostStatements (c .before .before .before .before .before .before .before .before .before .before .before .before .before .before .before .before .before .before .before .before .before .before .before .before .args .statements .now) (c .before .before .before .before .before .before .before .before .before .before .before .before .before .before .before .before .before .before .before .before .before .before .before .before .pre .0)) _ _ _ (c .before .before .before .before .before .before .before .before .before .before .before .before .before .before .before .before .columns2 .ensures) (c .before .before .before .before .before .before .before .before .before .before .before .before .before .classes .ensures), (omega (arith, statement-count (c .before .before .before .before .before .before .before .before .before .before .before .before .before .before .before .before .before .before .before .before .before .before .before .before .args .statements .now) (isTable-wellFormed isAllowedStatement mostStatements (c .before .before .before .before .before .before .before .before .before .before .before .before .before .before .before .before .before .before .before .before .before .before .before .before .args .statements .now) (c .before .before .before .before .before .before .before .before .before .before .before .before .before .before .before .before .before .before .before .before .before .before .before .before .pre .0)) .0, statement-count (c .before .before .before .before .before .before .before .before .before .before .before .before .before .before .before .before .before .before .before .before .before .before .before .before .args .statements .now) (isTable-wellFormed isAllowedStatement mostStatements (c .before .before .before .before .before .before .before .before .before .before .before .before .before .before .before .before .before .before .before .before .before .before .before .before .args .statements .now) (c .before .before .before .before .before .before .before .before .before .before .before .before .before .before .before .before .before .before .before .before .before .before .before .before .pre .0)) .1, c .before .before .before .before .before .before .before .before .before .before .before .before .before .before .before .before .before .before .no-columns .ensures, c .before .before .before .before .before .before .before .before .before .before .before .before .before .before .before .before .columns2 .kept .1 .1 .0, c .before .before .before .before .before .before .before .before .before .before .before .before .before .before .before .before .columns2 .ensures .few), c .before .before .no-bits2 .ensures))
+
+no-places-requires : tie.Need-no-places-requires
+no-places-requires c κs = search needs
+
+slice-aggregate-fill-places : tie.Need-slice-aggregate-fill-places
+slice-aggregate-fill-places c = search needs
+
+fill-places-requires : tie.Need-fill-places-requires
+fill-places-requires c κs = (facts-are (c .before .before .before .before .before .before .before .before .before .before .before .before .before .before .before .before .before .before .before .before .before .before .before .before .before .before .before .before .args .facts .now) (isTable-wellFormed isAllowedFact mostFacts (c .before .before .before .before .before .before .before .before .before .before .before .before .before .before .before .before .before .before .before .before .before .before .before .before .before .before .before .before .args .facts .now) (c .before .before .before .before .before .before .before .before .before .before .before .before .before .before .before .before .before .before .before .before .before .before .before .before .before .before .before .before .pre .1 .0)), c .before .no-places .ensures)
 
 slice-aggregate-put-all : tie.Need-slice-aggregate-put-all
 slice-aggregate-put-all c = search needs
@@ -65,7 +88,7 @@ slice-aggregate-put-all-3 : tie.Need-slice-aggregate-put-all-3
 slice-aggregate-put-all-3 c = search needs
 
 put-all-requires : tie.Need-put-all-requires
-put-all-requires c κs = (prepared (c .before .before .before .before .before .before .before .before .before .before .before .before .before .before .before .before .before .before .before .before .before .before .before .before .args .statements .now) (c .before .before .before .before .before .before .before .before .before .before .before .before .before .before .before .before .before .before .before .before .before .before .before .before .args .facts .now) (isTable-wellFormed isAllowedStatement mostStatements (c .before .before .before .before .before .before .before .before .before .before .before .before .before .before .before .before .before .before .before .before .before .before .before .before .args .statements .now) (c .before .before .before .before .before .before .before .before .before .before .before .before .before .before .before .before .before .before .before .before .before .before .before .before .pre .0)) (isTable-wellFormed isAllowedFact mostFacts (c .before .before .before .before .before .before .before .before .before .before .before .before .before .before .before .before .before .before .before .before .before .before .before .before .args .facts .now) (c .before .before .before .before .before .before .before .before .before .before .before .before .before .before .before .before .before .before .before .before .before .before .before .before .pre .1 .0)) _ (c .before .before .before .before .before .before .before .before .before .before .before .keys-of .result) _ _ _ _ (c .before .before .before .before .before .before .before .before .before .before .before .before .before .before .before .before .columns2 .ensures) (c .before .before .before .before .before .before .before .before .before .before .before .before .before .classes .ensures) (c .before .before .before .before .before .before .before .before .before .before .before .keys-of .ensures) (c .before .before .before .before .before .before .before .before .before .domain-square .ensures) (c .before .before .before .before .before .before .before .square .ensures), (facts-are (c .before .before .before .before .before .before .before .before .before .before .before .before .before .before .before .before .before .before .before .before .before .before .before .before .args .facts .now) (isTable-wellFormed isAllowedFact mostFacts (c .before .before .before .before .before .before .before .before .before .before .before .before .before .before .before .before .before .before .before .before .before .before .before .before .args .facts .now) (c .before .before .before .before .before .before .before .before .before .before .before .before .before .before .before .before .before .before .before .before .before .before .before .before .pre .1 .0)), ((c .before .before .before .before .before .before .index-of .ensures .0, c .before .before .before .before .before .before .index-of .ensures .1, c .before .before .before .before .before .before .index-of .ensures .2), (supports-small (c .before .before .before .before .before .before .before .before .before .before .before .before .before .before .before .before .before .before .before .before .before .before .before .before .args .statements .now) (c .before .before .before .before .before .before .before .before .before .before .before .before .before .before .before .before .before .before .before .before .before .before .before .before .args .facts .now) (isTable-wellFormed isAllowedStatement mostStatements (c .before .before .before .before .before .before .before .before .before .before .before .before .before .before .before .before .before .before .before .before .before .before .before .before .args .statements .now) (c .before .before .before .before .before .before .before .before .before .before .before .before .before .before .before .before .before .before .before .before .before .before .before .before .pre .0)) (isTable-wellFormed isAllowedFact mostFacts (c .before .before .before .before .before .before .before .before .before .before .before .before .before .before .before .before .before .before .before .before .before .before .before .before .args .facts .now) (c .before .before .before .before .before .before .before .before .before .before .before .before .before .before .before .before .before .before .before .before .before .before .before .before .pre .1 .0)) _ (c .before .before .before .before .before .before .before .before .before .before .before .keys-of .result) _ _ _ _ (c .before .before .before .before .before .before .before .before .before .before .before .before .before .before .before .before .columns2 .ensures) (c .before .before .before .before .before .before .before .before .before .before .before .before .before .classes .ensures) (c .before .before .before .before .before .before .before .before .before .before .before .keys-of .ensures) (c .before .before .before .before .before .before .before .before .before .domain-square .ensures) (c .before .before .before .before .before .before .before .square .ensures), (exists (c .before .before .before .before .before .before .before .before .before .before .before .before .before .before .before .before .before .before .before .before .before .before .before .before .args .statements .now) (c .before .before .before .before .before .before .before .before .before .before .before .before .before .before .before .before .before .before .before .before .before .before .before .before .args .facts .now) (isTable-wellFormed isAllowedStatement mostStatements (c .before .before .before .before .before .before .before .before .before .before .before .before .before .before .before .before .before .before .before .before .before .before .before .before .args .statements .now) (c .before .before .before .before .before .before .before .before .before .before .before .before .before .before .before .before .before .before .before .before .before .before .before .before .pre .0)) (isTable-wellFormed isAllowedFact mostFacts (c .before .before .before .before .before .before .before .before .before .before .before .before .before .before .before .before .before .before .before .before .before .before .before .before .args .facts .now) (c .before .before .before .before .before .before .before .before .before .before .before .before .before .before .before .before .before .before .before .before .before .before .before .before .pre .1 .0)) _ (c .before .before .before .before .before .before .before .before .before .before .before .keys-of .result) _ _ _ _ (c .before .before .before .before .before .before .before .before .before .before .before .before .before .before .before .before .columns2 .ensures) (c .before .before .before .before .before .before .before .before .before .before .before .before .before .classes .ensures) (c .before .before .before .before .before .before .before .before .before .before .before .keys-of .ensures) (c .before .before .before .before .before .before .before .before .before .domain-square .ensures) (c .before .before .before .before .before .before .before .square .ensures), c .before .before .before .before .before .before .before .before .before .before .before .before .before .before .before .before .before .before .before .before .before .before .before .before .pre .1 .1)))))
+put-all-requires c κs = (prepared (c .before .before .before .before .before .before .before .before .before .before .before .before .before .before .before .before .before .before .before .before .before .before .before .before .before .before .before .before .before .before .before .before .before .before .before .before .args .statements .now) (c .before .before .before .before .before .before .before .before .before .before .before .before .before .before .before .before .before .before .before .before .before .before .before .before .before .before .before .before .before .before .before .before .before .before .before .before .args .facts .now) (isTable-wellFormed isAllowedStatement mostStatements (c .before .before .before .before .before .before .before .before .before .before .before .before .before .before .before .before .before .before .before .before .before .before .before .before .before .before .before .before .before .before .before .before .before .before .before .before .args .statements .now) (c .before .before .before .before .before .before .before .before .before .before .before .before .before .before .before .before .before .before .before .before .before .before .before .before .before .before .before .before .before .before .before .before .before .before .before .before .pre .0)) (isTable-wellFormed isAllowedFact mostFacts (c .before .before .before .before .before .before .before .before .before .before .before .before .before .before .before .before .before .before .before .before .before .before .before .before .before .before .before .before .before .before .before .before .before .before .before .before .args .facts .now) (c .before .before .before .before .before .before .before .before .before .before .before .before .before .before .before .before .before .before .before .before .before .before .before .before .before .before .before .before .before .before .before .before .before .before .before .before .pre .1 .0)) _ (c .before .before .before .before .before .before .before .before .before .before .before .before .before .before .before .before .before .before .before .before .before .terms .last .1 .1 .0) _ _ _ _ (c .before .before .before .before .before .before .before .before .before .before .before .before .before .before .before .before .before .before .before .before .before .before .before .before .before .before .before .before .columns2 .ensures) (c .before .before .before .before .before .before .before .before .before .before .before .before .before .before .before .before .before .before .before .before .before .before .before .before .before .classes .ensures) (c .before .before .before .before .before .before .before .before .before .before .before .before .before .before .before .before .before .before .before .before .before .terms .ensures) (c .before .before .before .before .before .before .before .before .before .before .before .before .before .before .before .before .fill-domains .ensures) (c .before .before .before .before .before .before .before .before .before .before .before .fill-square .ensures), (facts-are (c .before .before .before .before .before .before .before .before .before .before .before .before .before .before .before .before .before .before .before .before .before .before .before .before .before .before .before .before .before .before .before .before .before .before .before .before .args .facts .now) (isTable-wellFormed isAllowedFact mostFacts (c .before .before .before .before .before .before .before .before .before .before .before .before .before .before .before .before .before .before .before .before .before .before .before .before .before .before .before .before .before .before .before .before .before .before .before .before .args .facts .now) (c .before .before .before .before .before .before .before .before .before .before .before .before .before .before .before .before .before .before .before .before .before .before .before .before .before .before .before .before .before .before .before .before .before .before .before .before .pre .1 .0)), (c .before .before .before .before .before .before .before .fill-places .ensures, (supports-small (c .before .before .before .before .before .before .before .before .before .before .before .before .before .before .before .before .before .before .before .before .before .before .before .before .before .before .before .before .before .before .before .before .before .before .before .before .args .statements .now) (c .before .before .before .before .before .before .before .before .before .before .before .before .before .before .before .before .before .before .before .before .before .before .before .before .before .before .before .before .before .before .before .before .before .before .before .before .args .facts .now) (isTable-wellFormed isAllowedStatement mostStatements (c .before .before .before .before .before .before .before .before .before .before .before .before .before .before .before .before .before .before .before .before .before .before .before .before .before .before .before .before .before .before .before .before .before .before .before .before .args .statements .now) (c .before .before .before .before .before .before .before .before .before .before .before .before .before .before .before .before .before .before .before .before .before .before .before .before .before .before .before .before .before .before .before .before .before .before .before .before .pre .0)) (isTable-wellFormed isAllowedFact mostFacts (c .before .before .before .before .before .before .before .before .before .before .before .before .before .before .before .before .before .before .before .before .before .before .before .before .before .before .before .before .before .before .before .before .before .before .before .before .args .facts .now) (c .before .before .before .before .before .before .before .before .before .before .before .before .before .before .before .before .before .before .before .before .before .before .before .before .before .before .before .before .before .before .before .before .before .before .before .before .pre .1 .0)) _ (c .before .before .before .before .before .before .before .before .before .before .before .before .before .before .before .before .before .before .before .before .before .terms .last .1 .1 .0) _ _ _ _ (c .before .before .before .before .before .before .before .before .before .before .before .before .before .before .before .before .before .before .before .before .before .before .before .before .before .before .before .before .columns2 .ensures) (c .before .before .before .before .before .before .before .before .before .before .before .before .before .before .before .before .before .before .before .before .before .before .before .before .before .classes .ensures) (c .before .before .before .before .before .before .before .before .before .before .before .before .before .before .before .before .before .before .before .before .before .terms .ensures) (c .before .before .before .before .before .before .before .before .before .before .before .before .before .before .before .before .fill-domains .ensures) (c .before .before .before .before .before .before .before .before .before .before .before .fill-square .ensures), (exists (c .before .before .before .before .before .before .before .before .before .before .before .before .before .before .before .before .before .before .before .before .before .before .before .before .before .before .before .before .before .before .before .before .before .before .before .before .args .statements .now) (c .before .before .before .before .before .before .before .before .before .before .before .before .before .before .before .before .before .before .before .before .before .before .before .before .before .before .before .before .before .before .before .before .before .before .before .before .args .facts .now) (isTable-wellFormed isAllowedStatement mostStatements (c .before .before .before .before .before .before .before .before .before .before .before .before .before .before .before .before .before .before .before .before .before .before .before .before .before .before .before .before .before .before .before .before .before .before .before .before .args .statements .now) (c .before .before .before .before .before .before .before .before .before .before .before .before .before .before .before .before .before .before .before .before .before .before .before .before .before .before .before .before .before .before .before .before .before .before .before .before .pre .0)) (isTable-wellFormed isAllowedFact mostFacts (c .before .before .before .before .before .before .before .before .before .before .before .before .before .before .before .before .before .before .before .before .before .before .before .before .before .before .before .before .before .before .before .before .before .before .before .before .args .facts .now) (c .before .before .before .before .before .before .before .before .before .before .before .before .before .before .before .before .before .before .before .before .before .before .before .before .before .before .before .before .before .before .before .before .before .before .before .before .pre .1 .0)) _ (c .before .before .before .before .before .before .before .before .before .before .before .before .before .before .before .before .before .before .before .before .before .terms .last .1 .1 .0) _ _ _ _ (c .before .before .before .before .before .before .before .before .before .before .before .before .before .before .before .before .before .before .before .before .before .before .before .before .before .before .before .before .columns2 .ensures) (c .before .before .before .before .before .before .before .before .before .before .before .before .before .before .before .before .before .before .before .before .before .before .before .before .before .classes .ensures) (c .before .before .before .before .before .before .before .before .before .before .before .before .before .before .before .before .before .before .before .before .before .terms .ensures) (c .before .before .before .before .before .before .before .before .before .before .before .before .before .before .before .before .fill-domains .ensures) (c .before .before .before .before .before .before .before .before .before .before .before .fill-square .ensures), c .before .before .before .before .before .before .before .before .before .before .before .before .before .before .before .before .before .before .before .before .before .before .before .before .before .before .before .before .before .before .before .before .before .before .before .before .pre .1 .1)))))
 
 same-length : tie.Need-same-length
 same-length c = search needs
@@ -75,7 +98,7 @@ same-length-2 c = search needs
 
 returns : tie.Need-returns
 unfolding saturated
-returns c = c .before .before .before .before .put-all .ensures (saturation (rows (c .before .before .before .before .before .before .before .before .before .before .before .before .before .before .before .before .before .before .before .before .before .before .before .before .before .before .before .before .before .args .statements .now)) (rows (c .before .before .before .before .before .before .before .before .before .before .before .before .before .before .before .before .before .before .before .before .before .before .before .before .before .before .before .before .before .args .facts .now))) (saturation-counts (rows (c .before .before .before .before .before .before .before .before .before .before .before .before .before .before .before .before .before .before .before .before .before .before .before .before .before .before .before .before .before .args .statements .now)) (rows (c .before .before .before .before .before .before .before .before .before .before .before .before .before .before .before .before .before .before .before .before .before .before .before .before .before .before .before .before .before .args .facts .now))) (saturation-supported (c .before .before .before .before .before .before .before .before .before .before .before .before .before .before .before .before .before .before .before .before .before .before .before .before .before .before .before .before .before .args .statements .now) (c .before .before .before .before .before .before .before .before .before .before .before .before .before .before .before .before .before .before .before .before .before .before .before .before .before .before .before .before .before .args .facts .now) (isTable-wellFormed isAllowedStatement mostStatements (c .before .before .before .before .before .before .before .before .before .before .before .before .before .before .before .before .before .before .before .before .before .before .before .before .before .before .before .before .before .args .statements .now) (c .before .before .before .before .before .before .before .before .before .before .before .before .before .before .before .before .before .before .before .before .before .before .before .before .before .before .before .before .before .pre .0)) (isTable-wellFormed isAllowedFact mostFacts (c .before .before .before .before .before .before .before .before .before .before .before .before .before .before .before .before .before .before .before .before .before .before .before .before .before .before .before .before .before .args .facts .now) (c .before .before .before .before .before .before .before .before .before .before .before .before .before .before .before .before .before .before .before .before .before .before .before .before .before .before .before .before .before .pre .1 .0)) _ (c .before .before .before .before .before .before .before .before .before .before .before .before .before .before .before .before .keys-of .result) _ _ _ _ (c .before .before .before .before .before .before .before .before .before .before .before .before .before .before .before .before .before .before .before .before .before .columns2 .ensures) (c .before .before .before .before .before .before .before .before .before .before .before .before .before .before .before .before .before .before .classes .ensures) (c .before .before .before .before .before .before .before .before .before .before .before .before .before .before .before .before .keys-of .ensures) (c .before .before .before .before .before .before .before .before .before .before .before .before .before .before .domain-square .ensures) (c .before .before .before .before .before .before .before .before .before .before .before .before .square .ensures))
+returns c = c .before .before .before .before .put-all .ensures (saturation (rows (c .before .before .before .before .before .before .before .before .before .before .before .before .before .before .before .before .before .before .before .before .before .before .before .before .before .before .before .before .before .before .before .before .before .before .before .before .before .before .before .before .before .args .statements .now)) (rows (c .before .before .before .before .before .before .before .before .before .before .before .before .before .before .before .before .before .before .before .before .before .before .before .before .before .before .before .before .before .before .before .before .before .before .before .before .before .before .before .before .before .args .facts .now))) (saturation-counts (rows (c .before .before .before .before .before .before .before .before .before .before .before .before .before .before .before .before .before .before .before .before .before .before .before .before .before .before .before .before .before .before .before .before .before .before .before .before .before .before .before .before .before .args .statements .now)) (rows (c .before .before .before .before .before .before .before .before .before .before .before .before .before .before .before .before .before .before .before .before .before .before .before .before .before .before .before .before .before .before .before .before .before .before .before .before .before .before .before .before .before .args .facts .now))) (saturation-supported (c .before .before .before .before .before .before .before .before .before .before .before .before .before .before .before .before .before .before .before .before .before .before .before .before .before .before .before .before .before .before .before .before .before .before .before .before .before .before .before .before .before .args .statements .now) (c .before .before .before .before .before .before .before .before .before .before .before .before .before .before .before .before .before .before .before .before .before .before .before .before .before .before .before .before .before .before .before .before .before .before .before .before .before .before .before .before .before .args .facts .now) (isTable-wellFormed isAllowedStatement mostStatements (c .before .before .before .before .before .before .before .before .before .before .before .before .before .before .before .before .before .before .before .before .before .before .before .before .before .before .before .before .before .before .before .before .before .before .before .before .before .before .before .before .before .args .statements .now) (c .before .before .before .before .before .before .before .before .before .before .before .before .before .before .before .before .before .before .before .before .before .before .before .before .before .before .before .before .before .before .before .before .before .before .before .before .before .before .before .before .before .pre .0)) (isTable-wellFormed isAllowedFact mostFacts (c .before .before .before .before .before .before .before .before .before .before .before .before .before .before .before .before .before .before .before .before .before .before .before .before .before .before .before .before .before .before .before .before .before .before .before .before .before .before .before .before .before .args .facts .now) (c .before .before .before .before .before .before .before .before .before .before .before .before .before .before .before .before .before .before .before .before .before .before .before .before .before .before .before .before .before .before .before .before .before .before .before .before .before .before .before .before .before .pre .1 .0)) _ (c .before .before .before .before .before .before .before .before .before .before .before .before .before .before .before .before .before .before .before .before .before .before .before .before .before .before .terms .last .1 .1 .0) _ _ _ _ (c .before .before .before .before .before .before .before .before .before .before .before .before .before .before .before .before .before .before .before .before .before .before .before .before .before .before .before .before .before .before .before .before .before .columns2 .ensures) (c .before .before .before .before .before .before .before .before .before .before .before .before .before .before .before .before .before .before .before .before .before .before .before .before .before .before .before .before .before .before .classes .ensures) (c .before .before .before .before .before .before .before .before .before .before .before .before .before .before .before .before .before .before .before .before .before .before .before .before .before .before .terms .ensures) (c .before .before .before .before .before .before .before .before .before .before .before .before .before .before .before .before .before .before .before .before .before .fill-domains .ensures) (c .before .before .before .before .before .before .before .before .before .before .before .before .before .before .before .before .fill-square .ensures))
 
 pub saturate-spec : {M : Type 1} → statement M
 saturate-spec =
@@ -88,13 +111,21 @@ saturate-spec =
     columns-requires
     slice-aggregate-classes
     classes-requires
-    slice-aggregate-keys-of
-    keys-of-requires
-    slice-aggregate-domain-square
-    domain-square-requires
-    slice-aggregate-square
-    square-requires
-    index-of-requires
+    no-keys-requires
+    slice-aggregate-terms
+    slice-aggregate-terms-2
+    terms-requires
+    no-bits-requires
+    slice-aggregate-fill-domains
+    slice-aggregate-fill-domains-2
+    fill-domains-requires
+    no-bits-requires-2
+    slice-aggregate-fill-square
+    slice-aggregate-fill-square-2
+    fill-square-requires
+    no-places-requires
+    slice-aggregate-fill-places
+    fill-places-requires
     slice-aggregate-put-all
     slice-aggregate-put-all-2
     slice-aggregate-put-all-3
