@@ -11,7 +11,7 @@ extern "C" {
 #endif
 
 /* An update answers 0 applied, 100 idle, or the number that refused it. A refused or idle update changes no word.
- * An update of a statement uses some 1.6 MB of stack. */
+ * An update of a statement uses some 0.8 MB of stack. */
 uint32_t families_add(uint32_t *statements, size_t statements_len, uint32_t *facts, size_t facts_len,
                       uint32_t *kept, size_t kept_len, uint16_t *supports, size_t supports_len,
                       uint32_t subject, uint32_t property, uint32_t object);
