@@ -1,5 +1,5 @@
 -- The tests of a table and of supports, one by one. Assumes nothing.
-use Prim.Native.Nat.{ℕ, _+_, _*_, _≤_, _<_}
+use Prim.Native.Nat.{ℕ, _+_, _-_, _*_, _≤_, _<_}
 use mathlib.Core.Path.{_≡_, refl}
 use mathlib.Core.Bool.{Bool, true, false, _&&_}
 use mathlib.Core.List.{List, [], _∷_}
@@ -7,13 +7,14 @@ use native.Mathlib.Numerals.{add-one}
 use native.Mathlib.Omega.{arith}
 use lib.ListN.{length, getD, take, drop}
 use lib.Seq.{getD-take, length-take-le}
-use lib.Dec.{leb}
+use lib.Dec.{leb, eqb}
 use borrow.Author.Tests.{le-leb, lt-leb}
 use Rattle.rdf.specs.declared.Triple.{Triple}
-use Rattle.rdf.specs.Order.{isAscending}
-use Rattle.table.specs.Table.{capacity, count, firstRows, areZero, all, isTable, isSupport, isSupportTable}
-use Rattle.table.proofs.All.{and-false, and-assoc, all-more, all-stop, all-end}
-use Rattle.table.proofs.Supports.{between-isSupport}
+use Rattle.rdf.specs.Order.{isLess, isAscending}
+use Rattle.table.specs.Table.{capacity, count, rowAt, firstRows, areZero, all, isTable, isSupport, isSupportTable}
+use Rattle.table.proofs.All.{and-assoc, all-next, all-end, zeros-next}
+use Rattle.form.specs.Allowed.{areRowsFrom}
+use Rattle.form.proofs.Scan.{next-row}
 
 -- ---- a table
 
@@ -28,19 +29,11 @@ too-many allowed most [] h k = absurd (omega arith)
 too-many allowed most (n ∷ ws) h k = rw (lt-leb n (capacity most (n ∷ ws)) k)
 
 pub enough : (allowed : Triple → Bool) (most : ℕ) (ws : List ℕ) → 0 < length ws → count ws ≤ capacity most ws
-    → isTable allowed most ws ≡ ((isAscending (firstRows (count ws) (drop 1 ws)) && all allowed (firstRows (count ws) (drop 1 ws))) && areZero (drop (count ws * 3 + 1) ws))
-unfolding isTable
+    → isTable allowed most ws ≡ (areRowsFrom allowed ws (count ws) 0 && areZero (drop (count ws * 3 + 1) ws))
+unfolding isTable areRowsFrom
 enough allowed most [] h k = absurd (omega arith)
 enough allowed most (n ∷ ws) h k =
     rw (le-leb n (capacity most (n ∷ ws)) k, add-one (n * 3)) (and-assoc (isAscending (firstRows n ws)) (all allowed (firstRows n ws)) (areZero (drop (n * 3) ws)))
-
--- ---- one support
-
-pub too-low : (facts u : ℕ) → u < 1 → isSupport facts u ≡ false
-too-low facts u h = rw (lt-leb 1 u h)
-
-pub too-high : (facts u : ℕ) → facts < u → isSupport facts u ≡ false
-too-high facts u h = rw (lt-leb u facts h) (and-false (leb 1 u))
 
 -- ---- the supports
 
@@ -52,19 +45,27 @@ pub enough-places : (facts n : ℕ) (us : List ℕ) → n ≤ length us → isSu
 unfolding isSupportTable
 enough-places facts n us h = rw (le-leb n (length us) h)
 
--- The scan of the supports goes by what is left.
+-- ---- folds with no exit: ok is the answer so far
+
+pub fold-end : (ok : Bool) {left : Bool} → left ≡ true → (ok && left) ≡ ok
+fold-end true e = e
+fold-end false e = refl
+
+pub zeros-fold : (ok : Bool) (ws : List ℕ) (i : ℕ) → i < length ws → (ok && areZero (drop i ws)) ≡ ((ok && eqb (getD ws i 0) 0) && areZero (drop (i + 1) ws))
+zeros-fold ok ws i h = rw (zeros-next ws i h) (and-assoc ok (eqb (getD ws i 0) 0) (areZero (drop (i + 1) ws)))
+
 module _ (facts n : ℕ) (us : List ℕ) (fits : n ≤ length us) (i : ℕ) where
-  at-support : (b : Bool) → i < n → isSupport facts (getD us i 0) ≡ b → isSupport facts (getD (take n us) i 0) ≡ b
-  at-support b h e = rw (getD-take n us i 0 h) e
-
-  inside : i < n → i < length (take n us)
-  inside h = rw (length-take-le n us fits) h
-
-  pub support-more : i < n → 1 ≤ getD us i 0 → getD us i 0 ≤ facts → all (isSupport facts) (drop i (take n us)) ≡ all (isSupport facts) (drop (i + 1) (take n us))
-  support-more h a b = all-more (isSupport facts) (take n us) i 0 (inside h) (at-support true h (between-isSupport facts (getD us i 0) a b))
-
-  pub support-stop : i < n → isSupport facts (getD us i 0) ≡ false → all (isSupport facts) (drop i (take n us)) ≡ false
-  support-stop h e = all-stop (isSupport facts) (take n us) i 0 (inside h) (at-support false h e)
+  pub support-fold : (ok : Bool) (highest : ℕ) → i < n → leb (getD us i 0) highest ≡ leb (getD us i 0) facts
+      → (ok && all (isSupport facts) (drop i (take n us))) ≡ ((ok && (leb 1 (getD us i 0) && leb (getD us i 0) highest)) && all (isSupport facts) (drop (i + 1) (take n us)))
+  support-fold ok highest h e =
+      rw (e, all-next (isSupport facts) (take n us) i 0 (rw (length-take-le n us fits) h), getD-take n us i 0 h)
+      (and-assoc ok (isSupport facts (getD us i 0)) (all (isSupport facts) (drop (i + 1) (take n us))))
 
   pub support-end : n ≤ i → all (isSupport facts) (drop i (take n us)) ≡ true
   support-end h = all-end (isSupport facts) (take n us) i (rw (length-take-le n us fits) h)
+
+-- Row i passes and is above the row before it, as two rows that were read say.
+pub row-fold : (ok : Bool) (test : Triple → Bool) (ws : List ℕ) (n i : ℕ) {x y : Triple} {passes less : Bool} → x ≡ rowAt ws i → passes ≡ test x → y ≡ rowAt ws (i - 1) → less ≡ isLess y x → 0 < i → i < n
+    → (ok && areRowsFrom test ws n i) ≡ ((ok && (passes && less)) && areRowsFrom test ws n (i + 1))
+row-fold ok test ws n i a b c d p h =
+    rw (b, d, a, c, next-row test ws n i p h) (and-assoc ok (test (rowAt ws i) && isLess (rowAt ws (i - 1)) (rowAt ws i)) (areRowsFrom test ws n (i + 1)))

@@ -9,7 +9,7 @@ use native.Mathlib.Omega.{arith}
 use lib.ListN.{length, getD, drop, replicate, drop-of-length-le}
 use lib.Seq.{drop-cons}
 use lib.Dec.{eqb}
-use borrow.Author.Tests.{eqb-true, eq-eqb, ne-eqb}
+use borrow.Author.Tests.{eqb-true}
 use Rattle.rdf.specs.declared.Triple.{Triple}
 use Rattle.rdf.proofs.Ascending.{and-left, and-right}
 use Rattle.table.specs.Table.{all, areZero}
@@ -53,13 +53,15 @@ module _ {A : Type 0} (test : A → Bool) where
   all-append (x ∷ xs) ys a b = rw (and-left (test x) (all test xs) a) (all-append xs ys (and-right (test x) _ a) b)
 
   -- A scan goes by what is left.
-  pub all-more : (xs : List A) (i : ℕ) (d : A) → i < length xs → test (getD xs i d) ≡ true → all test (drop i xs) ≡ all test (drop (i + 1) xs)
+  pub all-next : (xs : List A) (i : ℕ) (d : A) → i < length xs → all test (drop i xs) ≡ (test (getD xs i d) && all test (drop (i + 1) xs))
   unfolding all
-  all-more xs i d h e = rw (add-one, drop-cons xs i d h, e)
+  all-next xs i d h = rw (add-one, drop-cons xs i d h)
+
+  pub all-more : (xs : List A) (i : ℕ) (d : A) → i < length xs → test (getD xs i d) ≡ true → all test (drop i xs) ≡ all test (drop (i + 1) xs)
+  all-more xs i d h e = rw (all-next xs i d h, e)
 
   pub all-stop : (xs : List A) (i : ℕ) (d : A) → i < length xs → test (getD xs i d) ≡ false → all test (drop i xs) ≡ false
-  unfolding all
-  all-stop xs i d h e = rw (drop-cons xs i d h, e)
+  all-stop xs i d h e = rw (all-next xs i d h, e)
 
   pub all-end : (xs : List A) (i : ℕ) → length xs ≤ i → all test (drop i xs) ≡ true
   unfolding all
@@ -84,13 +86,9 @@ unfolding areZero
 areZero-replicate zero = refl
 areZero-replicate (suc n) = areZero-replicate n
 
-pub zeros-more : (ws : List ℕ) (i : ℕ) → i < length ws → getD ws i 0 ≡ 0 → areZero (drop i ws) ≡ areZero (drop (i + 1) ws)
+pub zeros-next : (ws : List ℕ) (i : ℕ) → i < length ws → areZero (drop i ws) ≡ (eqb (getD ws i 0) 0 && areZero (drop (i + 1) ws))
 unfolding areZero
-zeros-more ws i h e = rw (add-one, drop-cons ws i 0 h, eq-eqb _ _ e)
-
-pub zeros-stop : (ws : List ℕ) (i : ℕ) → i < length ws → (getD ws i 0 ≡ 0 → ⊥) → areZero (drop i ws) ≡ false
-unfolding areZero
-zeros-stop ws i h e = rw (drop-cons ws i 0 h, ne-eqb _ _ e)
+zeros-next ws i h = rw (add-one, drop-cons ws i 0 h)
 
 pub zeros-end : (ws : List ℕ) (i : ℕ) → length ws ≤ i → areZero (drop i ws) ≡ true
 unfolding areZero

@@ -1,43 +1,38 @@
--- The invariant: of the n supports the answer is that of those from i on.
+-- The invariant: of the n supports the answer is the one so far and that of those from i on.
 use borrow.Author.Needs.{needs}
 use Prim.Native.Nat.{_-_, _≤_}
 use mathlib.Core.Path.{_≡_, refl, sym, _∙_}
+use mathlib.Core.Bool.{_&&_}
 use native.Mathlib.Omega.{arith}
-use lib.ListN.{take, drop}
+use lib.ListN.{take, drop, getD}
 use Rattle.table.specs.Table.{all, isSupport}
-use Rattle.form.proofs.Tests.{too-low, too-high, support-more, support-stop, support-end}
+use Rattle.form.proofs.Tests.{fold-end, support-fold, support-end}
 use Rattle.form.proofs.are_supports.Statement.{statement}
 use Rattle.form.proofs.are_supports.Tie as tie
 
 abbrev Inv-loop : tie.InvT-loop
-Inv-loop u facts n i₀ i = (i ≤ n) × (all (isSupport facts) (take n u) ≡ all (isSupport facts) (drop i (take n u)))
+Inv-loop u facts n highest ok₀ i₀ ok i = (i ≤ n) × (all (isSupport facts) (take n u) ≡ (ok && all (isSupport facts) (drop i (take n u))))
 
 abbrev μ-loop : tie.MeasureT-loop
-μ-loop u facts n i₀ i = n - i
+μ-loop u facts n highest ok₀ i₀ ok i = n - i
+
+highest-support-requires : tie.Need-highest-support-requires Inv-loop μ-loop
+highest-support-requires c κs = search needs
 
 loop-holds : tie.Need-loop-holds Inv-loop μ-loop
 loop-holds c = (search needs, refl)
 
-mul-support : tie.Need-mul-support Inv-loop μ-loop
-mul-support c = search needs
+mul-ok : tie.Need-mul-ok Inv-loop μ-loop
+mul-ok c = search needs
 
-shared-slice-read-support : tie.Need-shared-slice-read-support Inv-loop μ-loop
-shared-slice-read-support c = search needs
+shared-slice-read-ok : tie.Need-shared-slice-read-ok Inv-loop μ-loop
+shared-slice-read-ok c = search needs
 
-cast-support : tie.Need-cast-support Inv-loop μ-loop
-cast-support c = omega (arith, c .shared-slice-known .given (c .before .before .loop .i))
+mul-ok-2 : tie.Need-mul-ok-2 Inv-loop μ-loop
+mul-ok-2 c = search needs
 
-returns : tie.Need-returns Inv-loop μ-loop
-returns c =
-    let l = c .before .before .before in
-    let s = l .before in
-    sym (l .loop .inv .1 ∙ support-stop (s .args .facts) (s .args .n) (s .args .u .now) (s .pre) (l .loop .i) (search needs) (too-low _ _ (c .if1 .taken)))
-
-returns-2 : tie.Need-returns-2 Inv-loop μ-loop
-returns-2 c =
-    let l = c .before .before .before .before in
-    let s = l .before in
-    sym (l .loop .inv .1 ∙ support-stop (s .args .facts) (s .args .n) (s .args .u .now) (s .pre) (l .loop .i) (search needs) (too-high _ _ (c .if2 .taken)))
+shared-slice-read-ok-2 : tie.Need-shared-slice-read-ok-2 Inv-loop μ-loop
+shared-slice-read-ok-2 c = search needs
 
 add-i : tie.Need-add-i Inv-loop μ-loop
 add-i c = search needs
@@ -47,15 +42,16 @@ loop-less c = search needs
 
 loop-again : tie.Need-loop-again Inv-loop μ-loop
 loop-again c =
-    let l = c .before .before .before .before in
-    let s = l .before in
-    (search needs, l .loop .inv .1 ∙ support-more (s .args .facts) (s .args .n) (s .args .u .now) (s .pre) (l .loop .i) (search needs) (c .before .if1 .left) (c .if2 .left))
+    let l = c .before .before .before in
+    let s = c .before .before .before .before .before .before in
+    let same = c .before .before .before .before .highest-support .ensures (getD (s .args .u .now) (l .loop .i) 0) (omega (arith, c .shared-slice-known3 .given (l .loop .i))) in
+    (search needs, l .loop .inv .1 ∙ support-fold (s .args .facts) (s .args .n) (s .args .u .now) (s .pre) (l .loop .i) (l .loop .ok) _ (search needs) same)
 
-returns-3 : tie.Need-returns-3 Inv-loop μ-loop
-returns-3 c =
+returns : tie.Need-returns Inv-loop μ-loop
+returns c =
     let l = c .before in
-    let s = l .before in
-    sym (l .loop .inv .1 ∙ support-end (s .args .facts) (s .args .n) (s .args .u .now) (s .pre) (l .loop .i) (search needs))
+    let s = c .before .before .before .before in
+    sym (l .loop .inv .1 ∙ fold-end (l .loop .ok) (support-end (s .args .facts) (s .args .n) (s .args .u .now) (s .pre) (l .loop .i) (c .loop-test .left)))
 
 pub are-supports-spec : {M : Type 1} → statement M
 are-supports-spec =
@@ -63,13 +59,13 @@ are-supports-spec =
     (tie.spec
     Inv-loop
     μ-loop
+    highest-support-requires
     loop-holds
-    mul-support
-    shared-slice-read-support
-    cast-support
-    returns
-    returns-2
+    mul-ok
+    shared-slice-read-ok
+    mul-ok-2
+    shared-slice-read-ok-2
     add-i
     loop-less
     loop-again
-    returns-3)
+    returns)
