@@ -61,11 +61,15 @@ collects-none m len =
 pub collects-again : (m : ℕ) (R : List (List ℕ)) (out x : List ℕ) (c : Collected) → Collects m R out c → List·Memᴰ x R → Collects m (x ∷ R) out c
 collects-again m R out x c C h = collects-ext (λ r. (λ i. List·Memᴰ·tail i, λ i. ⊎-elim (λ e. Memᴰ·cast e h) (λ k. k) (List·Memᴰ·cases-cons i))) C
 
+-- A row that is found among all rows.
+pub collects-there : (m : ℕ) (R : List (List ℕ)) (out x : List ℕ) (c : Collected) → List·Memᴰ x (rows m out 0 (c .sorted + c .added)) → c .exceeded ≡ false → Collects m R out c → Collects m (x ∷ R) out c
+collects-there m R out x c h e C = collects-again m R out x c C (C .exact e x .0 h)
+
 -- A row that is found among the sorted rows.
 pub collects-found : (m : ℕ) (R : List (List ℕ)) (out x : List ℕ) (c : Collected) (b : Bool) → Found m (c .sorted) out x b → b ≡ true → c .exceeded ≡ false → Collects m R out c → Collects m (x ∷ R) out c
 collects-found m R out x c b f h e C =
     let k : List·Memᴰ x (rows m out 0 (c .sorted) ++ rows m out (0 + c .sorted) (c .added)) = Memᴰ·append-left (rows m out (0 + c .sorted) (c .added)) (f .present h) in
-    collects-again m R out x c C (C .exact e x .0 (subst (List·Memᴰ x) (tabulate-append (rowAt m out) 0 (c .sorted) (c .added)) k))
+    collects-there m R out x c (subst (List·Memᴰ x) (tabulate-append (rowAt m out) 0 (c .sorted) (c .added)) k) e C
 
 -- What exceeds the room still does after one more row.
 pub exceeds-more : (m len : ℕ) (R : List (List ℕ)) (x : List ℕ) → Exceeds m len R → Exceeds m len (x ∷ R)

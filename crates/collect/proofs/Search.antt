@@ -1,14 +1,16 @@
 -- Rows of a table by their index, and a binary search among ascending rows. Assumes nothing.
-use Prim.Native.Nat.{ℕ, zero, suc, _+_, _-_, _≤_, _<_}
-use mathlib.Core.Path.{_≡_, sym, ap, _∙_}
+use Prim.Native.Nat.{ℕ, zero, suc, _+_, _-_, _*_, _≤_, _<_}
+use mathlib.Core.Path.{_≡_, sym, ap, _∙_, subst}
 use mathlib.Core.Bool.{Bool, true, false, not}
 use mathlib.Core.Logic.{⊎-elim}
 use mathlib.Core.List.{List, List·Memᴰ, List·Memᴰ·head, List·Memᴰ·tail, List·Memᴰ·cases-cons, List·Memᴰ·not-nil, Memᴰ·cast}
 use native.Mathlib.Omega.{arith}
+use lib.ListN.{getD}
 use borrow.Author.Tests.{not-true, not-false}
-use Rattle.rows.specs.Rows.{less, rowAt, tabulate, Ascending}
+use Rattle.rows.specs.Rows.{less, row, rowAt, tabulate, rows, Ascending}
 use Rattle.rows.proofs.Order.{never, less-irrefl, less-tri, less-trans}
 use Rattle.rows.proofs.Ordered.{above-member}
+use Rattle.rows.proofs.RowWords.{row-ext}
 use Rattle.rows.proofs.Tables.{eq-or, le-or}
 use Rattle.collect.specs.Effects.{Found}
 
@@ -99,3 +101,11 @@ module _ (m n lo hi : ℕ) (t x : List ℕ) (p : SearchLoop (rowAt m t) n x lo h
             (λ (u : w .index < lo). not-itself x (rowAt m t (w .index)) (below-all (rowAt m t) n x lo hi (w .index) p s u) (w .is))
             (le-or lo (w .index));
       }
+
+-- The words from word p on are the first words of u, up to the end of the row.
+pub same-row : (m p k : ℕ) (t u : List ℕ) → m ≤ k → ((w : ℕ) → w < k → getD t (p + w) 0 ≡ getD u w 0) → row m p t ≡ row m 0 u
+same-row m p k t u l h = row-ext m p 0 u t (λ w q. let e : 0 + w ≡ w = omega arith in rw e (h w (omega arith)))
+
+-- The last row is among the rows.
+pub last-member : (m n : ℕ) (t x : List ℕ) → 0 < n → row m ((n - 1) * m) t ≡ x → List·Memᴰ x (rows m t 0 n)
+last-member m n t x pos e = subst (λ (y : List ℕ). List·Memᴰ y (rows m t 0 n)) e (at-member (rowAt m t) 0 n (n - 1) (omega arith) (omega arith))

@@ -4,7 +4,7 @@ use output::clear;
 use sort::merge_distinct;
 ghost use mathlib.Core.Path.{_≡_};
 ghost use mathlib.Core.Bool.{true};
-ghost use mathlib.Core.List.{List, [], _∷_};
+ghost use mathlib.Core.List.{List, [], _∷_, List·Memᴰ};
 ghost use Prim.Native.Nat.{ℕ, _+_, _*_, _<_, _≤_};
 ghost use lib.ListN.{length, replicate};
 ghost use Rattle.rows.specs.Rows.{less};
@@ -37,6 +37,21 @@ fn less_words(t: &[u32], p: usize, u: &[u32], q: usize, m: usize) -> bool
     false
 }
 
+// Whether the m words from p on are the first m words of a row.
+fn is_same(t: &[u32], p: usize, row: &[u32], m: usize) -> bool
+    requires { ⌜ (p + m ≤ length (now t)) × (m ≤ length (now row)) ⌝ }
+    ensures { λ r. ⌜ (r ≡ true → sorted-rows.row m p (now (t .entry)) ≡ sorted-rows.row m 0 (now (row .entry))) ⌝ }
+{
+    let mut k = 0;
+    while k < m {
+        if t[p + k] != row[k] {
+            return false;
+        }
+        k += 1;
+    }
+    true
+}
+
 // Whether a row is among the first n rows, which ascend: a binary search for the first row that is not below it.
 fn is_among(out: &[u32], m: usize, n: usize, row: &[u32]) -> bool
     requires { ⌜ (n * m ≤ length (now out)) × (m ≤ length (now row)) ⌝ }
@@ -56,6 +71,18 @@ fn is_among(out: &[u32], m: usize, n: usize, row: &[u32]) -> bool
         return false;
     }
     !less_words(row, 0, out, lo * m, m)
+}
+
+// Whether a row is the last one added.
+fn is_last(out: &[u32], m: usize, row: &[u32], c: Collected) -> bool
+    requires { ⌜ (0 < m) × (m ≤ length (now row)) × Within m (now out) c ⌝ }
+    ensures { λ r. ⌜ (r ≡ true → List·Memᴰ (sorted-rows.row m 0 (now (row .entry))) (sorted-rows.rows m (now (out .entry)) 0 (c .sorted + c .added))) ⌝ }
+{
+    if c.added == 0 {
+        return false;
+    }
+    let last = c.sorted + c.added - 1;
+    is_same(out, last * m, row, m)
 }
 
 // Writes a row as row n.
@@ -127,13 +154,16 @@ fn is_spare(c: Collected, free: usize) -> bool
     c.added < free - 1
 }
 
-// Puts the row of the first m words of a slice: nothing happens where it is among the sorted rows; else it is added. The rows are settled before that where few more have room. A row that is not among them then, and has no room, is one too many.
+// Puts the row of the first m words of a slice: nothing happens where it is the last one added or among the sorted rows; else it is added. The rows are settled before that where few more have room. A row that is not among them then, and has no room, is one too many.
 pub fn put(out: &mut [u32], m: usize, row: &[u32], c: Collected) -> Collected
     requires { ⌜ (0 < m) × (m ≤ length (now row)) × Within m (now out) c ⌝ }
     ensures within { λ r. ⌜ Within m (now (out .exit)) r ⌝ }
     ensures collects { λ r. ⌜ ((R : List (List ℕ)) → Collects m R (now (out .entry)) c → Collects m (sorted-rows.row m 0 (now (row .entry)) ∷ R) (now (out .exit)) r) ⌝ }
 {
     if c.exceeded {
+        return c;
+    }
+    if is_last(out, m, row, c) {
         return c;
     }
     if is_among(out, m, c.sorted, row) {

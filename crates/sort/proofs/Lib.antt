@@ -1,3 +1,2 @@
-pub mod AscendLaws
 pub mod DistinctLaws
 pub mod MergeLaws
