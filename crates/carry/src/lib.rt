@@ -19,14 +19,14 @@ ghost use Rattle.reach.specs.Marks.{Statements, Within, unused, Uniform, Unused
 ghost use Rattle.carry.specs.Conclusions.{Listed, Concluded, conclusionAt};
 
 // Where a fact's properties, its subject's classes and its object's classes end in the terms found.
-struct Ends {
-    properties: usize,
-    subject: usize,
-    object: usize,
+pub struct Ends {
+    pub properties: usize,
+    pub subject: usize,
+    pub object: usize,
 }
 
 // No terms yet: there is room for two, and for two for each statement.
-fn no_terms() -> [u32; 1026]
+pub fn no_terms() -> [u32; 1026]
     ensures { λ r. ⌜ r ≡ replicate 1026 0 ⌝ }
 {
     [0u32; 1026]
@@ -115,7 +115,7 @@ fn append_object_classes(
 
 // The terms that a fact's conclusions are made of, in found, and where each part ends. The classes of the subject and those of the object
 // are reached over the same statements, so each has marks of its own.
-fn find_terms(st: &[u32], m: usize, fact: Triple, found: &mut [u32]) -> Ends
+pub fn find_terms(st: &[u32], m: usize, fact: Triple, found: &mut [u32]) -> Ends
     requires { ⌜ Statements (now st) m ⌝ }
     requires { ⌜ 1026 ≤ length (now found) ⌝ }
     ensures { λ r. ⌜ Concluded (firstRows m (drop 1 (now (st .entry)))) m fact (now (found .exit)) (r .properties) (r .subject) (r .object) ⌝ }

@@ -1,0 +1,2 @@
+pub mod LedLaws
+pub mod MemoryLaws
