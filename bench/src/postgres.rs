@@ -53,34 +53,35 @@ fn select(way: Way, question: &Question) -> String {
 
 /// An atom as a query with a column for each variable.
 fn subquery(way: Way, atom: &Atom) -> String {
-    let [s, _, o] = atom.words;
-    let property = format!("p = {}", atom.words[1]);
-    if atom.is_of_statements() {
-        return branch("statement", &[("s", s), ("o", o)], &property);
-    }
+    let property = if variable(atom.words[1]).is_some() { "TRUE".into() } else { format!("p = {}", atom.words[1]) };
+    let facts = if way == Way::Kept { "kept" } else { "fact" };
+    let explicit = ["statement", facts].into_iter().zip(atom.matches()).filter(|(_, matches)| *matches);
+    let mut branches: Vec<String> = explicit.map(|(table, _)| branch(table, atom, ["s", "p", "o"], &property)).collect();
     if way == Way::Kept {
-        return branch("kept", &[("s", s), ("o", o)], &property);
+        return branches.join(" UNION ALL ");
     }
-    let shapes: [(&[(&str, u32)], &str); 4] = [
-        (&[("s", s), ("target", o)], "p = 1 AND o = source"),
-        (&[("s", s), ("target", o)], "p = source"),
-        (&[("o", s), ("target", o)], "p = source AND o < 2147483648"),
-        (&[("s", s), ("o", o)], "p = source"),
+    let shapes = [
+        (["s", "1", "target"], "p = 1 AND o = source"),
+        (["s", "1", "target"], "p = source"),
+        (["o", "1", "target"], "p = source AND o < 2147483648"),
+        (["s", "target", "o"], "p = source"),
     ];
-    let mut branches = vec![branch("fact", &[("s", s), ("o", o)], &property)];
     for (pairs, (columns, condition)) in atom.alternatives.iter().zip(shapes) {
         let values: Vec<String> = pairs.iter().map(|[source, target]| format!("({source}, {target})")).collect();
         if !values.is_empty() {
             let from = format!("fact, (VALUES {}) alternative (source, target)", values.join(", "));
-            branches.push(branch(&from, columns, condition));
+            branches.push(branch(&from, atom, columns, condition));
         }
     }
     branches.join(" UNION ")
 }
 
-/// One query on one table: columns that a constant fixes are conditions, the others are named after their variable.
-fn branch(from: &str, columns: &[(&str, u32)], condition: &str) -> String {
-    let (free, fixed): (Vec<_>, Vec<_>) = columns.iter().partition(|(_, word)| variable(*word).is_some());
+/// One query on one table, with columns for the atom's words: those of a variable are named after it, and the subject or object that a
+/// constant fixes is a condition. The condition given says what is wanted of a constant property.
+fn branch(from: &str, atom: &Atom, [s, p, o]: [&str; 3], condition: &str) -> String {
+    let [subject, property, object] = atom.words;
+    let (mut free, fixed): (Vec<_>, Vec<_>) = [(s, subject), (o, object)].into_iter().partition(|(_, word)| variable(*word).is_some());
+    free.extend(variable(property).map(|_| (p, property)));
     let names: Vec<String> = free.iter().map(|(column, word)| format!("{column} AS {}", term(*word))).collect();
     let fixed: String = fixed.iter().map(|(column, word)| format!(" AND {column} = {word}")).collect();
     format!("SELECT {} FROM {from} WHERE {condition}{fixed}", names.join(", "))
