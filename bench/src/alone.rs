@@ -149,7 +149,7 @@ pub fn questions_by_size(scale: &Scale, statements: &[Triple], mix: Mix) -> Outc
         let sizes: String = rows.iter().map(|&n| format!(" {} {unit} |", grouped(n))).collect();
         out += &format!("{title}.\n\n| question |{sizes} growth / proportional |\n|{}\n", "---|".repeat(rows.len() + 2));
         for i in 0..stores[0].1.len() {
-            let measured = stores.iter_mut().map(|(ours, questions)| Ok(median(ours.times(way, &questions[i].1, scale.runs)?)));
+            let measured = stores.iter_mut().map(|(ours, questions)| Ok(median(ours.times(way, &questions[i].1, 5 * scale.runs)?)));
             let measured = measured.collect::<Outcome<Vec<Duration>>>()?;
             let last = rows.len() - 1;
             let growth = ratio(measured[last], measured[0]) * rows[0] as f64 / rows[last] as f64;
