@@ -51,15 +51,12 @@ fn select(way: Way, question: &Question) -> String {
     format!("SELECT DISTINCT {} FROM {}", head.join(", "), atoms.join(" NATURAL JOIN "))
 }
 
-/// An atom as a query with a column for each variable.
+/// An atom as a query with a column for each variable; rows may come more than once.
 fn subquery(way: Way, atom: &Atom) -> String {
-    let property = if variable(atom.words[1]).is_some() { "TRUE".into() } else { format!("p = {}", atom.words[1]) };
+    let property = if variable(atom.words[1]).is_some() { vec![] } else { vec![format!("p = {}", atom.words[1])] };
     let facts = if way == Way::Kept { "kept" } else { "fact" };
     let explicit = ["statement", facts].into_iter().zip(atom.matches()).filter(|(_, matches)| *matches);
-    let mut branches: Vec<String> = explicit.map(|(table, _)| branch(table, atom, ["s", "p", "o"], &property)).collect();
-    if way == Way::Kept {
-        return branches.join(" UNION ALL ");
-    }
+    let mut branches: Vec<String> = explicit.map(|(table, _)| branch(table, atom, ["s", "p", "o"], property.clone())).collect();
     let shapes = [
         (["s", "1", "target"], "p = 1 AND o = source"),
         (["s", "1", "target"], "p = source"),
@@ -68,23 +65,24 @@ fn subquery(way: Way, atom: &Atom) -> String {
     ];
     for (pairs, (columns, condition)) in atom.alternatives.iter().zip(shapes) {
         let values: Vec<String> = pairs.iter().map(|[source, target]| format!("({source}, {target})")).collect();
-        if !values.is_empty() {
+        if way == Way::Rewritten && !values.is_empty() {
             let from = format!("fact, (VALUES {}) alternative (source, target)", values.join(", "));
-            branches.push(branch(&from, atom, columns, condition));
+            branches.push(branch(&from, atom, columns, vec![condition.into()]));
         }
     }
-    branches.join(" UNION ")
+    branches.join(" UNION ALL ")
 }
 
 /// One query on one table, with columns for the atom's words: those of a variable are named after it, and the subject or object that a
-/// constant fixes is a condition. The condition given says what is wanted of a constant property.
-fn branch(from: &str, atom: &Atom, [s, p, o]: [&str; 3], condition: &str) -> String {
+/// constant fixes is one more condition. The conditions given say what is wanted of a constant property.
+fn branch(from: &str, atom: &Atom, [s, p, o]: [&str; 3], mut conditions: Vec<String>) -> String {
     let [subject, property, object] = atom.words;
     let (mut free, fixed): (Vec<_>, Vec<_>) = [(s, subject), (o, object)].into_iter().partition(|(_, word)| variable(*word).is_some());
     free.extend(variable(property).map(|_| (p, property)));
     let names: Vec<String> = free.iter().map(|(column, word)| format!("{column} AS {}", term(*word))).collect();
-    let fixed: String = fixed.iter().map(|(column, word)| format!(" AND {column} = {word}")).collect();
-    format!("SELECT {} FROM {from} WHERE {condition}{fixed}", names.join(", "))
+    conditions.extend(fixed.iter().map(|(column, word)| format!("{column} = {word}")));
+    let condition = if conditions.is_empty() { String::new() } else { format!(" WHERE {}", conditions.join(" AND ")) };
+    format!("SELECT {} FROM {from}{condition}", names.join(", "))
 }
 
 impl Contestant for Postgres {
