@@ -1,10 +1,11 @@
-//! Our library by itself: ways of loading, and lone updates, listings and deliveries beside one memcpy of the store's tables or question 1.
+//! Our library by itself: ways of loading, questions as the store grows, and question 1, lone updates, listings and deliveries beside one
+//! memcpy of the store's tables or question 1.
 
-use crate::clock::{median, repeated, timed};
-use crate::contest::Contestant;
+use crate::clock::{median, ratio, repeated, timed};
+use crate::contest::{Contestant, Outcome};
 use crate::library::{Store, Table, Triple, Way};
 use crate::ours::Ours;
-use crate::tables::{grouped, time, times};
+use crate::tables::{digits, grouped, time, times};
 use crate::workload::{self, delivery, Mix};
 use crate::{progress, Scale};
 use std::time::Duration;
@@ -86,15 +87,24 @@ fn first_question(store: &Store, way: Way) -> Duration {
     repeated(21, || assert_eq!(store.ask(way, &[], &mut []).0, 6))
 }
 
+/// One copy of some tables and of supports.
+fn copy_of(tables: &[&[u32]], supports: &[u16]) -> Duration {
+    let (mut words, mut places) = (tables.iter().map(|table| table.to_vec()).collect::<Vec<_>>(), supports.to_vec());
+    repeated(21, || {
+        words.iter_mut().zip(tables).for_each(|(to, table)| to.copy_from_slice(table));
+        places.copy_from_slice(supports);
+    })
+}
+
 /// One copy of all four tables.
 fn copy(store: &Store) -> Duration {
-    let mut to = store.clone();
-    repeated(21, || {
-        to.statements.copy_from_slice(&store.statements);
-        to.facts.copy_from_slice(&store.facts);
-        to.kept.copy_from_slice(&store.kept);
-        to.supports.copy_from_slice(&store.supports);
-    })
+    copy_of(&[&store.statements, &store.facts, &store.kept], &store.supports)
+}
+
+/// Question 1 for a delivery alone, which reads all four tables: one with no byte is refused by 9 right after it.
+fn first_of_delivery(store: &Store) -> Duration {
+    let mut store = store.clone();
+    repeated(21, || assert_eq!(store.deliver(&[]).0, 9))
 }
 
 /// Additions and withdrawals of one triple after another: the median of each. The store has the triples before and after.
@@ -120,6 +130,50 @@ pub fn spread(triples: &[Triple], n: usize) -> Vec<Triple> {
 /// A time, and in brackets how many of a unit it is worth.
 fn cell(duration: Duration, unit: Duration) -> String {
     format!("{} ({})", time(duration), times(duration, unit))
+}
+
+/// All questions by both ways on stores of several sizes. The last column has the growth of the time from the first store to the last,
+/// divided by that of the rows that the way is lent.
+pub fn questions_by_size(scale: &Scale, statements: &[Triple], mix: Mix) -> Outcome<String> {
+    let mut stores = Vec::new();
+    for &n in &scale.sizes {
+        let facts = workload::facts(n, statements.len(), mix, 7);
+        let mut ours = Ours::new();
+        ours.store = saturated(statements, &facts);
+        stores.push((ours, workload::questions(&facts)));
+    }
+    let mut out = String::new();
+    for (title, way, unit) in [("The kept way", Way::Kept, "kept rows"), ("The rewritten way", Way::Rewritten, "facts")] {
+        progress(&format!("our library: questions by size: {}", title.to_lowercase()));
+        let rows: Vec<usize> = stores.iter().map(|(ours, _)| ours.store.lent(way)[0] as usize).collect();
+        let sizes: String = rows.iter().map(|&n| format!(" {} {unit} |", grouped(n))).collect();
+        out += &format!("{title}.\n\n| question |{sizes} growth / proportional |\n|{}\n", "---|".repeat(rows.len() + 2));
+        for i in 0..stores[0].1.len() {
+            let measured = stores.iter_mut().map(|(ours, questions)| Ok(median(ours.times(way, &questions[i].1, 5 * scale.runs)?)));
+            let measured = measured.collect::<Outcome<Vec<Duration>>>()?;
+            let last = rows.len() - 1;
+            let growth = ratio(measured[last], measured[0]) * rows[0] as f64 / rows[last] as f64;
+            let cells: String = measured.iter().map(|&duration| format!(" {} |", time(duration))).collect();
+            out += &format!("| {} |{cells} {} |\n", stores[0].1[i].0, digits(growth, 2));
+        }
+        out += "\n";
+    }
+    Ok(out)
+}
+
+/// Question 1 for both ways and for a delivery, on stores of several sizes, beside one memcpy of the tables that it reads.
+pub fn first_questions(scale: &Scale, statements: &[Triple], mix: Mix) -> String {
+    progress("our library: question 1");
+    let mut out = String::from("In brackets: how many times one memcpy of the tables read.\n\n");
+    out += "| facts | kept rows | statements and kept facts | statements and facts | all four tables |\n|---|---|---|---|---|\n";
+    for &n in &scale.sizes {
+        let store = saturated(statements, &workload::facts(n, statements.len(), mix, 7));
+        let of_way = |way| cell(first_question(&store, way), copy_of(&[&store.statements, store.lent(way)], &[]));
+        let [kept, rewritten] = [Way::Kept, Way::Rewritten].map(of_way);
+        let all = cell(first_of_delivery(&store), copy(&store));
+        out += &format!("| {} | {} | {kept} | {rewritten} | {all} |\n", grouped(n), grouped(store.kept[0] as usize));
+    }
+    out
 }
 
 /// Lone updates on stores of several sizes.
@@ -158,7 +212,7 @@ pub fn listings(scale: &Scale, statements: &[Triple], mix: Mix) -> String {
     out
 }
 
-/// Deliveries. One with no byte is refused by 9 right after question 1, so that its time is that of question 1.
+/// Deliveries, beside question 1.
 pub fn deliveries(scale: &Scale, statements: &[Triple]) -> String {
     progress("our library: deliveries");
     let facts = workload::facts(scale.facts + scale.facts / 4, statements.len(), workload::DENSE, 7);
@@ -166,10 +220,7 @@ pub fn deliveries(scale: &Scale, statements: &[Triple]) -> String {
     let [new, old] = [new, old].map(|part| part.into_iter().map(|(_, &t)| t).collect::<Vec<Triple>>());
     let (first, second) = statements.split_at(statements.len() / 2);
     let store = saturated(first, &old);
-    let unit = {
-        let mut store = store.clone();
-        repeated(21, || assert_eq!(store.deliver(&[]).0, 9))
-    };
+    let unit = first_of_delivery(&store);
     let mut out = format!(
         "A store of {} facts, {} statements and {} kept rows; question 1 alone takes {}.\n\n",
         grouped(old.len()),

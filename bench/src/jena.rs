@@ -54,10 +54,11 @@ fn sparql(question: &Question) -> String {
 /// The i-th atom as a union over its alternatives.
 fn group(i: usize, atom: &Atom) -> String {
     let [s, p, o] = atom.words.map(|word| format!("w{word}"));
+    let typed = if variable(atom.words[1]).is_some() { format!(" BIND(w1 AS {p})") } else { String::new() };
     let shapes = [
-        (2, format!("{s} w1 ?source{i}")),
-        (2, format!("{s} ?source{i} ?other{i}")),
-        (2, format!("?other{i} ?source{i} {s} FILTER(!isLiteral({s}))")),
+        (2, format!("{s} w1 ?source{i}{typed}")),
+        (2, format!("{s} ?source{i} ?other{i}{typed}")),
+        (2, format!("?other{i} ?source{i} {s} FILTER(!isLiteral({s})){typed}")),
         (1, format!("{s} ?source{i} {o}")),
     ];
     let mut members = vec![format!("{{ {s} {p} {o} }}")];

@@ -52,6 +52,14 @@ impl Store {
         }
     }
 
+    /// The facts that a question by a way is lent.
+    pub fn lent(&self, way: Way) -> &[u32] {
+        match way {
+            Way::Kept => &self.kept,
+            Way::Rewritten => &self.facts,
+        }
+    }
+
     /// Adds a triple: 0 applied, 100 idle, or the number that refused.
     pub fn add(&mut self, t: Triple) -> u32 {
         unsafe {
@@ -89,10 +97,11 @@ impl Store {
     pub fn ask(&self, way: Way, question: &[u32], rows: &mut [u32]) -> (u32, u32) {
         let mut count = 0;
         let n = unsafe {
-            let (f, t): (unsafe extern "C" fn(*const u32, usize, *const u32, usize, *const u32, usize, *mut u32, usize, *mut u32) -> u32, &Vec<u32>) = match way {
-                Way::Kept => (raw::families_ask_kept, &self.kept),
-                Way::Rewritten => (raw::families_ask_rewritten, &self.facts),
+            let f: unsafe extern "C" fn(*const u32, usize, *const u32, usize, *const u32, usize, *mut u32, usize, *mut u32) -> u32 = match way {
+                Way::Kept => raw::families_ask_kept,
+                Way::Rewritten => raw::families_ask_rewritten,
             };
+            let t = self.lent(way);
             f(
                 self.statements.as_ptr(), self.statements.len(), t.as_ptr(), t.len(),
                 question.as_ptr(), question.len(), rows.as_mut_ptr(), rows.len(), &mut count,

@@ -77,27 +77,24 @@ fn start(name: &str) -> Outcome<Box<dyn Contestant>> {
     }
 }
 
-/// The questions that a growing store is asked: one of one atom, one of two and one of three.
-fn growing_questions() -> Vec<(&'static str, Vec<u32>)> {
-    let questions = workload::questions();
-    [1, 4, 7].map(|i| questions[i].clone()).to_vec()
-}
-
-/// What a growing store is asked and changed.
+/// What a growing store is asked and changed: one question of one atom, one of two and one of three.
 fn growing(scale: &Scale, facts: usize) -> Task {
     let changed = Changed { facts: scale.changed_growing, delivered: 0, statements: 0 };
-    Task::new(facts, workload::GROWING, growing_questions(), changed)
+    let mut task = Task::new(facts, workload::GROWING, changed);
+    task.questions = [1, 4, 7].map(|i| task.questions[i].clone()).to_vec();
+    task
 }
 
 /// Measures all: the tables, and the plot.
 fn measured(scale: &Scale, contestants: &mut [Box<dyn Contestant>]) -> Outcome<(String, String)> {
     let names: Vec<&str> = contestants.iter().map(|c| c.name()).collect();
     let [facts, statements] = scale.changed;
-    let task = Task::new(scale.facts, workload::DENSE, workload::questions(), Changed { facts, delivered: facts, statements });
+    let task = Task::new(scale.facts, workload::DENSE, Changed { facts, delivered: facts, statements });
     let alone = Alone::measure(scale, &task.statements, &task.facts);
     let contest = task.run(scale, contestants)?;
-    let contests = scale.sizes.iter().map(|&n| growing(scale, n).run(scale, contestants)).collect::<Outcome<Vec<Contest>>>()?;
-    let measures = tables::measures(&growing_questions(), scale.changed_growing);
+    let tasks: Vec<Task> = scale.sizes.iter().map(|&n| growing(scale, n)).collect();
+    let contests = tasks.iter().map(|task| task.run(scale, contestants)).collect::<Outcome<Vec<Contest>>>()?;
+    let measures = tables::measures(&tasks[0].questions, scale.changed_growing);
     let sections = [
         ("Load and saturate", tables::loads(&names, &contest, &alone)),
         ("Questions", tables::questions(&names, &task.questions, &contest, &alone)),
@@ -105,6 +102,8 @@ fn measured(scale: &Scale, contestants: &mut [Box<dyn Contestant>]) -> Outcome<(
         ("Growth", tables::growth(&names, &measures, &contests)),
         ("Saturation thresholds", thresholds::thresholds(&names, &task.questions, &contest, &alone, scale.changed)),
         ("The cost of upkeep", thresholds::upkeep(&contest.figures[0], &alone, scale.changed)),
+        ("Our library alone: questions by size", alone::questions_by_size(scale, &task.statements, workload::GROWING)?),
+        ("Our library alone: question 1", alone::first_questions(scale, &task.statements, workload::GROWING)),
         ("Our library alone: updates by size", alone::updates_by_size(scale, &task.statements, workload::GROWING)),
         ("Our library alone: listings", alone::listings(scale, &task.statements, workload::GROWING)),
         ("Our library alone: deliveries", alone::deliveries(scale, &task.statements)),

@@ -57,10 +57,11 @@ struct Expected {
 }
 
 impl Task {
-    /// A store of so many facts, which come in no order.
-    pub fn new(n: usize, mix: Mix, questions: Vec<(&'static str, Vec<u32>)>, changed: Changed) -> Task {
+    /// A store of so many facts, which come in no order, and all questions.
+    pub fn new(n: usize, mix: Mix, changed: Changed) -> Task {
         let statements = workload::statements(200);
         let facts = workload::shuffled(workload::facts(n, statements.len(), mix, 7), 11);
+        let questions = workload::questions(&facts);
         Task { statements, facts, questions, changed }
     }
 

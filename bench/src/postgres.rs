@@ -51,39 +51,38 @@ fn select(way: Way, question: &Question) -> String {
     format!("SELECT DISTINCT {} FROM {}", head.join(", "), atoms.join(" NATURAL JOIN "))
 }
 
-/// An atom as a query with a column for each variable.
+/// An atom as a query with a column for each variable; rows may come more than once.
 fn subquery(way: Way, atom: &Atom) -> String {
-    let [s, _, o] = atom.words;
-    let property = format!("p = {}", atom.words[1]);
-    if atom.is_of_statements() {
-        return branch("statement", &[("s", s), ("o", o)], &property);
-    }
-    if way == Way::Kept {
-        return branch("kept", &[("s", s), ("o", o)], &property);
-    }
-    let shapes: [(&[(&str, u32)], &str); 4] = [
-        (&[("s", s), ("target", o)], "p = 1 AND o = source"),
-        (&[("s", s), ("target", o)], "p = source"),
-        (&[("o", s), ("target", o)], "p = source AND o < 2147483648"),
-        (&[("s", s), ("o", o)], "p = source"),
+    let property = if variable(atom.words[1]).is_some() { vec![] } else { vec![format!("p = {}", atom.words[1])] };
+    let facts = if way == Way::Kept { "kept" } else { "fact" };
+    let explicit = ["statement", facts].into_iter().zip(atom.matches()).filter(|(_, matches)| *matches);
+    let mut branches: Vec<String> = explicit.map(|(table, _)| branch(table, atom, ["s", "p", "o"], property.clone())).collect();
+    let shapes = [
+        (["s", "1", "target"], "p = 1 AND o = source"),
+        (["s", "1", "target"], "p = source"),
+        (["o", "1", "target"], "p = source AND o < 2147483648"),
+        (["s", "target", "o"], "p = source"),
     ];
-    let mut branches = vec![branch("fact", &[("s", s), ("o", o)], &property)];
     for (pairs, (columns, condition)) in atom.alternatives.iter().zip(shapes) {
         let values: Vec<String> = pairs.iter().map(|[source, target]| format!("({source}, {target})")).collect();
-        if !values.is_empty() {
+        if way == Way::Rewritten && !values.is_empty() {
             let from = format!("fact, (VALUES {}) alternative (source, target)", values.join(", "));
-            branches.push(branch(&from, columns, condition));
+            branches.push(branch(&from, atom, columns, vec![condition.into()]));
         }
     }
-    branches.join(" UNION ")
+    branches.join(" UNION ALL ")
 }
 
-/// One query on one table: columns that a constant fixes are conditions, the others are named after their variable.
-fn branch(from: &str, columns: &[(&str, u32)], condition: &str) -> String {
-    let (free, fixed): (Vec<_>, Vec<_>) = columns.iter().partition(|(_, word)| variable(*word).is_some());
+/// One query on one table, with columns for the atom's words: those of a variable are named after it, and the subject or object that a
+/// constant fixes is one more condition. The conditions given say what is wanted of a constant property.
+fn branch(from: &str, atom: &Atom, [s, p, o]: [&str; 3], mut conditions: Vec<String>) -> String {
+    let [subject, property, object] = atom.words;
+    let (mut free, fixed): (Vec<_>, Vec<_>) = [(s, subject), (o, object)].into_iter().partition(|(_, word)| variable(*word).is_some());
+    free.extend(variable(property).map(|_| (p, property)));
     let names: Vec<String> = free.iter().map(|(column, word)| format!("{column} AS {}", term(*word))).collect();
-    let fixed: String = fixed.iter().map(|(column, word)| format!(" AND {column} = {word}")).collect();
-    format!("SELECT {} FROM {from} WHERE {condition}{fixed}", names.join(", "))
+    conditions.extend(fixed.iter().map(|(column, word)| format!("{column} = {word}")));
+    let condition = if conditions.is_empty() { String::new() } else { format!(" WHERE {}", conditions.join(" AND ")) };
+    format!("SELECT {} FROM {from}{condition}", names.join(", "))
 }
 
 impl Contestant for Postgres {

@@ -37,7 +37,7 @@ fn clause(way: Way, question: &Question) -> String {
     let mut goals = Vec::new();
     for (i, atom) in question.atoms.iter().enumerate() {
         let new = atom.variables().iter().any(|v| !bound.contains(v));
-        let goal = goal(i, way, atom);
+        let goal = goal(i, way, atom, &bound);
         goals.push(if new { goal } else { format!("once({goal})") });
         bound.extend(atom.variables());
     }
@@ -45,29 +45,52 @@ fn clause(way: Way, question: &Question) -> String {
     format!("r({}) :- {}", head.join(","), goals.join(","))
 }
 
-/// The i-th atom as a goal.
-fn goal(i: usize, way: Way, atom: &Atom) -> String {
+/// The i-th atom as a goal, where some variables are bound.
+fn goal(i: usize, way: Way, atom: &Atom, bound: &[u32]) -> String {
     let [s, p, o] = atom.words.map(term);
-    if atom.is_of_statements() {
-        return format!("store:statement({s},{p},{o})");
+    let mut goals = Vec::new();
+    let [of_statements, of_facts] = atom.matches();
+    if of_statements {
+        goals.push(format!("store:statement({s},{p},{o})"));
     }
-    if way == Way::Kept {
-        return format!("k{p}({s},{o})");
+    if of_facts {
+        goals.push(rows(i, if way == Way::Kept { 'k' } else { 'f' }, atom));
     }
-    let shapes = [
-        ("", &o, format!("f1({s},Source{i})")),
-        ("f", &o, format!("call(Source{i},{s},_)")),
-        ("f", &o, format!("call(Source{i},_,{s}),{s}<0x80000000")),
-        ("f", &p, format!("call(Source{i},{s},{o})")),
-    ];
-    let mut goals = vec![format!("f{p}({s},{o})")];
-    for (pairs, (prefix, target, call)) in atom.alternatives.iter().zip(shapes) {
-        let list: Vec<String> = pairs.iter().map(|[source, target]| format!("{prefix}{source}-{target}")).collect();
-        if !pairs.is_empty() {
-            goals.push(format!("member(Source{i}-{target},[{}]),{call}", list.join(",")));
+    if way == Way::Rewritten {
+        let typed = if variable(atom.words[1]).is_some() { format!("{p}=1,") } else { String::new() };
+        let shapes = [
+            (typed.as_str(), "", 2, format!("f1({s},Source{i})")),
+            (typed.as_str(), "f", 2, format!("call(Source{i},{s},_)")),
+            (typed.as_str(), "f", 2, format!("call(Source{i},_,{s}),{s}<0x80000000")),
+            ("", "f", 1, format!("call(Source{i},{s},{o})")),
+        ];
+        for (pairs, (typed, prefix, place, call)) in atom.alternatives.iter().zip(shapes).filter(|(pairs, _)| !pairs.is_empty()) {
+            let target = atom.words[place];
+            let known = variable(target).is_none() || bound.contains(&target);
+            goals.push(format!("{typed}{}", alternatives(i, pairs, prefix, &term(target), known, &call)));
         }
     }
     format!("({})", goals.join(";"))
+}
+
+/// The rows of an atom's property, explicit (f) or kept (k); where it is a variable, of each that has rows.
+fn rows(i: usize, kind: char, atom: &Atom) -> String {
+    let [s, p, o] = atom.words.map(term);
+    match variable(atom.words[1]) {
+        None => format!("{kind}{p}({s},{o})"),
+        Some(_) => format!("store:name({kind},{p},Name{i}),call(Name{i},{s},{o})"),
+    }
+}
+
+/// Alternatives as a goal: those of a known target are tried one by one, else each source once for all its targets.
+fn alternatives(i: usize, pairs: &[[u32; 2]], prefix: &str, target: &str, known: bool, call: &str) -> String {
+    if known {
+        let list: Vec<String> = pairs.iter().map(|[source, target]| format!("{prefix}{source}-{target}")).collect();
+        return format!("member(Source{i}-{target},[{}]),{call}", list.join(","));
+    }
+    let targets = |of: &[[u32; 2]]| of.iter().map(|pair| pair[1].to_string()).collect::<Vec<_>>().join(",");
+    let list: Vec<String> = pairs.chunk_by(|a, b| a[0] == b[0]).map(|of| format!("{prefix}{}-[{}]", of[0][0], targets(of))).collect();
+    format!("member(Source{i}-Targets{i},[{}]),{call},member({target},Targets{i})", list.join(","))
 }
 
 impl Contestant for Prolog {

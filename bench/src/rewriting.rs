@@ -6,8 +6,9 @@ use crate::library::{Store, Triple};
 /// The most alternatives of an atom that are asked for.
 const ROOM: usize = 3 * 100_000;
 
-/// An atom, and by kind the alternatives that our library gives for it (1 subclass, 2 domain, 3 range, 4 subproperty), as source and
-/// target. A statement's atom has none.
+/// An atom, no variable of which stands in it twice, and by kind the alternatives that our library gives for it (1 subclass, 2 domain,
+/// 3 range, 4 subproperty), as source and target, ascending. A statement's atom has none. A variable property is rdf:type by the kinds 1
+/// to 3, and the target by kind 4.
 pub struct Atom {
     pub words: Triple,
     pub alternatives: [Vec<[u32; 2]>; 4],
@@ -25,9 +26,11 @@ pub fn variable(word: u32) -> Option<u32> {
 }
 
 impl Atom {
-    /// Whether the atom can match statements alone; a variable property is not part of this workload.
-    pub fn is_of_statements(&self) -> bool {
-        (2..=5).contains(&self.words[1])
+    /// Whether the atom can match statements, and whether it can match facts; a variable property can be of both.
+    pub fn matches(&self) -> [bool; 2] {
+        let property = self.words[1];
+        let of_statements = (2..=5).contains(&property);
+        [of_statements || variable(property).is_some(), !of_statements]
     }
 
     /// The variables of the atom.
@@ -62,9 +65,6 @@ impl Rewriter {
     /// An atom with its alternatives.
     fn atom(&self, words: Triple) -> Outcome<Atom> {
         let mut atom = Atom { words, alternatives: Default::default() };
-        if variable(words[1]).is_some() {
-            return Err("a question with a variable property".into());
-        }
         let mut rows = vec![0; ROOM];
         let (number, count) = self.0.alternatives(words, &mut rows);
         if number != 0 {

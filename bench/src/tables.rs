@@ -14,7 +14,7 @@ pub fn grouped(n: usize) -> String {
 }
 
 /// A number with so many digits or more, and at most three behind the point.
-fn digits(x: f64, n: i32) -> String {
+pub fn digits(x: f64, n: i32) -> String {
     match n - 1 - x.log10().floor() as i32 {
         decimals if decimals > 0 => format!("{x:.*}", decimals.min(3) as usize),
         _ => grouped(x.round() as usize),

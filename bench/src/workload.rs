@@ -111,9 +111,16 @@ pub fn question(atoms: &[Triple], head: &[u32]) -> Vec<u32> {
     words
 }
 
-/// Questions of one, two and three atoms, by name; those of one atom ask for a class with few things below it, and for one with many.
-pub fn questions() -> Vec<(&'static str, Vec<u32>)> {
+/// The least thing that is the object of a fact of a property, if there is one.
+fn object_of(facts: &[Triple], property: u32) -> Option<u32> {
+    facts.iter().filter(|fact| fact[1] == property && fact[2] < 0x8000_0000).map(|fact| fact[2]).min()
+}
+
+/// Questions of one, two and three atoms about a store of these facts, by name; the first ones ask for a class with few things below it,
+/// and for one with many.
+pub fn questions(facts: &[Triple]) -> Vec<(&'static str, Vec<u32>)> {
     let (x, y, z) = (variable(0), variable(1), variable(2));
+    let thing = object_of(facts, PROPERTY + 1).unwrap_or(THING);
     vec![
         ("x is of a class with few things", question(&[[x, 1, CLASS + 26]], &[x])),
         ("x is of a class with many things", question(&[[x, 1, CLASS]], &[x])),
@@ -123,5 +130,9 @@ pub fn questions() -> Vec<(&'static str, Vec<u32>)> {
         ("x has a property y, and y is of a class", question(&[[x, PROPERTY + 1, y], [y, 1, CLASS + 1]], &[x, y])),
         ("x is of class y, a subclass of a class", question(&[[y, 2, CLASS], [x, 1, y]], &[x, y])),
         ("x has y, y has z, and x is of a class", question(&[[x, PROPERTY + 2, y], [y, PROPERTY + 1, z], [x, 1, CLASS + 2]], &[x, z])),
+        ("two things share an object", question(&[[x, PROPERTY + 1, z], [y, PROPERTY + 2, z]], &[x, y])),
+        ("x has a property of a thing", question(&[[x, PROPERTY + 1, thing]], &[x])),
+        ("all properties of the members of a class", question(&[[x, 1, CLASS + 26], [x, y, z]], &[x, y, z])),
+        ("y is of class z, where x has y", question(&[[x, PROPERTY + 3, y], [y, 1, z]], &[y, z])),
     ]
 }

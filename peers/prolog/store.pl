@@ -5,8 +5,9 @@
 :- module(store, [clear/0, add/1, withdraw/1, work/0, kept/4]).
 :- use_module(library(ordsets)).
 
-% statement(S, P, O): an explicit statement. property(P): there are rows of this property. working: the kept facts are kept up to date.
-:- dynamic statement/3, property/1, working/0.
+% statement(S, P, O): an explicit statement. property(P): there are rows of this property. name(Kind, P, Name): the name of its rows,
+% explicit (f) or kept (k). working: the kept facts are kept up to date.
+:- dynamic statement/3, property/1, name/3, working/0.
 
 % A property without rows has no predicate, and matches nothing.
 :- set_prolog_flag(rows:unknown, fail).
@@ -19,6 +20,7 @@ clear :-
     forall(property(P), ( row(f, P, _, _, F), retractall(F), row(k, P, _, _, K), retractall(K) )),
     retractall(statement(_, _, _)),
     retractall(property(_)),
+    retractall(name(_, _, _)),
     retractall(working),
     forget.
 
@@ -55,7 +57,7 @@ withdraw(t(S, P, O)) :-
 %!  declare(+P): predicates for the rows of a property.
 declare(P) :-
     assertz(property(P)),
-    forall(member(Kind, [f, k]), ( atom_concat(Kind, P, Name), dynamic(rows:Name/2) )).
+    forall(member(Kind, [f, k]), ( atom_concat(Kind, P, Name), dynamic(rows:Name/2), assertz(name(Kind, P, Name)) )).
 
 %!  work: the kept facts are worked out afresh.
 work :-

@@ -204,7 +204,13 @@ fn large(harness: &mut Harness) -> Result<(), Failure> {
     let store = &session.store;
     let (facts, statements, kept) = (store.facts[0], store.statements[0], store.kept[0]);
     println!("a store of {facts} facts, {statements} statements and {kept} kept rows");
-    let questions = workload::questions().into_iter().map(|(_, words)| words);
+    let facts: Vec<Triple> = store.facts[1..]
+        .chunks(3)
+        .take(facts as usize)
+        .map(|row| [row[0], row[1], row[2]])
+        .collect();
+    let questions = workload::questions(&facts);
+    let questions = questions.into_iter().map(|(_, words)| words);
     for words in questions.chain(more_questions()) {
         ask(&mut session, &words, FACTS)?;
         println!(

@@ -353,16 +353,48 @@ fn atoms_of(random: &mut Random, triples: &[Triple], variables: &[u32], n: usize
     atoms
 }
 
+/// Atoms made from triples, so that there are answers: each but the first asks for the subjects of
+/// an object that is known by the atoms before, or for the classes or all properties of a subject.
+fn joined_atoms(random: &mut Random, triples: &[Triple], n: usize) -> Vec<Triple> {
+    let [subject, property, object] = random.pick(triples);
+    let mut atoms = vec![[VARIABLE, property, VARIABLE + 1]];
+    // What the variables stand for.
+    let mut terms = vec![subject, object];
+    while atoms.len() < n {
+        let place = random.pick(&[0, 2]);
+        let at = random.below(terms.len());
+        let [known, new] = [at, terms.len()].map(|number| VARIABLE + number as u32);
+        let sharing = triples.iter().filter(|t| t[place] == terms[at]);
+        let sharing: Vec<Triple> = sharing.copied().collect();
+        if sharing.is_empty() {
+            continue;
+        }
+        let [subject, property, object] = random.pick(&sharing);
+        if place == 2 {
+            atoms.push([new, property, known]);
+            terms.push(subject);
+        } else if property == TYPE && random.once_in(2) {
+            atoms.push([known, TYPE, new]);
+            terms.push(object);
+        } else {
+            atoms.push([known, new, new + 1]);
+            terms.extend([property, object]);
+        }
+    }
+    random.shuffle(&mut atoms);
+    atoms
+}
+
 /// The words of a question, sometimes malformed.
 fn question_words(random: &mut Random, names: &Names, triples: &[Triple]) -> Vec<u32> {
     let numbers = [0, 1, 2, 3, 9, 15, 7, 8];
     let used = random.between(1, numbers.len());
     let variables: Vec<u32> = numbers[..used].iter().map(|n| VARIABLE + n).collect();
     let n = random.pick(&[1, 1, 2, 2, 2, 3, 3, 4, 5, 6]);
-    let atoms = if triples.is_empty() || random.once_in(4) {
-        (0..n).map(|_| atom(random, names, &variables)).collect()
-    } else {
-        atoms_of(random, triples, &variables, n)
+    let atoms = match random.below(8) {
+        2..=4 if !triples.is_empty() => joined_atoms(random, triples, n),
+        5.. if !triples.is_empty() => atoms_of(random, triples, &variables, n),
+        _ => (0..n).map(|_| atom(random, names, &variables)).collect(),
     };
     let mut words = vec![n as u32, 0];
     words.extend(atoms.iter().flatten());

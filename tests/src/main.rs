@@ -22,6 +22,7 @@ mod random;
 mod script;
 mod session;
 mod store;
+mod windows;
 #[allow(dead_code)]
 #[rustfmt::skip]
 #[path = "../../bench/src/workload.rs"]
@@ -244,7 +245,8 @@ fn run(harness: &mut Harness, seed: u64, histories: u64) -> Result<(), (String, 
         .replay(&examples)
         .map_err(|f| ("examples".to_string(), f))?;
     progress(harness, "examples", start);
-    for (name, case) in limits::CASES.into_iter().chain(EXHAUSTIVE) {
+    let directed = limits::CASES.into_iter().chain(windows::CASES);
+    for (name, case) in directed.chain(EXHAUSTIVE) {
         let start = Instant::now();
         case(harness).map_err(|f| (name.to_string(), f))?;
         progress(harness, name, start);

@@ -1,0 +1,241 @@
+//! Directed cases with more to gather for an atom of a question than the library gathers at once: it
+//! then answers in windows of keys, or looks rows up by a scan. The cases know their rows in closed
+//! form. Each is first run with little to gather, judged by the model too, which shows that the
+//! closed form is right.
+
+use crate::generate::VARIABLE;
+use crate::model::terms::*;
+use crate::script::{Call, Command, Expected, Output, Way};
+use crate::session::{Failure, Harness, Session};
+use crate::store::{Store, Table};
+use crate::workload::question;
+
+/// The pairs of a key and a row that the library gathers at once.
+const PAIRS: u32 = 65_520;
+
+/// What a case has in place of it where the model judges.
+const FEW: u32 = 40;
+
+/// Classes and properties of the cases, and the first of their things.
+const CLASS: u32 = 16;
+const A: u32 = 20;
+const B: u32 = 21;
+const C: u32 = 22;
+const W: u32 = 1_000_000;
+const X: u32 = 2_000_000;
+const Y: u32 = 3_000_000;
+const Z: u32 = 4_000_000;
+
+const VW: u32 = VARIABLE;
+const VX: u32 = VARIABLE + 1;
+const VY: u32 = VARIABLE + 2;
+const VZ: u32 = VARIABLE + 3;
+
+/// A case with so many pairs to gather, or a few more.
+type Case = fn(&mut Session, u32) -> Result<(), Failure>;
+
+/// All cases, by name.
+pub const CASES: [(&str, fn(&mut Harness) -> Result<(), Failure>); 7] = [
+    ("windows of objects, the kept way", |h| run(h, kept_objects)),
+    ("windows of objects, the rewritten way", |h| run(h, objects)),
+    ("windows of one object", |h| run(h, one_object)),
+    ("windows of two atoms", |h| run(h, two_atoms)),
+    ("windows of things of a class", |h| run(h, things)),
+    ("windows of things of two classes", |h| run(h, two_classes)),
+    ("windows of classes by a range", |h| run(h, classes)),
+];
+
+/// Runs a case with little to gather beside the model, and with more than fits by itself.
+fn run(harness: &mut Harness, case: Case) -> Result<(), Failure> {
+    case(&mut Session::new(harness), FEW)?;
+    harness.model_judges = false;
+    case(&mut Session::new(harness), PAIRS)?;
+    harness.model_judges = true;
+    Ok(())
+}
+
+/// The words of a table of these rows, which become ascending.
+fn words(mut rows: Vec<Triple>) -> Vec<u32> {
+    rows.sort();
+    let mut words = vec![0; Store::words(rows.len())];
+    words[0] = rows.len() as u32;
+    words[1..].copy_from_slice(&rows.concat());
+    words
+}
+
+/// Lends statements and the facts of a way, which have no spare words.
+fn lend(
+    session: &mut Session,
+    statements: &[Triple],
+    way: Way,
+    rows: Vec<Triple>,
+) -> Result<(), Failure> {
+    let table = match way {
+        Way::Kept => Table::Kept,
+        Way::Rewritten => Table::Facts,
+    };
+    session.run(Command::Lend(Table::Statements, words(statements.to_vec())))?;
+    session.run(Command::Lend(table, words(rows)))
+}
+
+/// Asks by a way for rows of so many words, with some words to spare and with one too few.
+fn ask<const N: usize>(
+    session: &mut Session,
+    way: Way,
+    atoms: &[Triple],
+    head: [u32; N],
+    mut rows: Vec<[u32; N]>,
+) -> Result<(), Failure> {
+    rows.sort();
+    let call = |words| Call::Ask(way, question(atoms, &head), Output { words, fill: 99 });
+    let mut expected = rows.concat();
+    let short = expected.len() - 1;
+    expected.extend([0; 7]);
+    session.expect(call(expected.len()), 0)?;
+    session.run(Command::Expect(Expected::Count(rows.len() as u32)))?;
+    session.run(Command::Expect(Expected::Output(expected)))?;
+    session.expect(call(short), 8)?;
+    session.run(Command::Expect(Expected::Count(0)))?;
+    session.run(Command::Expect(Expected::Output(vec![0; short])))
+}
+
+/// Of n facts of A, in no order of their objects, three have each object; some of these are also
+/// objects of B, each of one fact. A comes from its subproperty where that is wanted.
+fn join(session: &mut Session, way: Way, n: u32, of_b: u32) -> Result<(), Failure> {
+    let object = |i: u32| (u64::from(i) * 7919 % u64::from(n)) as u32 / 3;
+    let step = n / 3 / of_b;
+    let by = |i: u32| {
+        if way == Way::Rewritten {
+            A + i % 2 * 10
+        } else {
+            A
+        }
+    };
+    let mut facts: Vec<Triple> = (0..n).map(|i| [X + i, by(i), Z + object(i)]).collect();
+    facts.extend((0..of_b).map(|j| [Y + j, B, Z + j * step]));
+    lend(session, &[[A + 10, SUBPROPERTY, A]], way, facts)?;
+    let shared = |i: &u32| object(*i) % step == 0 && object(*i) / step < of_b;
+    let rows = (0..n).filter(shared).map(|i| [X + i, Y + object(i) / step]);
+    let atoms = [[VX, A, VZ], [VY, B, VZ]];
+    ask(session, way, &atoms, [VX, VY], rows.collect())
+}
+
+/// Three windows and more by the kept way.
+fn kept_objects(session: &mut Session, n: u32) -> Result<(), Failure> {
+    join(session, Way::Kept, 3 * n + 7, n / 20)
+}
+
+/// Two windows by the rewritten way, whose facts are not many more than the pairs that fit.
+fn objects(session: &mut Session, n: u32) -> Result<(), Failure> {
+    join(session, Way::Rewritten, n + 5, 7)
+}
+
+/// One object has more facts than fit, the ones before and behind it have one each.
+fn one_object(session: &mut Session, n: u32) -> Result<(), Failure> {
+    let mut facts: Vec<Triple> = (0..n + 2).map(|i| [X + i, A, Z]).collect();
+    facts.extend([[X - 1, A, Z - 1], [X - 2, A, Z + 1]]);
+    let of_b = [(0, Z - 1), (1, Z), (2, Z), (3, Z + 1), (4, Z + 2)];
+    facts.extend(of_b.map(|(j, z)| [Y + j, B, z]));
+    let mut rows = vec![[X - 1, Y], [X - 2, Y + 3]];
+    rows.extend((0..n + 2).flat_map(|i| [[X + i, Y + 1], [X + i, Y + 2]]));
+    for way in [Way::Kept, Way::Rewritten] {
+        lend(session, &[], way, facts.clone())?;
+        let atoms = [[VX, A, VZ], [VY, B, VZ]];
+        ask(session, way, &atoms, [VX, VY], rows.clone())?;
+    }
+    Ok(())
+}
+
+/// A chain of three atoms whose middle has few facts, so that both others are looked up by object.
+fn two_atoms(session: &mut Session, n: u32) -> Result<(), Failure> {
+    for (way, n) in [(Way::Kept, n + n / 2), (Way::Rewritten, n / 2 + 2)] {
+        // Two facts of A and of C have each object.
+        let mut facts: Vec<Triple> = (0..n).map(|i| [W + i, C, Y + i / 2]).collect();
+        facts.extend((0..n).map(|i| [X + i, A, Z + (n - 1 - i) / 2]));
+        let step = n / 2 / 5;
+        let middle = (0..5).map(|j| j * step);
+        facts.extend(middle.clone().map(|at| [Y + at, B, Z + at]));
+        lend(session, &[], way, facts)?;
+        let atoms = [[VX, A, VZ], [VY, B, VZ], [VW, C, VY]];
+        let of = |at: u32| {
+            [0, 1, 2, 3].map(|k| [X + n - 1 - 2 * at - k / 2, Y + at, W + 2 * at + k % 2])
+        };
+        ask(
+            session,
+            way,
+            &atoms,
+            [VX, VY, VW],
+            middle.flat_map(of).collect(),
+        )?;
+    }
+    Ok(())
+}
+
+/// Facts whose subjects and objects all have a class, by domain and range: twice as many things.
+fn things_of(n: u32) -> (Vec<Triple>, Vec<Triple>) {
+    let statements = vec![
+        [A, DOMAIN, CLASS],
+        [A, RANGE, CLASS],
+        [CLASS, SUBCLASS, CLASS + 1],
+    ];
+    let facts = (0..n).map(|i| [X + i, A, X + 2 * n - 1 - i]).collect();
+    (statements, facts)
+}
+
+/// The things of a class, looked up by a thing that is known: a variable's and a named one.
+fn things(session: &mut Session, n: u32) -> Result<(), Failure> {
+    let (statements, mut facts) = things_of(n);
+    let step = 2 * n / 8;
+    facts.extend((0..8).map(|j| [Y + j, B, X + j * step]));
+    facts.extend([
+        [Y + 8, B, X + 2 * n - 1],
+        [Y + 9, B, X + 2 * n],
+        [Y + 10, B, X - 1],
+    ]);
+    let way = Way::Rewritten;
+    lend(session, &statements, way, facts)?;
+    let of_b = (0..9).map(|j| (Y + j, if j < 8 { X + j * step } else { X + 2 * n - 1 }));
+    let rows = of_b.map(|(y, x)| [y, x]).collect();
+    let atoms = [[VY, B, VX], [VX, TYPE, CLASS + 1]];
+    ask(session, way, &atoms, [VY, VX], rows)?;
+    let last = X + 2 * n - 1;
+    let atoms = [[last, TYPE, CLASS + 1], [X, TYPE, CLASS], [Y + 9, B, VX]];
+    ask(session, way, &atoms, [VX], vec![[X + 2 * n]])
+}
+
+/// The things of two classes, each more than fit, of which all but one are the same.
+fn two_classes(session: &mut Session, n: u32) -> Result<(), Failure> {
+    let (statements, mut facts) = things_of(n);
+    facts.extend([[Y, TYPE, CLASS], [Y + 1, TYPE, CLASS + 1]]);
+    let way = Way::Rewritten;
+    lend(session, &statements, way, facts)?;
+    let rows = (0..2 * n).map(|i| [X + i]).chain([[Y]]);
+    let atoms = [[VX, TYPE, CLASS + 1], [VX, TYPE, CLASS]];
+    ask(session, way, &atoms, [VX], rows.collect())
+}
+
+/// Classes by a range, looked up by the thing: of many things, and of one that all facts have.
+fn classes(session: &mut Session, n: u32) -> Result<(), Failure> {
+    let statements = [[A, RANGE, CLASS], [CLASS, SUBCLASS, CLASS + 1]];
+    let way = Way::Rewritten;
+    for spread in [1, 0] {
+        let mut facts: Vec<Triple> = (0..n + 5)
+            .map(|i| [X + i, A, Z + (n + 4 - i) * spread])
+            .collect();
+        let step = n / 5 * spread;
+        facts.extend((0..5).map(|j| [Y + j, B, Z + j * step]));
+        lend(session, &statements, way, facts)?;
+        let of = |j: u32| [CLASS, CLASS + 1].map(|class| [Y + j, Z + j * step, class]);
+        let rows: Vec<[u32; 3]> = (0..5).flat_map(of).collect();
+        let atoms = [[VY, B, VZ], [VZ, TYPE, VX]];
+        ask(session, way, &atoms, [VY, VZ, VX], rows.clone())?;
+        // By a variable property, which can be rdf:type alone.
+        let rows = rows
+            .iter()
+            .map(|[y, z, class]| [*y, *z, TYPE, *class])
+            .collect();
+        let atoms = [[VY, B, VZ], [VZ, VW, VX]];
+        ask(session, way, &atoms, [VY, VZ, VW, VX], rows)?;
+    }
+    Ok(())
+}
