@@ -1,27 +1,36 @@
-# make run: the worked example's delivery.  make test: everything that is proved, run and tried.  make bench: measured speed.
+# make run: the worked example's delivery.  make test: everything that is proved, run and tried.  make bench: measured speed.  make deps: what
+# these install.  make crate NAME=x: one crate and its edits.
 SHELL := /bin/bash
 .SHELLFLAGS := -eu -o pipefail -c
-.PHONY: run test trial bench bench-docs library jena prolog postgres valgrind cargo toolchain
+.PHONY: run test crate trial bench bench-docs library deps jena prolog postgres valgrind cargo toolchain
 
 run: toolchain
-	@echo "proving and building the program (some minutes the first time) .." >&2
-	@rt check families >target/run.log 2>&1 || { cat target/run.log; exit 1; }
+	@tools/progress target/run.log rt check families
 	@target/bin/families <crates/families/stdin
 
-# The last line is that of the toolchain's gate, which is held back until the trial of the library has passed too.
+# Standard error shows how far it is; all that the gate prints goes to test.log (it removes target/), and what the trial prints to
+# target/trial.log. The last line is that of the toolchain's gate, which is held back until the trial of the library has passed too.
 test: toolchain cargo jena valgrind
-	@log=$$(mktemp); trap 'rm -f "$$log"' EXIT; \
-	rt ci | tee "$$log" | sed -u '$$d' || { tail -n 1 "$$log"; exit 1; }; \
-	$(MAKE) --no-print-directory trial; \
-	tail -n 1 "$$log"
+	@tools/progress test.log rt ci
+	@$(MAKE) --no-print-directory trial
+	@tail -n 1 test.log
+
+# One crate and its own edits, as `make crate NAME=table`.
+crate: toolchain
+	@tools/crate "$(NAME)"
 
 # The exported library beside an independent model, beside Apache Jena, and under valgrind.
 TRIAL := CARGO_TARGET_DIR=target/tests cargo run --release --offline --quiet --manifest-path tests/Cargo.toml --
+TRIAL_LOG := target/trial.log
 
 trial: library cargo jena valgrind
-	@$(TRIAL)
-	@$(TRIAL) --part jena
-	@$(TRIAL) --part memory
+	@rm -f $(TRIAL_LOG)
+	@$(call try,1,beside the model,)
+	@$(call try,2,beside Apache Jena,--part jena)
+	@$(call try,3,under valgrind,--part memory)
+
+try = echo "trial, part $(1) of 3, $(2): its log is $(TRIAL_LOG)" >&2; $(TRIAL) $(3) >>$(TRIAL_LOG) 2>&1 \
+	|| { tail -n 40 $(TRIAL_LOG) >&2; echo "the trial failed: $(TRIAL_LOG) has all that it printed" >&2; exit 1; }
 
 # The exported library beside the peers named, and alone: target/bench/report.md and target/bench/plot.svg. `make bench BENCH_PEERS=` runs
 # it alone; `make bench BENCH_OPTIONS=--quick` takes a small workload.
@@ -36,8 +45,10 @@ bench-docs:
 	@$(MAKE) --no-print-directory bench BENCH_OPTIONS=--docs
 
 library: toolchain
-	@echo "proving and building the exported library (some minutes the first time) .." >&2
-	@rt staticlib capi >target/staticlib.log 2>&1 || { cat target/staticlib.log; exit 1; }
+	@tools/progress target/library.log rt staticlib capi
+
+# All that the other targets install: each also installs what it needs by itself.
+deps: cargo jena valgrind prolog postgres
 
 # Apache Jena as a server on standard input and output, for comparisons (peers/jena); `java @target/jena/server` starts it. Debian's
 # package has Xerces' texts under another path than its classes, so they are laid out again in front of the class path.
@@ -65,8 +76,9 @@ postgres:
 	@test -x /usr/lib/postgresql/15/bin/initdb || $(call install,postgresql-15,PostgreSQL 15)
 
 # Installs a Debian package, and says what it is for where that fails.
-install = { apt-get update -qq && apt-get install -y -qq --no-install-recommends $(1); } >&2 \
-	|| { echo "$(2) is missing, and apt-get could not install Debian's package $(1)" >&2; exit 1; }
+install = { echo "installing $(1), for $(2)" >&2; mkdir -p target; \
+	{ apt-get update -qq && apt-get install -y -qq --no-install-recommends $(1); } >target/install.log 2>&1; } \
+	|| { cat target/install.log >&2; echo "$(2) is missing, and apt-get could not install Debian's package $(1)" >&2; exit 1; }
 
 # Rust's compiler and its build tool; no crate from a registry is used. Debian 12 has a later one under another name.
 cargo:
