@@ -1,5 +1,25 @@
 /* The family store as a C library. Every slice is a pointer and its number of elements.
- * The tables are those of document 01, "Tables"; the numbers are those of "Questions at the door". */
+ * The tables are those of document 01, "Tables"; the numbers are those of "Questions at the door".
+ *
+ * The arrays lent to one call must not overlap, and neither must a result or a count lie in one of them. A pointer may be null only
+ * where its length is 0; a result and a count are never null. Beyond that nothing is asked of the caller: a call on any words, numbers
+ * and bytes does its work or is refused. Nothing is kept between calls.
+ *
+ * A call is refused by the first of its questions that is answered no:
+ *    1  every call: are the tables lent well formed?
+ *    2  update: is it a triple?
+ *    3  update: are the two sides of a statement allowed?
+ *    4  addition: is it there already, or has its table room for one more?
+ *    5  update: will the kept facts fit?
+ *    6  question, atom: is the layout right, and is each term one that may stand in its place?
+ *    7  question: does each head variable stand in an atom?
+ *    8  question, alternatives, listing: do all rows fit the lent output? (asked last)
+ *    9  delivery: is it whole, does it end at its last byte, is it at most 65,536 bytes long?
+ *   10  delivery: does each entry's property belong to its section?
+ *   11  delivery: is there at most one delivery number, of four bytes?
+ *   12  listing: is the order 0 to 5?
+ * A refused update or delivery changes no word of the tables. A refused question, alternatives call or listing leaves its whole output
+ * zero and its count 0. */
 #ifndef FAMILIES_H
 #define FAMILIES_H
 
@@ -26,25 +46,24 @@ uint32_t families_deliver(uint32_t *statements, size_t statements_len, uint32_t 
                           const uint8_t *bytes, size_t bytes_len, uint32_t result[4]);
 
 /* A question (document 01, "Questions and their rewriting"), put to statements and kept facts or to statements and explicit facts:
- * 0, or the refusing number; *count: the rows written, 0 when refused (modulo 2^32, should an output of 16 GiB hold so many).
- * A question uses some 0.65 MB of stack. */
+ * 0, or the refusing number; *count: the rows written, 0 when refused. A question uses some 0.65 MB of stack. */
 uint32_t families_ask_kept(const uint32_t *statements, size_t statements_len, const uint32_t *kept, size_t kept_len,
-                           const uint32_t *question, size_t question_len, uint32_t *rows, size_t rows_len, uint32_t *count);
+                           const uint32_t *question, size_t question_len, uint32_t *rows, size_t rows_len, uint64_t *count);
 uint32_t families_ask_rewritten(const uint32_t *statements, size_t statements_len, const uint32_t *facts, size_t facts_len,
-                                const uint32_t *question, size_t question_len, uint32_t *rows, size_t rows_len, uint32_t *count);
+                                const uint32_t *question, size_t question_len, uint32_t *rows, size_t rows_len, uint64_t *count);
 
 /* The alternatives of an atom, three words a row: kind, source, target. Replies as for a question. */
 uint32_t families_alternatives(const uint32_t *statements, size_t statements_len,
                                uint32_t subject, uint32_t property, uint32_t object,
-                               uint32_t *rows, size_t rows_len, uint32_t *count);
+                               uint32_t *rows, size_t rows_len, uint64_t *count);
 
 /* A listing: 0, or the refusing number; *count: the rows written, 0 when refused. Order: 0 SPO, 1 SOP, 2 PSO, 3 POS, 4 OSP, 5 OPS. */
 uint32_t families_list_statements(const uint32_t *table, size_t table_len, uint32_t order,
-                                  uint32_t *rows, size_t rows_len, uint32_t *count);
+                                  uint32_t *rows, size_t rows_len, uint64_t *count);
 uint32_t families_list_facts(const uint32_t *table, size_t table_len, uint32_t order,
-                             uint32_t *rows, size_t rows_len, uint32_t *count);
+                             uint32_t *rows, size_t rows_len, uint64_t *count);
 uint32_t families_list_kept(const uint32_t *table, size_t table_len, uint32_t order,
-                            uint32_t *rows, size_t rows_len, uint32_t *count);
+                            uint32_t *rows, size_t rows_len, uint64_t *count);
 
 #ifdef __cplusplus
 }

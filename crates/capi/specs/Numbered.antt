@@ -1,5 +1,5 @@
 -- What the exported functions give: numbers and words (include/families.h). Definitions only.
-use Prim.Native.Nat.{ℕ, _%_, _^_}
+use Prim.Native.Nat.{ℕ}
 use mathlib.Core.List.{List, [], _∷_}
 use Rattle.output.specs.Output.{Replied, replyNumber, replyCount}
 use Rattle.update.specs.Store.{Tables}
@@ -50,7 +50,3 @@ listed n c ws = record { number = n; count = c; words = ws }
 -- "0, or the refusing number; count: the rows written, 0 when refused."
 abbrev pub numberedReply : Replied → Listed
 numberedReply r = listed (replyNumber (r .reply)) (replyCount (r .reply)) (r .words)
-
--- The same for an output of any length: the rows written modulo 2^32, which is their number unless the output has 16 GiB or more.
-abbrev pub wideReply : Replied → Listed
-wideReply r = listed (replyNumber (r .reply)) (replyCount (r .reply) % 2 ^ 32) (r .words)

@@ -1,5 +1,5 @@
 -- The number, the count and the rows are those of the entry's reply. Assumes nothing.
-use Rattle.capi.proofs.Numbers.{wide-numbered}
+use Rattle.capi.proofs.Numbers.{reply-numbered}
 use borrow.Author.Needs.{needs}
 use Rattle.capi.proofs.families_ask_kept.Statement.{statement}
 use Rattle.capi.proofs.families_ask_kept.Tie as tie
@@ -8,21 +8,17 @@ use Rattle.capi.proofs.families_ask_kept.Lts as lts
 use Rattle.ask.proofs.ask_kept.Reads as ask-kept-reads
 use Rattle.capi.proofs.reply_number.Reads as reply-number-reads
 
--- src/lib.rt:147:23
 ask-kept-requires : tie.Need-ask-kept-requires
 ask-kept-requires c κs = search needs
 
--- src/lib.rt:147:5
 reply-number-requires : tie.Need-reply-number-requires
 reply-number-requires c κs = search needs
 
--- src/lib.rt:137:1
 same-length : tie.Need-same-length
 same-length c = search needs
 
--- src/lib.rt:137:1
 returns : tie.Need-returns
-returns c = wide-numbered _ _ _ _ _ (c .reply-number .ensures .0) (c .reply-number .ensures .1) (c .before .before .before .before .ask-kept .ensures)
+returns c = reply-numbered _ _ _ _ _ (c .reply-number .ensures .0) (c .reply-number .ensures .1) (c .before .before .before .before .ask-kept .ensures)
 
 pub families-ask-kept-spec : {M : Type 1} → statement M
 families-ask-kept-spec =

@@ -1,5 +1,5 @@
 -- The number, the count and the rows are those of the entry's reply. Assumes nothing.
-use Rattle.capi.proofs.Numbers.{wide-numbered}
+use Rattle.capi.proofs.Numbers.{reply-numbered}
 use borrow.Author.Needs.{needs}
 use Rattle.capi.proofs.families_ask_rewritten.Statement.{statement}
 use Rattle.capi.proofs.families_ask_rewritten.Tie as tie
@@ -8,21 +8,17 @@ use Rattle.capi.proofs.families_ask_rewritten.Lts as lts
 use Rattle.ask.proofs.ask_rewritten.Reads as ask-rewritten-reads
 use Rattle.capi.proofs.reply_number.Reads as reply-number-reads
 
--- src/lib.rt:161:23
 ask-rewritten-requires : tie.Need-ask-rewritten-requires
 ask-rewritten-requires c κs = search needs
 
--- src/lib.rt:161:5
 reply-number-requires : tie.Need-reply-number-requires
 reply-number-requires c κs = search needs
 
--- src/lib.rt:151:1
 same-length : tie.Need-same-length
 same-length c = search needs
 
--- src/lib.rt:151:1
 returns : tie.Need-returns
-returns c = wide-numbered _ _ _ _ _ (c .reply-number .ensures .0) (c .reply-number .ensures .1) (c .before .before .before .before .ask-rewritten .ensures)
+returns c = reply-numbered _ _ _ _ _ (c .reply-number .ensures .0) (c .reply-number .ensures .1) (c .before .before .before .before .ask-rewritten .ensures)
 
 pub families-ask-rewritten-spec : {M : Type 1} → statement M
 families-ask-rewritten-spec =

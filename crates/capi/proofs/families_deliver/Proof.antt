@@ -8,31 +8,24 @@ use Rattle.capi.proofs.families_deliver.Lts as lts
 use Rattle.capi.proofs.write_result.Reads as write-result-reads
 use Rattle.deliver.proofs.deliver.Reads as deliver-reads
 
--- src/lib.rt:97:9
 deliver-requires : tie.Need-deliver-requires
 deliver-requires c κs = search needs
 
--- src/lib.rt:96:5
 write-result-requires : tie.Need-write-result-requires
 write-result-requires c κs = search needs
 
--- src/lib.rt:85:1
 same-length : tie.Need-same-length
 same-length c = search needs
 
--- src/lib.rt:85:1
 same-length-2 : tie.Need-same-length-2
 same-length-2 c = search needs
 
--- src/lib.rt:85:1
 same-length-3 : tie.Need-same-length-3
 same-length-3 c = search needs
 
--- src/lib.rt:85:1
 same-length-4 : tie.Need-same-length-4
 same-length-4 c = search needs
 
--- src/lib.rt:85:1
 returns : tie.Need-returns
 returns c = delivery-numbered _ _ _ _ _ (c .write-result .ensures .0) (c .write-result .ensures .1) (c .before .before .before .before .before .before .before .before .before .before .deliver .ensures)
 

@@ -1,7 +1,5 @@
 -- The number, the count and the rows are those of the entry's reply. Assumes nothing.
-use native.Mathlib.Omega.{arith}
-use Rattle.rdf.specs.Triple.{isAllowedStatement}
-use Rattle.capi.proofs.Numbers.{reply-numbered, listing-count}
+use Rattle.capi.proofs.Numbers.{reply-numbered}
 use borrow.Author.Needs.{needs}
 use Rattle.capi.proofs.families_list_statements.Statement.{statement}
 use Rattle.capi.proofs.families_list_statements.Tie as tie
@@ -20,8 +18,7 @@ same-length : tie.Need-same-length
 same-length c = search needs
 
 returns : tie.Need-returns
-returns c =
-    reply-numbered _ _ _ _ _ (listing-count isAllowedStatement 512 _ _ _ (omega arith) _ _ (c .before .before .before .before .list-statements .ensures)) (c .reply-number .ensures .0) (c .reply-number .ensures .1) (c .before .before .before .before .list-statements .ensures)
+returns c = reply-numbered _ _ _ _ _ (c .reply-number .ensures .0) (c .reply-number .ensures .1) (c .before .before .before .before .list-statements .ensures)
 
 pub families-list-statements-spec : {M : Type 1} → statement M
 families-list-statements-spec =
