@@ -23,11 +23,16 @@ crate: toolchain
 TRIAL := CARGO_TARGET_DIR=target/tests cargo run --release --offline --quiet --manifest-path tests/Cargo.toml --
 TRIAL_LOG := target/trial.log
 
+# The example of the binding for Rust, and what it must print.
+SHELF := CARGO_TARGET_DIR=target/tests cargo run --release --offline --quiet --manifest-path bindings/rust/Cargo.toml --example shelf
+SHELF_STDOUT := bindings/rust/examples/shelf.stdout
+
 trial: library cargo jena valgrind
 	@rm -f $(TRIAL_LOG)
 	@$(call try,1,beside the model,)
 	@$(call try,2,beside Apache Jena,--part jena)
 	@$(call try,3,under valgrind,--part memory)
+	@$(SHELF) | diff $(SHELF_STDOUT) - || { echo "the example of bindings/rust does not print $(SHELF_STDOUT)" >&2; exit 1; }
 
 try = echo "trial, part $(1) of 3, $(2): its log is $(TRIAL_LOG)" >&2; $(TRIAL) $(3) >>$(TRIAL_LOG) 2>&1 \
 	|| { tail -n 40 $(TRIAL_LOG) >&2; echo "the trial failed: $(TRIAL_LOG) has all that it printed" >&2; exit 1; }
