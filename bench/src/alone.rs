@@ -1,14 +1,14 @@
 //! Our library by itself: ways of loading, questions as the store grows, and question 1, lone updates, listings and deliveries beside one
 //! memcpy of the store's tables or question 1.
 
-use crate::clock::{median, ratio, repeated, timed};
-use crate::contest::{Contestant, Outcome};
-use crate::library::{Store, Table, Triple, Way};
-use crate::ours::Ours;
-use crate::tables::{digits, grouped, time, times};
-use crate::workload::{self, delivery, Mix};
-use crate::{progress, Scale};
+use crate::clock::{median, progress, ratio, repeated, timed};
+use crate::contest::{Contestant, Outcome, Way};
+use crate::numbers::{digits, grouped, time, times};
+use crate::ours::{ask, lent_facts, Ours};
+use crate::scale::Scale;
+use families::{Capacities, Order, Refusal, Store, Table, Triple, Updated};
 use std::time::Duration;
+use workload::{delivery, spread, Mix};
 
 /// Puts rows into a table, which must be empty; they become ascending.
 fn fill(table: &mut [u32], triples: &[Triple]) {
@@ -20,7 +20,7 @@ fn fill(table: &mut [u32], triples: &[Triple]) {
 
 /// A store whose tables hold these statements and facts; the facts alone are kept, each with support 1, until a statement changes.
 fn lent(statements: &[Triple], facts: &[Triple]) -> Store {
-    let mut store = Store::empty(512, 65_535, 262_143);
+    let mut store = Store::empty(Capacities::MOST);
     fill(&mut store.statements, statements);
     fill(&mut store.facts, facts);
     fill(&mut store.kept, facts);
@@ -32,8 +32,13 @@ fn lent(statements: &[Triple], facts: &[Triple]) -> Store {
 pub fn saturated(statements: &[Triple], facts: &[Triple]) -> Store {
     let (last, others) = statements.split_last().expect("a statement");
     let mut store = lent(others, facts);
-    assert_eq!(store.add(*last), 0, "adding {last:?}");
+    assert_eq!(store.add(*last), Ok(Updated::Applied), "adding {last:?}");
     store
+}
+
+/// Runs a delivery: how many of its entries were applied.
+fn applied(store: &mut Store, bytes: &[u8]) -> usize {
+    store.deliver(bytes).map_or(0, |delivered| delivered.applied as usize)
 }
 
 /// How long our library takes to load and saturate the triples, by deliveries, in the order in which they come.
@@ -63,11 +68,11 @@ impl Alone {
         let (last, others) = statements.split_last().expect("a statement");
         let by_delivery = |_| {
             let mut store = lent(&[], facts);
-            timed(|| assert_eq!(store.deliver(&bytes).1[1] as usize, statements.len())).0
+            timed(|| assert_eq!(applied(&mut store, &bytes), statements.len())).0
         };
         let by_one = |_| {
             let mut store = lent(others, facts);
-            timed(|| assert_eq!(store.add(*last), 0)).0
+            timed(|| assert_eq!(store.add(*last), Ok(Updated::Applied))).0
         };
         let store = saturated(statements, facts);
         let mut ascending = facts.to_vec();
@@ -84,7 +89,7 @@ impl Alone {
 
 /// Question 1 alone: a question with no word is refused by 6 right after it.
 fn first_question(store: &Store, way: Way) -> Duration {
-    repeated(21, || assert_eq!(store.ask(way, &[], &mut []).0, 6))
+    repeated(21, || assert_eq!(ask(store, way, &[], &mut []).err(), Some(Refusal::Question)))
 }
 
 /// One copy of some tables and of supports.
@@ -104,7 +109,7 @@ fn copy(store: &Store) -> Duration {
 /// Question 1 for a delivery alone, which reads all four tables: one with no byte is refused by 9 right after it.
 fn first_of_delivery(store: &Store) -> Duration {
     let mut store = store.clone();
-    repeated(21, || assert_eq!(store.deliver(&[]).0, 9))
+    repeated(21, || assert_eq!(store.deliver(&[]), Err(Refusal::Delivery)))
 }
 
 /// Additions and withdrawals of one triple after another: the median of each. The store has the triples before and after.
@@ -113,18 +118,13 @@ fn updates(store: &mut Store, triples: &[Triple]) -> [Duration; 2] {
     let mut withdrawn = Vec::new();
     for &t in triples {
         let (time, answer) = timed(|| store.withdraw(t));
-        assert_eq!(answer, 0, "withdrawing {t:?}");
+        assert_eq!(answer, Ok(Updated::Applied), "withdrawing {t:?}");
         withdrawn.push(time);
         let (time, answer) = timed(|| store.add(t));
-        assert_eq!(answer, 0, "adding {t:?}");
+        assert_eq!(answer, Ok(Updated::Applied), "adding {t:?}");
         added.push(time);
     }
     [median(added), median(withdrawn)]
-}
-
-/// So many of some triples, spread over them.
-pub fn spread(triples: &[Triple], n: usize) -> Vec<Triple> {
-    (0..n).map(|i| triples[i * triples.len() / n]).collect()
 }
 
 /// A time, and in brackets how many of a unit it is worth.
@@ -145,7 +145,7 @@ pub fn questions_by_size(scale: &Scale, statements: &[Triple], mix: Mix) -> Outc
     let mut out = String::new();
     for (title, way, unit) in [("The kept way", Way::Kept, "kept rows"), ("The rewritten way", Way::Rewritten, "facts")] {
         progress(&format!("our library: questions by size: {}", title.to_lowercase()));
-        let rows: Vec<usize> = stores.iter().map(|(ours, _)| ours.store.lent(way)[0] as usize).collect();
+        let rows: Vec<usize> = stores.iter().map(|(ours, _)| lent_facts(&ours.store, way)[0] as usize).collect();
         let sizes: String = rows.iter().map(|&n| format!(" {} {unit} |", grouped(n))).collect();
         out += &format!("{title}.\n\n| question |{sizes} growth / proportional |\n|{}\n", "---|".repeat(rows.len() + 2));
         for i in 0..stores[0].1.len() {
@@ -168,7 +168,7 @@ pub fn first_questions(scale: &Scale, statements: &[Triple], mix: Mix) -> String
     out += "| facts | kept rows | statements and kept facts | statements and facts | all four tables |\n|---|---|---|---|---|\n";
     for &n in &scale.sizes {
         let store = saturated(statements, &workload::facts(n, statements.len(), mix, 7));
-        let of_way = |way| cell(first_question(&store, way), copy_of(&[&store.statements, store.lent(way)], &[]));
+        let of_way = |way| cell(first_question(&store, way), copy_of(&[&store.statements, lent_facts(&store, way)], &[]));
         let [kept, rewritten] = [Way::Kept, Way::Rewritten].map(of_way);
         let all = cell(first_of_delivery(&store), copy(&store));
         out += &format!("| {} | {} | {kept} | {rewritten} | {all} |\n", grouped(n), grouped(store.kept[0] as usize));
@@ -203,7 +203,7 @@ pub fn listings(scale: &Scale, statements: &[Triple], mix: Mix) -> String {
     let mut out = format!("{} facts, {} kept rows.\n\n", grouped(n), grouped(store.kept[0] as usize));
     out += "| listing | order 0 (as stored) | other orders |\n|---|---|---|\n";
     for (name, table) in [("statements", Table::Statements), ("facts", Table::Facts), ("kept facts", Table::Kept)] {
-        let mut times = (0..6).map(|order| repeated(5, || assert_eq!(store.list(table, order, &mut rows).0, 0)));
+        let mut times = Order::ALL.into_iter().map(|order| repeated(5, || assert!(store.list(table, order, &mut rows).is_ok())));
         let first = times.next().expect("an order");
         let mut others: Vec<Duration> = times.collect();
         others.sort();
@@ -234,7 +234,7 @@ pub fn deliveries(scale: &Scale, statements: &[Triple]) -> String {
     {
         let run = |_| {
             let mut store = store.clone();
-            timed(|| assert_eq!(store.deliver(&bytes).1[1] as usize, count)).0
+            timed(|| assert_eq!(applied(&mut store, &bytes), count)).0
         };
         out += &format!("| {} {name} | {} |\n", grouped(count), cell(median((0..scale.rounds).map(run).collect()), unit));
     }

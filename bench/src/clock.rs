@@ -1,5 +1,6 @@
 //! Times by the clock.
 
+use std::sync::OnceLock;
 use std::time::{Duration, Instant};
 
 /// How long one call takes, and its value.
@@ -28,4 +29,10 @@ pub fn ratio(time: Duration, unit: Duration) -> f64 {
 /// A time in milliseconds.
 pub fn milliseconds(time: Duration) -> f64 {
     time.as_secs_f64() * 1e3
+}
+
+/// Shows on standard error what is done, with the seconds since the start.
+pub fn progress(what: &str) {
+    static START: OnceLock<Instant> = OnceLock::new();
+    eprintln!("{:4} s  {what}", START.get_or_init(Instant::now).elapsed().as_secs());
 }

@@ -1,8 +1,15 @@
 //! What our library and the programs beside it are all asked to do.
 
-use crate::library::{Triple, Way};
-pub use crate::pipe::{Outcome, Rows};
+use families::Triple;
+pub use peers::{Outcome, Rows};
 use std::time::Duration;
+
+/// By which way a question is answered.
+#[derive(Clone, Copy, PartialEq)]
+pub enum Way {
+    Kept,
+    Rewritten,
+}
 
 /// What an update does with its triple.
 #[derive(Clone, Copy, PartialEq)]

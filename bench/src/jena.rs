@@ -1,11 +1,9 @@
 //! Apache Jena (peers/jena). The kept way asks the model that its RETE rules keep up to date; the rewritten way the explicit triples, with
 //! a union over the alternatives in place of each atom, as SPARQL.
 
-use crate::contest::{Change, Contestant, Outcome, Rows};
-use crate::library::{Triple, Way};
-use crate::pipe::{with_triples, Pipe};
+use crate::contest::{Change, Contestant, Outcome, Rows, Way};
 use crate::rewriting::{variable, Atom, Question, Rewriter};
-use std::process::Command;
+use families::Triple;
 use std::time::Duration;
 
 /// How often a question is answered before it is measured, for the compiler inside Java: at least and at most so many times, and for so
@@ -13,34 +11,24 @@ use std::time::Duration;
 const WARM: [u128; 2] = [5, 40];
 const WARMING: Duration = Duration::from_secs(2);
 
+/// Jena, and what rewrites questions for it.
 pub struct Jena {
-    pipe: Pipe,
+    client: peers::Jena,
     rewriter: Rewriter,
 }
 
 impl Jena {
     /// Starts the server.
     pub fn start() -> Outcome<Box<dyn Contestant>> {
-        let pipe = Pipe::start("Jena", Command::new("java").arg("@target/jena/server"))?;
-        Ok(Box::new(Jena { pipe, rewriter: Rewriter::new() }))
+        Ok(Box::new(Jena { client: peers::Jena::start()?, rewriter: Rewriter::new() }))
     }
 
-    /// The command's end for a question: its words, or its SPARQL text over the explicit triples.
-    fn question(&self, way: Way, words: &[u32]) -> Outcome<String> {
+    /// A question as a way puts it.
+    fn question(&self, way: Way, words: &[u32]) -> Outcome<peers::Question> {
         match way {
-            Way::Kept => Ok(words.iter().map(u32::to_string).collect::<Vec<_>>().join(" ")),
-            Way::Rewritten => Ok(sparql(&self.rewriter.question(words)?)),
+            Way::Kept => Ok(peers::Question::Words(words.to_vec())),
+            Way::Rewritten => Ok(peers::Question::Explicit(sparql(&self.rewriter.question(words)?))),
         }
-    }
-
-    /// The command by which a question is put by a way.
-    fn command(way: Way, command: &str) -> String {
-        format!("{command}{}", if way == Way::Kept { "" } else { "-explicit" })
-    }
-
-    /// Takes triples out and works out afresh what holds: Jena's own upkeep of a deletion loses rows.
-    fn withdraw(&mut self, triples: &[Triple]) -> Outcome<Duration> {
-        Ok(self.pipe.time(&with_triples("withdraw", triples))? + self.pipe.time("work\n")?)
     }
 }
 
@@ -86,25 +74,25 @@ impl Contestant for Jena {
 
     fn load(&mut self, statements: &[Triple], facts: &[Triple]) -> Outcome<Duration> {
         self.rewriter.load(statements)?;
-        self.pipe.load(&[statements, facts].concat())
+        self.client.load(&[statements, facts].concat())
     }
 
     /// Of some withdrawals one by one, the first is timed alone and the others are made in one go.
     fn update(&mut self, change: Change, triples: &[Triple]) -> Outcome<Duration> {
         if change == Change::Add {
-            return self.pipe.time(&with_triples("add", triples));
+            return self.client.add(triples);
         }
-        let first = self.withdraw(&triples[..1])?;
+        let first = self.client.withdraw(&triples[..1])?;
         if triples.len() > 1 {
-            self.withdraw(&triples[1..])?;
+            self.client.withdraw(&triples[1..])?;
         }
         Ok(first * triples.len() as u32)
     }
 
     fn deliver(&mut self, change: Change, triples: &[Triple]) -> Outcome<Duration> {
         match change {
-            Change::Add => self.update(change, triples),
-            Change::Withdraw => self.withdraw(triples),
+            Change::Add => self.client.add(triples),
+            Change::Withdraw => self.client.withdraw(triples),
         }
     }
 
@@ -112,24 +100,20 @@ impl Contestant for Jena {
         change == Change::Withdraw
     }
 
-    /// A fact that followed before it became explicit is listed twice.
     fn kept(&mut self) -> Outcome<Rows> {
-        let mut rows = self.pipe.call("facts\n")?.rows;
-        rows.sort();
-        rows.dedup();
-        Ok(rows)
+        self.client.facts()
     }
 
     fn rows(&mut self, way: Way, question: &[u32]) -> Outcome<Rows> {
-        let request = format!("{} {}\n", Jena::command(way, "ask"), self.question(way, question)?);
-        Ok(self.pipe.call(&request)?.rows)
+        let question = self.question(way, question)?;
+        self.client.ask(&question)
     }
 
     fn times(&mut self, way: Way, question: &[u32], runs: usize) -> Outcome<Vec<Duration>> {
-        let (command, question) = (Jena::command(way, "time"), self.question(way, question)?);
-        let mut times = |n: usize| Ok(self.pipe.call(&format!("{command} {n} {question}\n"))?.times()[1..].to_vec());
-        let first: Vec<Duration> = times(1)?;
-        times((WARMING.as_nanos() / first[0].as_nanos()).clamp(WARM[0], WARM[1]) as usize)?;
-        times(runs)
+        let question = self.question(way, question)?;
+        let first = self.client.times(&question, 1)?;
+        let warming = (WARMING.as_nanos() / first[0].as_nanos()).clamp(WARM[0], WARM[1]);
+        self.client.times(&question, warming as usize)?;
+        self.client.times(&question, runs)
     }
 }

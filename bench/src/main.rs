@@ -6,65 +6,24 @@ mod alone;
 mod clock;
 mod contest;
 mod jena;
-mod library;
 mod measure;
+mod numbers;
 mod ours;
-mod pipe;
 mod plot;
 mod postgres;
 mod prolog;
 mod rewriting;
+mod scale;
 mod stack;
 mod tables;
 mod thresholds;
-mod workload;
 
 use alone::Alone;
-use clock::milliseconds;
+use clock::{milliseconds, progress};
 use contest::{Contestant, Outcome};
 use measure::{Changed, Contest, Task};
 use plot::Panel;
-use std::sync::OnceLock;
-use std::time::Instant;
-
-/// How much is measured.
-pub struct Scale {
-    /// The facts of the store for questions and updates.
-    pub facts: usize,
-    /// The sizes through which a store grows.
-    pub sizes: Vec<usize>,
-    /// Of how many loads or updates, and of how many answers, a time is the median.
-    pub rounds: usize,
-    pub runs: usize,
-    /// The facts and statements withdrawn and added, and the facts at each size of a growing store.
-    pub changed: [usize; 2],
-    pub changed_growing: usize,
-}
-
-impl Scale {
-    /// What the documents show.
-    fn full() -> Scale {
-        Scale {
-            facts: 20_000,
-            sizes: vec![5_000, 10_000, 20_000, 40_000, 65_000],
-            rounds: 5,
-            runs: 11,
-            changed: [1_000, 20],
-            changed_growing: 10,
-        }
-    }
-
-    /// A trial of the program.
-    fn quick() -> Scale {
-        Scale { facts: 2_000, sizes: vec![500, 1_000, 2_000], rounds: 2, runs: 3, changed: [100, 4], changed_growing: 5 }
-    }
-}
-
-/// Shows on standard error what is done, with the seconds since the start.
-pub fn progress(what: &str) {
-    static START: OnceLock<Instant> = OnceLock::new();
-    eprintln!("{:4} s  {what}", START.get_or_init(Instant::now).elapsed().as_secs());
-}
+use scale::Scale;
 
 /// Starts a peer by its name.
 fn start(name: &str) -> Outcome<Box<dyn Contestant>> {
@@ -109,7 +68,7 @@ fn measured(scale: &Scale, contestants: &mut [Box<dyn Contestant>]) -> Outcome<(
         ("Our library alone: deliveries", alone::deliveries(scale, &task.statements)),
         ("Our library alone: stack", stack::calls(scale, &task.statements)),
     ];
-    let counts = [task.statements.len(), contest.facts, contest.kept].map(tables::grouped);
+    let counts = [task.statements.len(), contest.facts, contest.kept].map(numbers::grouped);
     let [statements, facts, kept] = counts;
     let mut report = format!("The store for questions and updates has {statements} statements, {facts} facts and {kept} kept rows.\n");
     report.extend(sections.iter().map(|(title, table)| format!("\n### {title}\n\n{}\n", table.trim_end())));

@@ -1,12 +1,11 @@
 //! The workload, put to every contestant. The kept facts and the rows of each question must be those of our library, the first.
 
-use crate::alone::spread;
-use crate::clock::median;
-use crate::contest::{Change, Contestant, Outcome, Rows};
-use crate::library::{Triple, Way};
-use crate::workload::{self, Mix};
-use crate::{progress, Scale};
+use crate::clock::{median, progress};
+use crate::contest::{Change, Contestant, Outcome, Rows, Way};
+use crate::scale::Scale;
+use families::Triple;
 use std::time::Duration;
+use workload::{spread, Mix};
 
 /// The two ways, in the order of the figures.
 pub const WAYS: [Way; 2] = [Way::Kept, Way::Rewritten];

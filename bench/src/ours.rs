@@ -1,10 +1,10 @@
 //! Our library among the contestants.
 
 use crate::clock::timed;
-use crate::contest::{Change, Contestant, Outcome, Rows};
-use crate::library::{Store, Triple, Way};
-use crate::workload::delivery;
+use crate::contest::{Change, Contestant, Outcome, Rows, Way};
+use families::{Capacities, Delivered, Refusal, Store, Triple, Updated};
 use std::time::Duration;
+use workload::delivery;
 
 /// The largest number of entries of a delivery.
 const ENTRIES: usize = (65_536 - 10) / 12;
@@ -13,6 +13,27 @@ const ENTRIES: usize = (65_536 - 10) / 12;
 pub struct Ours {
     pub store: Store,
     output: Vec<u32>,
+}
+
+/// Puts a question to a store by a way.
+pub fn ask<'a>(store: &Store, way: Way, question: &[u32], output: &'a mut [u32]) -> Result<families::Rows<'a>, Refusal> {
+    match way {
+        Way::Kept => store.ask_kept(question, output),
+        Way::Rewritten => store.ask_rewritten(question, output),
+    }
+}
+
+/// The facts that a question by a way is lent.
+pub fn lent_facts(store: &Store, way: Way) -> &[u32] {
+    match way {
+        Way::Kept => &store.kept,
+        Way::Rewritten => &store.facts,
+    }
+}
+
+/// Whether a delivery was accepted and all its entries were applied.
+fn is_whole(answer: &Result<Delivered, Refusal>) -> bool {
+    answer.is_ok_and(|delivered| delivered.idle == 0 && delivered.refused == 0)
 }
 
 /// Whether a triple is a statement.
@@ -30,22 +51,19 @@ fn bytes(change: Change, triples: &[Triple]) -> Vec<u8> {
 
 impl Ours {
     pub fn new() -> Ours {
-        Ours { store: Store::empty(512, 65_535, 262_143), output: vec![0; 2_000_000] }
+        Ours { store: Store::empty(Capacities::MOST), output: vec![0; 2_000_000] }
     }
 
     /// Runs deliveries, each of which must have all its entries applied: how long they take.
     pub fn run(&mut self, deliveries: &[Vec<u8>]) -> Outcome<Duration> {
         let (time, answers) = timed(|| deliveries.iter().map(|bytes| self.store.deliver(bytes)).collect::<Vec<_>>());
-        let whole = answers.iter().all(|&(number, [_, _, idle, refused])| number == 0 && idle == 0 && refused == 0);
-        whole.then_some(time).ok_or_else(|| format!("a delivery was not applied whole: {answers:?}"))
+        answers.iter().all(is_whole).then_some(time).ok_or_else(|| format!("a delivery was not applied whole: {answers:?}"))
     }
 
     /// As many words of the output as a question's rows need, so that its time is not that of clearing a large output.
     fn room(&mut self, way: Way, question: &[u32]) -> Outcome<usize> {
-        match self.store.ask(way, question, &mut self.output) {
-            (0, count) => Ok((count * question[1]) as usize),
-            (number, _) => Err(format!("a question was refused by {number}")),
-        }
+        let rows = ask(&self.store, way, question, &mut self.output);
+        rows.map(|rows| rows.len() * question[1] as usize).map_err(|refusal| format!("a question was {refusal}"))
     }
 }
 
@@ -56,7 +74,7 @@ impl Contestant for Ours {
 
     /// By deliveries, the statements first: an added statement has all kept facts worked out afresh.
     fn load(&mut self, statements: &[Triple], facts: &[Triple]) -> Outcome<Duration> {
-        self.store = Store::empty(512, 65_535, 262_143);
+        self.store = Store::empty(Capacities::MOST);
         let mut deliveries = vec![bytes(Change::Add, statements)];
         deliveries.extend(facts.chunks(ENTRIES).map(|part| bytes(Change::Add, part)));
         self.run(&deliveries)
@@ -65,8 +83,8 @@ impl Contestant for Ours {
     fn update(&mut self, change: Change, triples: &[Triple]) -> Outcome<Duration> {
         let store = &mut self.store;
         let one = |&t: &Triple| if change == Change::Add { store.add(t) } else { store.withdraw(t) };
-        let (time, answers) = timed(|| triples.iter().map(one).collect::<Vec<u32>>());
-        answers.iter().all(|&n| n == 0).then_some(time).ok_or_else(|| format!("updates were not applied: {answers:?}"))
+        let (time, answers) = timed(|| triples.iter().map(one).collect::<Vec<_>>());
+        answers.iter().all(|&answer| answer == Ok(Updated::Applied)).then_some(time).ok_or_else(|| format!("updates were not applied: {answers:?}"))
     }
 
     fn deliver(&mut self, change: Change, triples: &[Triple]) -> Outcome<Duration> {
@@ -85,6 +103,6 @@ impl Contestant for Ours {
 
     fn times(&mut self, way: Way, question: &[u32], runs: usize) -> Outcome<Vec<Duration>> {
         let room = self.room(way, question)?;
-        Ok((0..runs).map(|_| timed(|| self.store.ask(way, question, &mut self.output[..room])).0).collect())
+        Ok((0..runs).map(|_| timed(|| ask(&self.store, way, question, &mut self.output[..room]).is_ok()).0).collect())
     }
 }

@@ -1,5 +1,7 @@
 //! Cost against size as an SVG: one panel for each measure, both axes logarithmic, one line for each contestant.
 
+use crate::numbers::grouped;
+
 /// The lines' colours and the marks on them, in the order of the contestants.
 const COLOURS: [&str; 4] = ["#d62728", "#1f77b4", "#2ca02c", "#7f3fbf"];
 
@@ -99,6 +101,6 @@ fn label(decade: i32) -> String {
     if decade < 0 {
         format!("{:.*}", -decade as usize, 10f64.powi(decade))
     } else {
-        crate::tables::grouped(10usize.pow(decade as u32))
+        grouped(10usize.pow(decade as u32))
     }
 }

@@ -1,10 +1,10 @@
 //! PostgreSQL (peers/postgres). A question is a join of one subquery for each atom; by the rewritten way a subquery is a union over the
 //! alternatives.
 
-use crate::contest::{Change, Contestant, Outcome, Rows};
-use crate::library::{Triple, Way};
-use crate::pipe::{Answer, Pipe};
+use crate::contest::{Change, Contestant, Outcome, Rows, Way};
 use crate::rewriting::{variable, Atom, Question, Rewriter};
+use families::Triple;
+use peers::{Answer, Pipe};
 use std::process::Command;
 use std::time::Duration;
 

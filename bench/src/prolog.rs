@@ -1,10 +1,10 @@
 //! SWI-Prolog (peers/prolog). A question is a clause whose goals call the rows of the store; the rewritten way has a disjunction over the
 //! alternatives in place of each atom.
 
-use crate::contest::{Change, Contestant, Outcome, Rows};
-use crate::library::{Triple, Way};
-use crate::pipe::{with_triples, Pipe};
+use crate::contest::{Change, Contestant, Outcome, Rows, Way};
 use crate::rewriting::{variable, Atom, Question, Rewriter};
+use families::Triple;
+use peers::{with_triples, Pipe};
 use std::process::Command;
 use std::time::Duration;
 

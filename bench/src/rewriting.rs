@@ -1,7 +1,7 @@
 //! Questions taken apart for the programs beside ours: atoms, and what the rewritten way puts in their place.
 
 use crate::contest::Outcome;
-use crate::library::{Store, Triple};
+use families::{Capacities, Store, Triple, Updated};
 
 /// The most alternatives of an atom that are asked for.
 const ROOM: usize = 3 * 100_000;
@@ -45,13 +45,13 @@ pub struct Rewriter(Store);
 impl Rewriter {
     /// One for no statements.
     pub fn new() -> Rewriter {
-        Rewriter(Store::empty(512, 0, 0))
+        Rewriter(Store::empty(Capacities { facts: 0, kept: 0, ..Capacities::MOST }))
     }
 
     /// Takes the place of the statements before.
     pub fn load(&mut self, statements: &[Triple]) -> Outcome<()> {
         *self = Rewriter::new();
-        let refused = statements.iter().find(|&&t| self.0.add(t) != 0);
+        let refused = statements.iter().find(|&&t| self.0.add(t) != Ok(Updated::Applied));
         refused.map_or(Ok(()), |t| Err(format!("the statement {t:?} was refused")))
     }
 
@@ -66,11 +66,8 @@ impl Rewriter {
     fn atom(&self, words: Triple) -> Outcome<Atom> {
         let mut atom = Atom { words, alternatives: Default::default() };
         let mut rows = vec![0; ROOM];
-        let (number, count) = self.0.alternatives(words, &mut rows);
-        if number != 0 {
-            return Err(format!("alternatives refused by {number}"));
-        }
-        for row in rows.chunks(3).take(count as usize).filter(|row| row[0] > 0) {
+        let rows = self.0.alternatives(words, &mut rows).map_err(|refusal| format!("alternatives {refusal}"))?;
+        for row in rows.filter(|row| row[0] > 0) {
             atom.alternatives[row[0] as usize - 1].push([row[1], row[2]]);
         }
         Ok(atom)

@@ -1,13 +1,14 @@
 //! How much stack a call of the exported library takes: it runs on a thread whose stack was painted, and what is no longer painted was used.
 
 use crate::alone::saturated;
-use crate::library::{Store, Table, Triple, Way};
-use crate::tables::grouped;
-use crate::workload::{self, delivery, question, variable, CLASS, PROPERTY};
-use crate::{progress, Scale};
+use crate::clock::progress;
+use crate::numbers::grouped;
+use crate::scale::Scale;
+use families::{Order, Store, Table, Triple, Updated};
 use std::alloc::{alloc, dealloc, Layout};
 use std::ffi::c_void;
 use std::ptr::{null_mut, write_bytes};
+use workload::{delivery, question, variable, CLASS, PROPERTY};
 
 /// Room for pthread's attributes, which take 56 bytes.
 type Attributes = [u64; 8];
@@ -71,14 +72,14 @@ fn longest_question() -> Vec<u32> {
 
 /// The stack that each update takes: a triple is withdrawn and added again, by itself and by a delivery.
 fn updates(store: &mut Store, of: &str, triple: Triple, section: usize) -> [(String, usize); 3] {
-    let withdrawn = taken(|| assert_eq!(store.withdraw(triple), 0));
-    let added = taken(|| assert_eq!(store.add(triple), 0));
+    let withdrawn = taken(|| assert_eq!(store.withdraw(triple), Ok(Updated::Applied)));
+    let added = taken(|| assert_eq!(store.add(triple), Ok(Updated::Applied)));
     let one: &[Triple] = &[triple];
     let mut sections: [&[Triple]; 4] = [&[]; 4];
     sections[section] = one;
     sections[section + 2] = one;
     let bytes = delivery(sections);
-    let delivered = taken(|| assert_eq!(store.deliver(&bytes).1[1], 2));
+    let delivered = taken(|| assert_eq!(store.deliver(&bytes).map(|delivered| delivered.applied), Ok(2)));
     [
         (format!("a {of} added"), added),
         (format!("a {of} withdrawn"), withdrawn),
@@ -90,16 +91,15 @@ fn updates(store: &mut Store, of: &str, triple: Triple, section: usize) -> [(Str
 fn questions(store: &Store) -> Vec<(String, usize)> {
     let mut rows = vec![0; store.kept.len()];
     let words = longest_question();
-    let ask = |way, rows: &mut [u32]| taken(|| assert_eq!(store.ask(way, &words, rows).0, 0));
-    let kept = ask(Way::Kept, &mut rows);
-    let rewritten = ask(Way::Rewritten, &mut rows);
-    let alternatives = taken(|| assert_eq!(store.alternatives([variable(0), 1, CLASS], &mut rows).0, 0));
-    let listing = (0..6).map(|order| taken(|| assert_eq!(store.list(Table::Kept, order, &mut rows).0, 0))).max();
+    let kept = taken(|| assert!(store.ask_kept(&words, &mut rows).is_ok()));
+    let rewritten = taken(|| assert!(store.ask_rewritten(&words, &mut rows).is_ok()));
+    let alternatives = taken(|| assert!(store.alternatives([variable(0), 1, CLASS], &mut rows).is_ok()));
+    let listings = Order::ALL.map(|order| taken(|| assert!(store.list(Table::Kept, order, &mut rows).is_ok())));
     vec![
         ("a question of six atoms by the kept way".to_string(), kept),
         ("the same by the rewritten way".to_string(), rewritten),
         ("the alternatives of an atom".to_string(), alternatives),
-        ("a listing of the kept facts, the most of six orders".to_string(), listing.expect("an order")),
+        ("a listing of the kept facts, the most of six orders".to_string(), listings.into_iter().fold(0, usize::max)),
     ]
 }
 

@@ -1,40 +1,10 @@
 //! The tables of the report, as Markdown: our time, and for the others how many times as long they take; below 1 they are faster.
 
 use crate::alone::Alone;
-use crate::clock::{milliseconds, ratio};
 use crate::contest::{Change, Contestant};
 use crate::measure::{Contest, Figures, DELIVERED, FACTS, STATEMENTS};
+use crate::numbers::{grouped, time, times};
 use std::time::Duration;
-
-/// A number with a comma after each thousand.
-pub fn grouped(n: usize) -> String {
-    let digits = n.to_string();
-    let parts: Vec<&str> = digits.as_bytes().rchunks(3).rev().map(|part| std::str::from_utf8(part).expect("digits")).collect();
-    parts.join(",")
-}
-
-/// A number with so many digits or more, and at most three behind the point.
-pub fn digits(x: f64, n: i32) -> String {
-    match n - 1 - x.log10().floor() as i32 {
-        decimals if decimals > 0 => format!("{x:.*}", decimals.min(3) as usize),
-        _ => grouped(x.round() as usize),
-    }
-}
-
-/// A time in milliseconds.
-pub fn time(duration: Duration) -> String {
-    format!("{} ms", digits(milliseconds(duration), 3))
-}
-
-/// A ratio of two times.
-pub fn times(time: Duration, unit: Duration) -> String {
-    digits(ratio(time, unit), 2)
-}
-
-/// A part of a whole.
-pub fn percent(part: Duration, whole: Duration) -> String {
-    format!("{} %", digits(100.0 * ratio(part, whole), 2))
-}
 
 /// The head of a table whose last columns are ours and the others.
 fn head(first: &[&str], names: &[&str]) -> String {

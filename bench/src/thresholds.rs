@@ -2,7 +2,7 @@
 
 use crate::alone::Alone;
 use crate::measure::{Contest, Figures, FACTS, STATEMENTS};
-use crate::tables::{grouped, percent, times};
+use crate::numbers::{grouped, percent, times};
 use std::time::Duration;
 
 /// The least number n of runs, from 1, with n · rewritten + spared > n · kept + cost; none where no number is large enough.

@@ -1,6 +1,6 @@
 //! A made-up product graph: a forest of classes, chains of properties with domains and ranges, and facts about things.
 
-use crate::library::Triple;
+use families::Triple;
 
 /// A small generator of pseudo-random numbers (xorshift), so that every run has the same workload.
 pub struct Random(u64);
@@ -85,6 +85,11 @@ pub fn shuffled(mut facts: Vec<Triple>, seed: u64) -> Vec<Triple> {
         facts.swap(i, random.below(i as u32 + 1) as usize);
     }
     facts
+}
+
+/// So many of some triples, spread over them.
+pub fn spread(triples: &[Triple], n: usize) -> Vec<Triple> {
+    (0..n).map(|i| triples[i * triples.len() / n]).collect()
 }
 
 /// A delivery that withdraws and adds these: statements withdrawn, facts withdrawn, statements added, facts added.

@@ -8,10 +8,10 @@ use crate::random::{case_seed, Random};
 use crate::script::{Call, Command, Expected, Output, Way};
 use crate::session::{Failure, Harness, Session};
 use crate::store::{Store, Table};
-use crate::workload::{self, question, variable, CLASS, PROPERTY, THING};
 use std::collections::BTreeMap;
 use std::path::Path;
 use std::time::Instant;
+use workload::{question, variable, CLASS, PROPERTY, THING};
 
 /// The rules that Jena is given.
 const RULES: &str = "peers/jena/rdfs.rules";

@@ -44,9 +44,20 @@ pub fn change(random: &mut Random, names: &Names, store: &Store, withdrawals: us
 
 /// A store grown from empty, with questions, alternatives and listings on the way.
 pub fn grown(harness: &mut Harness, seed: u64) -> Result<(), Failure> {
+    grow(&mut Session::new(harness), seed)
+}
+
+/// The same, all calls made by the binding for Rust.
+pub fn by_binding(harness: &mut Harness, seed: u64) -> Result<(), Failure> {
+    let mut session = Session::new(harness);
+    session.run(Command::Binding(true))?;
+    grow(&mut session, seed)
+}
+
+/// Grows a store in a session.
+fn grow(session: &mut Session, seed: u64) -> Result<(), Failure> {
     let mut random = Random::new(seed);
     let names = Names::random(&mut random);
-    let mut session = Session::new(harness);
     session.run(Command::Empty(lengths(&mut random)))?;
     let withdrawals = random.between(2, 12);
     let length = random.pick(&[10, 30, 60, 120]);
@@ -54,7 +65,7 @@ pub fn grown(harness: &mut Harness, seed: u64) -> Result<(), Failure> {
         let call = change(&mut random, &names, &session.store, withdrawals);
         session.call(call)?;
         if random.once_in(3) {
-            generate::look(&mut random, &names, &mut session)?;
+            generate::look(&mut random, &names, session)?;
         }
     }
     Ok(())

@@ -1,59 +1,16 @@
-//! The exported library, as include/families.h declares it, behind safe functions.
+//! Calls of the exported library by its raw functions, each slice in memory that is watched.
 
+use crate::binding;
 use crate::fence::{Fence, Memory};
 pub use crate::model::terms::Triple;
+use crate::outcome::Outcome;
 use crate::script::{Call, Way};
-use crate::session::Outcome;
 use crate::store::{Store, Table};
-
-/// An addition or a withdrawal: the four tables, then the triple.
-type Update = unsafe extern "C" fn(
-    *mut u32,
-    usize,
-    *mut u32,
-    usize,
-    *mut u32,
-    usize,
-    *mut u16,
-    usize,
-    u32,
-    u32,
-    u32,
-) -> u32;
-
-/// A listing: the table, the order, the output and the count.
-type List = unsafe extern "C" fn(*const u32, usize, u32, *mut u32, usize, *mut u32) -> u32;
-
-/// A question: the statements, the facts of its way, the question, the output and the count.
-type Ask = unsafe extern "C" fn(
-    *const u32,
-    usize,
-    *const u32,
-    usize,
-    *const u32,
-    usize,
-    *mut u32,
-    usize,
-    *mut u32,
-) -> u32;
-
-#[rustfmt::skip]
-mod raw {
-    extern "C" {
-        pub fn families_add(statements: *mut u32, statements_len: usize, facts: *mut u32, facts_len: usize, kept: *mut u32, kept_len: usize, supports: *mut u16, supports_len: usize, subject: u32, property: u32, object: u32) -> u32;
-        pub fn families_withdraw(statements: *mut u32, statements_len: usize, facts: *mut u32, facts_len: usize, kept: *mut u32, kept_len: usize, supports: *mut u16, supports_len: usize, subject: u32, property: u32, object: u32) -> u32;
-        pub fn families_list_statements(table: *const u32, table_len: usize, order: u32, rows: *mut u32, rows_len: usize, count: *mut u32) -> u32;
-        pub fn families_list_facts(table: *const u32, table_len: usize, order: u32, rows: *mut u32, rows_len: usize, count: *mut u32) -> u32;
-        pub fn families_list_kept(table: *const u32, table_len: usize, order: u32, rows: *mut u32, rows_len: usize, count: *mut u32) -> u32;
-        pub fn families_deliver(statements: *mut u32, statements_len: usize, facts: *mut u32, facts_len: usize, kept: *mut u32, kept_len: usize, supports: *mut u16, supports_len: usize, bytes: *const u8, bytes_len: usize, result: *mut u32) -> u32;
-        pub fn families_ask_kept(statements: *const u32, statements_len: usize, kept: *const u32, kept_len: usize, question: *const u32, question_len: usize, rows: *mut u32, rows_len: usize, count: *mut u32) -> u32;
-        pub fn families_ask_rewritten(statements: *const u32, statements_len: usize, facts: *const u32, facts_len: usize, question: *const u32, question_len: usize, rows: *mut u32, rows_len: usize, count: *mut u32) -> u32;
-        pub fn families_alternatives(statements: *const u32, statements_len: usize, subject: u32, property: u32, object: u32, rows: *mut u32, rows_len: usize, count: *mut u32) -> u32;
-    }
-}
+use families::sys::{self, Ask, List, Update};
 
 /// What results and counts hold before a call.
 const RUBBISH: u32 = 0xdead_beef;
+const RUBBISH_COUNT: u64 = 0xdead_beef_dead_beef;
 
 /// Room for the longest slice lent.
 const ROOM: usize = 16 << 20;
@@ -69,6 +26,8 @@ pub struct Library {
     small: Fence,
     /// Whether slices of no element are lent as null pointers, as a C caller may.
     pub null_when_empty: bool,
+    /// Whether calls are made by the binding for Rust, which lends the tables where they are.
+    pub by_binding: bool,
     /// A deliberate fault of listings, where one is wanted.
     pub fault: Option<Fault>,
 }
@@ -108,15 +67,19 @@ impl Library {
             output: Fence::new(memory, ROOM),
             small: Fence::new(memory, 64),
             null_when_empty: false,
+            by_binding: false,
             fault: None,
         }
     }
 
     /// Makes a call on the store; an error where memory was written that was not lent for writing.
     pub fn call(&mut self, store: &mut Store, call: &Call) -> Result<Outcome, String> {
+        if self.by_binding && binding::makes(call) {
+            return Ok(binding::call(store, call));
+        }
         match call {
-            Call::Add(triple) => self.update(raw::families_add, store, *triple),
-            Call::Withdraw(triple) => self.update(raw::families_withdraw, store, *triple),
+            Call::Add(triple) => self.update(sys::families_add, store, *triple),
+            Call::Withdraw(triple) => self.update(sys::families_withdraw, store, *triple),
             Call::Deliver(bytes) => self.deliver(store, bytes),
             Call::Ask(way, question, output) => self.ask(*way, store, question, &output.lent()),
             Call::Alternatives(atom, output) => {
@@ -124,9 +87,9 @@ impl Library {
             }
             Call::List(table, order, output) => {
                 let f: List = match table {
-                    Table::Statements => raw::families_list_statements,
-                    Table::Facts => raw::families_list_facts,
-                    Table::Kept => raw::families_list_kept,
+                    Table::Statements => sys::families_list_statements,
+                    Table::Facts => sys::families_list_facts,
+                    Table::Kept => sys::families_list_kept,
                 };
                 self.list(f, store.table(*table), *order, &output.lent())
             }
@@ -187,10 +150,7 @@ impl Library {
             )
         };
         self.take_store(store)?;
-        Ok(Outcome {
-            number,
-            ..Outcome::default()
-        })
+        Ok(Outcome::of(number))
     }
 
     fn deliver(&mut self, store: &mut Store, bytes: &[u8]) -> Result<Outcome, String> {
@@ -199,7 +159,7 @@ impl Library {
         let result = self.small.lend_output(&[RUBBISH; 4]);
         // SAFETY: each pointer is that of a slice of the length given, apart from the others.
         let number = unsafe {
-            raw::families_deliver(
+            sys::families_deliver(
                 st,
                 store.statements.len(),
                 fa,
@@ -233,14 +193,14 @@ impl Library {
     ) -> Result<Outcome, String> {
         let null = self.null_when_empty;
         let (f, facts): (Ask, &[u32]) = match way {
-            Way::Kept => (raw::families_ask_kept, &store.kept),
-            Way::Rewritten => (raw::families_ask_rewritten, &store.facts),
+            Way::Kept => (sys::families_ask_kept, &store.kept),
+            Way::Rewritten => (sys::families_ask_rewritten, &store.facts),
         };
         let st = Library::lend(&mut self.statements, &store.statements, null);
         let fa = Library::lend(&mut self.facts, facts, null);
         let qu = Library::lend(&mut self.input, question, null);
         let rows = self.lend_rows(output);
-        let count = self.small.lend_output(&[RUBBISH]);
+        let count = self.small.lend_output(&[RUBBISH_COUNT]);
         // SAFETY: each pointer is that of a slice of the length given, apart from the others.
         let number = unsafe {
             f(
@@ -271,10 +231,10 @@ impl Library {
         let null = self.null_when_empty;
         let st = Library::lend(&mut self.statements, statements, null);
         let rows = self.lend_rows(output);
-        let count = self.small.lend_output(&[RUBBISH]);
+        let count = self.small.lend_output(&[RUBBISH_COUNT]);
         // SAFETY: each pointer is that of a slice of the length given, apart from the others.
         let number = unsafe {
-            raw::families_alternatives(st, statements.len(), s, p, o, rows, output.len(), count)
+            sys::families_alternatives(st, statements.len(), s, p, o, rows, output.len(), count)
         };
         unchanged(&self.statements, statements)?;
         whole(&[&self.statements])?;
@@ -291,7 +251,7 @@ impl Library {
         let null = self.null_when_empty;
         let words = Library::lend(&mut self.statements, table, null);
         let rows = self.lend_rows(output);
-        let count = self.small.lend_output(&[RUBBISH]);
+        let count = self.small.lend_output(&[RUBBISH_COUNT]);
         let (read, written) = match self.fault {
             None => (table.len(), output.len()),
             Some(Fault::ReadPast) => (table.len() + 1, output.len()),
@@ -311,7 +271,7 @@ impl Library {
         whole(&[&self.output, &self.small])?;
         Ok(Outcome {
             number,
-            count: self.small.read::<u32>()[0],
+            count: self.small.read::<u64>()[0],
             output: self.output.read().to_vec(),
             ..Outcome::default()
         })

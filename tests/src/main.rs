@@ -3,30 +3,23 @@
 //!
 //!     trial [--part model|jena|memory] [--seed N] [--histories N] [--fault NAME] [--replay FILE]
 
+mod binding;
 mod comparison;
 mod exhaustive;
 mod fence;
 mod generate;
 mod histories;
-mod jena;
 mod library;
 mod limits;
 mod memory;
 mod model;
+mod outcome;
 mod peer;
-#[allow(dead_code)]
-#[rustfmt::skip]
-#[path = "../../bench/src/pipe.rs"]
-mod pipe;
 mod random;
 mod script;
 mod session;
 mod store;
 mod windows;
-#[allow(dead_code)]
-#[rustfmt::skip]
-#[path = "../../bench/src/workload.rs"]
-mod workload;
 
 use fence::Memory;
 use model::{Fault, Model};
@@ -218,11 +211,16 @@ type Phase = (
     fn(&mut Harness, u64) -> Result<(), Failure>,
     u64,
 );
-const PHASES: [Phase; 4] = [
+const PHASES: [Phase; 5] = [
     ("grown stores", histories::grown, 1000),
     ("lent stores", histories::lent, 1000),
     ("damaged stores", histories::damaged, 3000),
     ("larger stores", histories::larger, 2),
+    (
+        "stores grown by the binding for Rust",
+        histories::by_binding,
+        100,
+    ),
 ];
 
 /// Calls that the counts have so far.

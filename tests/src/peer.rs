@@ -1,10 +1,10 @@
 //! Answers and kept facts compared with those of Apache Jena.
 
-use crate::jena::{Jena, Rows};
 use crate::model::questions::read_question;
 use crate::model::terms::*;
-use crate::session::Outcome;
+use crate::outcome::Outcome;
 use crate::store::Store;
+use peers::{Jena, Question, Rows};
 use std::fmt;
 use std::path::Path;
 
@@ -36,8 +36,10 @@ pub struct Seen {
 impl Peer {
     /// Starts Jena.
     pub fn start() -> Peer {
+        let started = Jena::start();
+        let jena = started.unwrap_or_else(|words| panic!("{words}; `make jena` sets it up"));
         Peer {
-            jena: Jena::start(),
+            jena,
             told: Default::default(),
             seen: Seen::default(),
         }
@@ -54,13 +56,14 @@ impl Peer {
         let width = question[1] as usize;
         let rows = found.output.chunks(width).take(found.count as usize);
         let ours: Rows = rows.map(<[u32]>::to_vec).collect();
-        let text = self.jena.text(question);
+        let text = answered(self.jena.text(question));
         if !ours.windows(2).all(|pair| pair[0] < pair[1]) {
             return Err(format!(
                 "{text}\nthe library's rows are not ascending and distinct"
             ));
         }
-        same(&text, &ours, self.jena.ask(question))?;
+        let theirs = answered(self.jena.ask(&Question::Words(question.to_vec())));
+        same(&text, &ours, theirs)?;
         self.seen.note(question, ours.len());
         Ok(())
     }
@@ -75,7 +78,8 @@ impl Peer {
         self.told = Default::default();
         let triples: Vec<Triple> = explicit.into_iter().flat_map(|t| rows_of(t)).collect();
         let kept: Rows = rows_of(&store.kept).map(|row| row.to_vec()).collect();
-        same("the facts that hold", &kept, self.jena.load(&triples))?;
+        answered(self.jena.load(&triples));
+        same("the facts that hold", &kept, answered(self.jena.facts()))?;
         self.told = explicit.map(Vec::clone);
         self.seen.stores += 1;
         self.seen.kept_rows += kept.len() as u64;
@@ -84,10 +88,15 @@ impl Peer {
 
     /// Gives Jena a file of rules, and forgets what was told and compared before.
     pub fn use_rules(&mut self, rules: &Path) {
-        self.jena.use_rules(rules);
+        answered(self.jena.use_rules(rules));
         self.told = Default::default();
         self.seen = Seen::default();
     }
+}
+
+/// What Jena answered; a trial in which it did not is none.
+fn answered<T>(answer: Result<T, String>) -> T {
+    answer.unwrap_or_else(|words| panic!("{words}"))
 }
 
 /// The rows of a well-formed table.

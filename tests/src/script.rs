@@ -5,6 +5,7 @@
 //!
 //!     empty S F K P             an empty store: words of each table, and support places
 //!     nulls on                  slices of no element are lent as null pointers; or `nulls off`
+//!     binding on                calls are made by the binding for Rust; or `binding off`
 //!     lend TABLE WORDS          lends one table's words; TABLE also: supports
 //!     add S P O                 and withdraw
 //!     deliver HEX               the bytes as hexadecimal digits, `-` for none
@@ -52,6 +53,7 @@ pub enum Command {
     Lend(Table, Vec<u32>),
     LendSupports(Vec<u16>),
     Nulls(bool),
+    Binding(bool),
     Call(Call),
     Expect(Expected),
 }
@@ -125,6 +127,14 @@ fn show_all(words: &[u32]) -> String {
     text
 }
 
+/// A switch as scripts write it.
+fn on_or_off(on: bool) -> &'static str {
+    match on {
+        true => "on",
+        false => "off",
+    }
+}
+
 fn widen(words: &[u16]) -> Vec<u32> {
     words.iter().map(|w| u32::from(*w)).collect()
 }
@@ -168,7 +178,8 @@ impl fmt::Display for Command {
             Command::LendSupports(words) => {
                 write!(f, "lend supports{}", show_all(&widen(words)))
             }
-            Command::Nulls(on) => write!(f, "nulls {}", if *on { "on" } else { "off" }),
+            Command::Nulls(on) => write!(f, "nulls {}", on_or_off(*on)),
+            Command::Binding(on) => write!(f, "binding {}", on_or_off(*on)),
             Command::Call(call) => call.fmt(f),
             Command::Expect(expected) => write!(f, "expect {expected}"),
         }
@@ -248,6 +259,10 @@ fn parse_bytes(text: &str) -> Option<Vec<u8>> {
         .collect()
 }
 
+fn parse_on(text: &str) -> Option<bool> {
+    [true, false].into_iter().find(|on| on_or_off(*on) == text)
+}
+
 fn parse_way(text: &str) -> Option<Way> {
     [Way::Kept, Way::Rewritten]
         .into_iter()
@@ -283,8 +298,8 @@ fn parse_command(texts: &[&str]) -> Option<Command> {
         ["lend", table, words @ ..] => {
             return Some(Command::Lend(parse_table(table)?, parse_words(words)?))
         }
-        ["nulls", "on"] => return Some(Command::Nulls(true)),
-        ["nulls", "off"] => return Some(Command::Nulls(false)),
+        ["nulls", on] => return Some(Command::Nulls(parse_on(on)?)),
+        ["binding", on] => return Some(Command::Binding(parse_on(on)?)),
         ["expect", rest @ ..] => return Some(Command::Expect(parse_expected(rest)?)),
         ["add", triple @ ..] => Call::Add(parse_triple(triple)?),
         ["withdraw", triple @ ..] => Call::Withdraw(parse_triple(triple)?),

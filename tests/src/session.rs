@@ -5,23 +5,16 @@ use crate::library::Library;
 use crate::model::ledger::Ledger;
 use crate::model::questions::write_rows;
 use crate::model::{Model, IDLE};
+use crate::outcome::Outcome;
 use crate::peer::Peer;
 use crate::script::{Call, Command, Expected, Way};
 use crate::store::{Store, Table};
 use std::collections::BTreeMap;
+use std::fmt;
 use std::fs::File;
 use std::io::Write;
 use std::path::PathBuf;
 use std::time::{Duration, Instant};
-
-/// What a call gave besides the tables.
-#[derive(Clone, Default, PartialEq)]
-pub struct Outcome {
-    pub number: u32,
-    pub result: [u32; 4],
-    pub count: u32,
-    pub output: Vec<u32>,
-}
 
 /// A difference, and the commands up to it.
 pub struct Failure {
@@ -97,6 +90,7 @@ pub struct Session<'a> {
 impl<'a> Session<'a> {
     pub fn new(harness: &'a mut Harness) -> Session<'a> {
         harness.library.null_when_empty = false;
+        harness.library.by_binding = false;
         let trace = harness.trace.as_ref();
         let trace = trace.map(|path| File::create(path).expect("the trace cannot be written"));
         Session {
@@ -157,6 +151,7 @@ impl<'a> Session<'a> {
                 self.ledger = None;
             }
             Command::Nulls(on) => self.harness.library.null_when_empty = on,
+            Command::Binding(on) => self.harness.library.by_binding = on,
             Command::Call(call) => self.compare(&call)?,
             Command::Expect(expected) => self.check(&expected)?,
         }
@@ -205,8 +200,10 @@ impl<'a> Session<'a> {
         let paper = "document 01";
         let last = &self.last;
         match expected {
-            Expected::Number(number) => differ("the answer", last.number, *number, paper),
-            Expected::Count(count) => differ("the row count", last.count, *count, paper),
+            Expected::Number(number) => {
+                differ("the answer", Answer(last.number), Answer(*number), paper)
+            }
+            Expected::Count(count) => differ("the row count", last.count, u64::from(*count), paper),
             Expected::Result(result) => differ_words("the result", &last.result, result, paper),
             Expected::Output(words) => differ_words("the output", &last.output, words, paper),
             Expected::Table(table, words) => {
@@ -223,14 +220,8 @@ impl Model {
     /// What the model says of a call.
     pub fn call(&self, store: &mut Store, call: &Call) -> Outcome {
         match call {
-            Call::Add(triple) => Outcome {
-                number: self.update(store, true, *triple),
-                ..Outcome::default()
-            },
-            Call::Withdraw(triple) => Outcome {
-                number: self.update(store, false, *triple),
-                ..Outcome::default()
-            },
+            Call::Add(triple) => Outcome::of(self.update(store, true, *triple)),
+            Call::Withdraw(triple) => Outcome::of(self.update(store, false, *triple)),
             Call::Deliver(bytes) => {
                 let (number, result) = self.deliver(store, bytes);
                 Outcome {
@@ -271,7 +262,7 @@ impl Model {
 }
 
 /// The outcome of a call with an output of rows.
-fn rows_outcome(write: impl FnOnce(&mut [u32]) -> (u32, u32), mut output: Vec<u32>) -> Outcome {
+fn rows_outcome(write: impl FnOnce(&mut [u32]) -> (u32, u64), mut output: Vec<u32>) -> Outcome {
     let (number, count) = write(&mut output);
     Outcome {
         number,
@@ -296,20 +287,26 @@ fn ledger_call(ledger: &mut Ledger, call: &Call) -> Option<Outcome> {
     })
 }
 
-/// An answer in words.
-fn answer(number: u32) -> String {
-    match number {
-        0 => "0".into(),
-        IDLE => "idle".into(),
-        number => format!("{number}"),
+/// An answer's number, as a difference shows it.
+#[derive(PartialEq)]
+struct Answer(u32);
+
+impl fmt::Display for Answer {
+    fn fmt(&self, f: &mut fmt::Formatter<'_>) -> fmt::Result {
+        match self.0 {
+            IDLE => write!(f, "idle"),
+            number => write!(f, "{number}"),
+        }
     }
 }
 
-fn differ(what: &str, found: u32, expected: u32, by: &str) -> Result<(), String> {
+fn differ<T>(what: &str, found: T, expected: T, by: &str) -> Result<(), String>
+where
+    T: PartialEq + fmt::Display,
+{
     if found == expected {
         return Ok(());
     }
-    let (found, expected) = (answer(found), answer(expected));
     Err(format!(
         "{what}: the library gives {found}, {by} {expected}"
     ))
@@ -317,7 +314,7 @@ fn differ(what: &str, found: u32, expected: u32, by: &str) -> Result<(), String>
 
 fn differ_words<T>(what: &str, found: &[T], expected: &[T], by: &str) -> Result<(), String>
 where
-    T: Copy + PartialEq + std::fmt::Display,
+    T: Copy + PartialEq + fmt::Display,
 {
     if found.len() != expected.len() {
         let (found, expected) = (found.len(), expected.len());
@@ -333,7 +330,12 @@ where
 }
 
 fn differ_outcome(found: &Outcome, expected: &Outcome, by: &str) -> Result<(), String> {
-    differ("the answer", found.number, expected.number, by)?;
+    differ(
+        "the answer",
+        Answer(found.number),
+        Answer(expected.number),
+        by,
+    )?;
     differ("the row count", found.count, expected.count, by)?;
     differ_words("the result", &found.result, &expected.result, by)?;
     differ_words("the output", &found.output, &expected.output, by)

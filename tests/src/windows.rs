@@ -8,7 +8,7 @@ use crate::model::terms::*;
 use crate::script::{Call, Command, Expected, Output, Way};
 use crate::session::{Failure, Harness, Session};
 use crate::store::{Store, Table};
-use crate::workload::question;
+use workload::question;
 
 /// The pairs of a key and a row that the library gathers at once.
 const PAIRS: u32 = 65_520;

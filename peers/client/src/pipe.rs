@@ -27,7 +27,11 @@ pub struct Answer {
 impl Answer {
     /// The numbers on the last line, as times in nanoseconds.
     pub fn times(&self) -> Vec<Duration> {
-        self.last.split_whitespace().filter_map(|word| word.parse().ok()).map(Duration::from_nanos).collect()
+        self.last
+            .split_whitespace()
+            .filter_map(|word| word.parse().ok())
+            .map(Duration::from_nanos)
+            .collect()
     }
 }
 
@@ -37,12 +41,21 @@ impl Pipe {
         let started = command.stdin(Stdio::piped()).stdout(Stdio::piped()).spawn();
         let mut child = started.map_err(|error| format!("{name} could not be started: {error}"))?;
         let (input, output) = (child.stdin.take(), child.stdout.take().expect("a pipe"));
-        Ok(Pipe { name, child, input, output: BufReader::new(output) })
+        Ok(Pipe {
+            name,
+            child,
+            input,
+            output: BufReader::new(output),
+        })
     }
 
     /// Sends a request, whole lines, and reads the answer up to its last line, which starts with "ok".
     pub fn call(&mut self, request: &str) -> Outcome<Answer> {
-        let sent = self.input.as_mut().expect("a running program").write_all(request.as_bytes());
+        let sent = self
+            .input
+            .as_mut()
+            .expect("a running program")
+            .write_all(request.as_bytes());
         sent.map_err(|error| self.fault(request, &error.to_string()))?;
         let mut rows = Rows::new();
         loop {
@@ -53,7 +66,10 @@ impl Pipe {
                 Ok(_) => {}
             }
             if let Some(rest) = line.strip_prefix("ok") {
-                return Ok(Answer { rows, last: rest.trim().to_string() });
+                return Ok(Answer {
+                    rows,
+                    last: rest.trim().to_string(),
+                });
             }
             let row: Result<Vec<u32>, _> = line.split_whitespace().map(str::parse).collect();
             rows.push(row.map_err(|_| self.fault(request, &line))?);
@@ -62,14 +78,23 @@ impl Pipe {
 
     /// What is said where the program did not answer a request.
     fn fault(&self, request: &str, what: &str) -> String {
-        let first: String = request.lines().next().unwrap_or_default().chars().take(200).collect();
+        let first: String = request
+            .lines()
+            .next()
+            .unwrap_or_default()
+            .chars()
+            .take(200)
+            .collect();
         format!("{}: {}, when asked: {first}", self.name, what.trim())
     }
 
     /// Sends a request whose answer is one time in nanoseconds.
     pub fn time(&mut self, request: &str) -> Outcome<Duration> {
         let times = self.call(request)?.times();
-        times.first().copied().ok_or_else(|| self.fault(request, "no time"))
+        times
+            .first()
+            .copied()
+            .ok_or_else(|| self.fault(request, "no time"))
     }
 
     /// Has a server of the line protocol load triples into an empty store, and work out what holds: how long the two take.
@@ -90,6 +115,10 @@ impl Drop for Pipe {
 /// A command with the lines of its triples.
 pub fn with_triples(command: &str, triples: &[[u32; 3]]) -> String {
     let mut text = format!("{command} {}\n", triples.len());
-    text.extend(triples.iter().map(|t| format!("{} {} {}\n", t[0], t[1], t[2])));
+    text.extend(
+        triples
+            .iter()
+            .map(|t| format!("{} {} {}\n", t[0], t[1], t[2])),
+    );
     text
 }

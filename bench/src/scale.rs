@@ -1,0 +1,34 @@
+//! How large a run is.
+
+/// How much is measured.
+pub struct Scale {
+    /// The facts of the store for questions and updates.
+    pub facts: usize,
+    /// The sizes through which a store grows.
+    pub sizes: Vec<usize>,
+    /// Of how many loads or updates, and of how many answers, a time is the median.
+    pub rounds: usize,
+    pub runs: usize,
+    /// The facts and statements withdrawn and added, and the facts at each size of a growing store.
+    pub changed: [usize; 2],
+    pub changed_growing: usize,
+}
+
+impl Scale {
+    /// What the documents show.
+    pub fn full() -> Scale {
+        Scale {
+            facts: 20_000,
+            sizes: vec![5_000, 10_000, 20_000, 40_000, 65_000],
+            rounds: 5,
+            runs: 11,
+            changed: [1_000, 20],
+            changed_growing: 10,
+        }
+    }
+
+    /// A trial of the program.
+    pub fn quick() -> Scale {
+        Scale { facts: 2_000, sizes: vec![500, 1_000, 2_000], rounds: 2, runs: 3, changed: [100, 4], changed_growing: 5 }
+    }
+}

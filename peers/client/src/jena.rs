@@ -1,0 +1,96 @@
+//! Apache Jena: the server of peers/jena, asked by lines.
+
+use crate::pipe::{with_triples, Outcome, Pipe, Rows};
+use std::path::Path;
+use std::process::Command;
+use std::time::Duration;
+
+/// What starts the server, as `make jena` writes it; its paths are those of the repository.
+const ARGUMENTS: &str = "@target/jena/server";
+
+/// The running server.
+pub struct Jena {
+    pipe: Pipe,
+}
+
+/// A question as the server takes it.
+pub enum Question {
+    /// The words of a question, which is put to all that holds.
+    Words(Vec<u32>),
+    /// SPARQL among the explicit triples, where w and a word stand for a node.
+    Explicit(String),
+}
+
+impl Question {
+    /// The end of a command's name, and the question as the command has it.
+    fn parts(&self) -> (&'static str, String) {
+        match self {
+            Question::Words(words) => ("", joined(words)),
+            Question::Explicit(text) => ("-explicit", text.clone()),
+        }
+    }
+}
+
+impl Jena {
+    /// Starts the server, with an empty store.
+    pub fn start() -> Outcome<Jena> {
+        let pipe = Pipe::start("Jena", Command::new("java").arg(ARGUMENTS))?;
+        Ok(Jena { pipe })
+    }
+
+    /// Takes a file of rules, and an empty store.
+    pub fn use_rules(&mut self, rules: &Path) -> Outcome<()> {
+        self.pipe.call(&format!("rules {}\n", rules.display()))?;
+        Ok(())
+    }
+
+    /// Makes these the explicit triples, and works out what holds: how long the two take.
+    pub fn load(&mut self, triples: &[[u32; 3]]) -> Outcome<Duration> {
+        self.pipe.load(triples)
+    }
+
+    /// Puts triples in, what holds kept up to date: how long that takes.
+    pub fn add(&mut self, triples: &[[u32; 3]]) -> Outcome<Duration> {
+        self.pipe.time(&with_triples("add", triples))
+    }
+
+    /// Takes triples out and works out afresh what holds: how long the two take. Jena's own upkeep
+    /// of a deletion loses rows.
+    pub fn withdraw(&mut self, triples: &[[u32; 3]]) -> Outcome<Duration> {
+        let withdrawn = self.pipe.time(&with_triples("withdraw", triples))?;
+        Ok(withdrawn + self.pipe.time("work\n")?)
+    }
+
+    /// The facts that hold, ascending. The server lists one twice that followed before it became
+    /// explicit.
+    pub fn facts(&mut self) -> Outcome<Rows> {
+        let mut rows = self.pipe.call("facts\n")?.rows;
+        rows.sort();
+        rows.dedup();
+        Ok(rows)
+    }
+
+    /// The rows of a question, in Jena's order.
+    pub fn ask(&mut self, question: &Question) -> Outcome<Rows> {
+        let (end, text) = question.parts();
+        Ok(self.pipe.call(&format!("ask{end} {text}\n"))?.rows)
+    }
+
+    /// Answers a question so many times: how long each time takes.
+    pub fn times(&mut self, question: &Question, runs: usize) -> Outcome<Vec<Duration>> {
+        let (end, text) = question.parts();
+        let answer = self.pipe.call(&format!("time{end} {runs} {text}\n"))?;
+        Ok(answer.times()[1..].to_vec())
+    }
+
+    /// The SPARQL text that Jena is given for the words of a question.
+    pub fn text(&mut self, words: &[u32]) -> Outcome<String> {
+        Ok(self.pipe.call(&format!("text {}\n", joined(words)))?.last)
+    }
+}
+
+/// Words with a space between them.
+fn joined(words: &[u32]) -> String {
+    let words: Vec<String> = words.iter().map(u32::to_string).collect();
+    words.join(" ")
+}
