@@ -10,7 +10,7 @@ use Rattle.rdf.specs.declared.Triple.{Triple}
 use Rattle.rdf.specs.Triple.{isAllowedStatement, isAllowedFact}
 use Rattle.rdf.specs.Order.{compareTriples, equalTriples, choose, Ascending, insert, remove}
 use Rattle.rdf.proofs.Order.{choose-elim, choose-yes, byOrder-elim}
-use Rattle.rdfs.specs.Entailment.{Holds, Carries, NoVocabulary}
+use Rattle.rdfs.specs.Entailment.{Holds, HoldsBy, NoVocabulary}
 use Rattle.rdfs.specs.Closure.{isIn, carried}
 use Rattle.rdfs.specs.Saturation.{carriers, support, Kept, lookup, raiseAll, lowerAll, saturation, keptRows, keptSupports}
 use Rattle.rdfs.proofs.Sets.{Distinct, ascending-distinct}
@@ -154,7 +154,7 @@ support-is S [] t = refl
 support-is S (f ∷ F) t = bit-length (isIn equalTriples t (carried S f)) f (carriers S F t) (support-is S F t)
 
 -- which are exactly the facts of F that carry t,
-pub carriers-iff : (S F : List Triple) (t f : Triple) → NoVocabulary S → List·Memᴰ f (carriers S F t) ↔ (List·Memᴰ f F × Carries S f t)
+pub carriers-iff : (S F : List Triple) (t f : Triple) → NoVocabulary S → List·Memᴰ f (carriers S F t) ↔ (List·Memᴰ f F × HoldsBy S f t)
 carriers-iff S F t f w = (λ m. let r = carriers-out S F t f m in (r .0, carried-iff S f t w .0 (r .1)), λ h. carriers-in S F t f (h .0) (carried-iff S f t w .1 (h .1)))
 
 -- each once, as in F,
