@@ -2,7 +2,7 @@
 -- explicit statement and its second a fact, and no statement is gained: two narrowings that are proved here, not assumed. Assumes nothing.
 use mathlib.Core.Path.{_≡_, refl, sym, _∙_}
 use mathlib.Core.Bool.{true, false}
-use mathlib.Core.List.{List, [], _∷_, _++_, List·Memᴰ, List·Memᴰ·eq-of-singleton, List·Memᴰ·append-cases, Memᴰ·append-left, Memᴰ·append-right}
+use mathlib.Core.List.{List, [], _∷_, _++_, List·Memᴰ, List·Memᴰ·head, List·Memᴰ·tail, List·Memᴰ·eq-of-singleton, List·Memᴰ·append-cases, Memᴰ·append-left, Memᴰ·append-right}
 use mathlib.Core.Logic.{_↔_, inl, inr, ⊎-elim}
 use Prim.Native.Nat.{ℕ, _≤_, _<_}
 use native.Mathlib.Omega.{arith}
@@ -16,6 +16,37 @@ use Rattle.rdf.proofs.Ascending.{and-left, and-right}
 use Rattle.rdfs.specs.Follows.{Rule, Follows, by-rule, FollowsAsFact, Carries}
 use Rattle.rdfs.specs.Entailment.{Holds, HoldsBy, InGraph}
 use Rattle.rdfs.proofs.Entailment.{allowed-fact, allowed-no-vocabulary, not-vocabulary, holds-allowed}
+
+-- ---- each rule on a small graph of document 01's numbers
+
+-- What a rule gives of the two triples of a graph.
+abbrev Given : Triple → Triple → Triple → Type 0
+Given r s t = Follows (r ∷ s ∷ []) t
+
+-- A domain gives the subject its class,
+pub domain-given : Given (triple 20 4 17) (triple 32 20 33) (triple 32 1 17)
+unfolding isUri isBlank isLiteral isTriple
+domain-given = by-rule (Follows.explicit (List·Memᴰ·head refl)) (Follows.explicit (List·Memᴰ·tail (List·Memᴰ·head refl))) Rule.rdfs2 refl
+
+-- a range the object,
+pub range-given : Given (triple 20 5 16) (triple 32 20 33) (triple 33 1 16)
+unfolding isUri isBlank isLiteral isTriple
+range-given = by-rule (Follows.explicit (List·Memᴰ·head refl)) (Follows.explicit (List·Memᴰ·tail (List·Memᴰ·head refl))) Rule.rdfs3 refl
+
+-- also where that is a blank.
+pub blank-given : Given (triple 20 5 16) (triple 32 20 0x40000001) (triple 0x40000001 1 16)
+unfolding isUri isBlank isLiteral isTriple
+blank-given = by-rule (Follows.explicit (List·Memᴰ·head refl)) (Follows.explicit (List·Memᴰ·tail (List·Memᴰ·head refl))) Rule.rdfs3 refl
+
+-- A subproperty gives the property that it is below,
+pub subproperty-given : Given (triple 19 3 20) (triple 32 19 33) (triple 32 20 33)
+unfolding isUri isBlank isLiteral isTriple
+subproperty-given = by-rule (Follows.explicit (List·Memᴰ·head refl)) (Follows.explicit (List·Memᴰ·tail (List·Memᴰ·head refl))) Rule.rdfs7 refl
+
+-- and a subclass the class.
+pub subclass-given : Given (triple 16 2 17) (triple 32 1 16) (triple 32 1 17)
+unfolding isUri isBlank isLiteral isTriple
+subclass-given = by-rule (Follows.explicit (List·Memᴰ·head refl)) (Follows.explicit (List·Memᴰ·tail (List·Memᴰ·head refl))) Rule.rdfs9 refl
 
 -- ---- of any graph
 
