@@ -95,12 +95,12 @@ unfolding isTriple
 subject-no-literal t e = resource-no-literal (t .subject) (and-left _ _ (and-left _ _ e))
 
 -- A statement has one of the properties 2 to 5,
-statement-property : (t : Triple) → isStatement t ≡ true → (2 ≤ t .property) × (t .property ≤ 5)
+pub statement-property : (t : Triple) → isStatement t ≡ true → (2 ≤ t .property) × (t .property ≤ 5)
 unfolding isStatement
 statement-property t e = (leb-true 2 (t .property) (and-left _ _ e), leb-true (t .property) 5 (and-right (leb 2 (t .property)) _ e))
 
 -- and an allowed statement is one.
-allowed-statement : (t : Triple) → isAllowedStatement t ≡ true → isStatement t ≡ true
+pub allowed-statement : (t : Triple) → isAllowedStatement t ≡ true → isStatement t ≡ true
 unfolding isAllowedStatement
 allowed-statement t e = and-left _ _ (and-right (isTriple t) _ e)
 
