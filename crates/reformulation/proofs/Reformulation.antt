@@ -40,7 +40,7 @@ gives-holds (by-range u m r e) h (Gives.of-object l) = up-classes (rdfs3 m l (up
 gives-holds (by-subproperty r n e) h a-property = up-properties h r
 
 -- What the alternatives give holds.
-pub reformulated-holds : (S F : List Triple) (a t : Triple) → Reformulated S F a t → Holds S F t
+reformulated-holds : (S F : List Triple) (a t : Triple) → Reformulated S F a t → Holds S F t
 reformulated-holds S F a t r = gives-holds (r .alternative) (explicit (r .listed)) (r .gives)
 
 -- ---- complete
@@ -98,7 +98,7 @@ of-part S F a t f m e (as-object p q l r) =
     to-object S F a t f m e (r .start) (s .start) l (properties-iff S f (s .start) .0 (s .listed)) (s .stated) p q (r .path)
 
 -- What holds and is admitted by the atom, some alternative gives.
-pub holds-reformulated : (S F : List Triple) (a t : Triple) → NoVocabulary S → admitsTriple a t ≡ true → Holds S F t → Reformulated S F a t
+holds-reformulated : (S F : List Triple) (a t : Triple) → NoVocabulary S → admitsTriple a t ≡ true → Holds S F t → Reformulated S F a t
 holds-reformulated S F a t w e h =
     let c = holds-iff-carried S F t .0 h in
     of-part S F a t (c .fact) (c .explicit-fact) e (carried-part S (c .fact) t .0 (carried-iff S (c .fact) t w .1 (c .carries)))
