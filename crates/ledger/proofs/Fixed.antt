@@ -28,7 +28,7 @@ carriers-unique : {S F : List Triple} {t : Triple} (fs gs : List Triple) → Car
 carriers-unique fs gs x y = ascending-ext fs gs (x .ascend) (y .ascend) (λ f. (λ m. y .exactly f .1 (x .exactly f .0 m), λ m. x .exactly f .1 (y .exactly f .0 m)))
 
 -- and so do the supports of some rows.
-supports-unique : {S F K : List Triple} {U V : List ℕ} → Supported S F K U → Supported S F K V → U ≡ V
+supports-unique : {S F K : List Triple} {U W : List ℕ} → Supported S F K U → Supported S F K W → U ≡ W
 supports-unique none none = refl
 supports-unique (row {fs} c x) (row {fs = gs} d y) = ap₂ _∷_ (ap length (carriers-unique fs gs c d)) (supports-unique x y)
 
@@ -52,8 +52,8 @@ no-both : {A : Type 0} (b : Bool) → b ≡ true → b ≡ false → A
 no-both b e f = absurd (true-not-false (sym e ∙ f))
 
 -- Rows do not both fit and exceed the room.
-no-room : {A : Type 0} {m len : ℕ} (R Q : List (List ℕ)) → R ≡ Q → length R * m ≤ len → len < length Q * m → A
-no-room {m} {len} R Q e h k = let l : len < length R * m = rw e k in absurd (omega arith)
+no-room : {A : Type 0} (m len : ℕ) (R Q : List (List ℕ)) → R ≡ Q → length R * m ≤ len → len < length Q * m → A
+no-room m len R Q e h k = let l : len < length R * m = rw e k in absurd (omega arith)
 
 module _ {G : Triple → Type 0} {q : List ℕ} {len : ℕ} where
   -- A refusal by 6 is the one reply,
@@ -75,13 +75,13 @@ module _ {G : Triple → Type 0} {q : List ℕ} {len : ℕ} where
   only-rows R e f x h (Replies.refused-6 i) = no-both (isQuestion q) e i
   only-rows R e f x h (Replies.refused-7 _ j) = no-both (isHeadBound q) f j
   only-rows R e f x h (Replies.given {R = Q} _ _ y _) = ap (λ (P : List (List ℕ)). replied (Rows (length P)) (filled len P)) (rows-unique R Q x y)
-  only-rows R e f x h (Replies.refused-8 {R = Q} _ _ y k) = no-room R Q (rows-unique R Q x y) h k
+  only-rows R e f x h (Replies.refused-8 {R = Q} _ _ y k) = no-room (headCount q) len R Q (rows-unique R Q x y) h k
 
   -- and a refusal by 8.
   only-8 : {b : Replied} (R : List (List ℕ)) → isQuestion q ≡ true → isHeadBound q ≡ true → RowsOf G q R → len < length R * headCount q → Replies G q len b → replied (Refused 8) (replicate len 0) ≡ b
   only-8 R e f x h (Replies.refused-6 i) = no-both (isQuestion q) e i
   only-8 R e f x h (Replies.refused-7 _ j) = no-both (isHeadBound q) f j
-  only-8 R e f x h (Replies.given {R = Q} _ _ y k) = no-room Q R (rows-unique Q R y x) k h
+  only-8 R e f x h (Replies.given {R = Q} _ _ y k) = no-room (headCount q) len Q R (rows-unique Q R y x) k h
   only-8 R e f x h (Replies.refused-8 _ _ _ _) = refl
 
   -- So a question has one reply.
