@@ -2,20 +2,20 @@
 use Prim.Native.Nat.{ℕ, _*_, _≤_, _<_}
 use mathlib.Core.Path.{_≡_, refl, sym, ap, ap₂, _∙_}
 use mathlib.Core.Bool.{Bool, true, false}
-use mathlib.Core.List.{List, _∷_, List·Memᴰ}
+use mathlib.Core.List.{List, _∷_}
 use native.Mathlib.Omega.{arith}
-use lib.ListN.{length, replicate}
+use lib.ListN.{length}
 use Rattle.rdf.specs.declared.Triple.{Triple}
 use Rattle.rdf.proofs.Lists.{true-not-false}
 use Rattle.rdf.proofs.Ascending.{ascending-ext}
 use Rattle.rows.proofs.Ordered as sorted-rows
 use Rattle.table.specs.Table.{layout, supportLayout}
-use Rattle.output.specs.declared.Reply.the-variants.{Rows, Refused}
+use Rattle.output.specs.declared.Reply.the-variants.{Rows}
 use Rattle.output.specs.Output.{Replied, replied, filled}
 use Rattle.update.specs.Store.{Tables, tables}
 use Rattle.query.specs.Question.{headCount, isQuestion, isHeadBound}
 use Rattle.ledger.specs.Ledger.{Ledger, Run, run}
-use Rattle.ledger.specs.History.{graphOf, FactsFrom, CarriersOf, Supported, none, row, RowsOf, Replies, Demand3}
+use Rattle.ledger.specs.History.{FactsFrom, CarriersOf, Supported, none, row, RowsOf, Replies, refused-6, refused-7, given, refused-8, Demand3}
 
 -- ---- the tables
 
@@ -55,38 +55,21 @@ no-both b e f = absurd (true-not-false (sym e ∙ f))
 no-room : {A : Type 0} (m len : ℕ) (R Q : List (List ℕ)) → R ≡ Q → length R * m ≤ len → len < length Q * m → A
 no-room m len R Q e h k = let l : len < length R * m = rw e k in absurd (omega arith)
 
-module _ {G : Triple → Type 0} {q : List ℕ} {len : ℕ} where
-  -- A refusal by 6 is the one reply,
-  only-6 : {b : Replied} → isQuestion q ≡ false → Replies G q len b → replied (Refused 6) (replicate len 0) ≡ b
-  only-6 e (Replies.refused-6 _) = refl
-  only-6 e (Replies.refused-7 i _) = no-both (isQuestion q) i e
-  only-6 e (Replies.given i _ _ _) = no-both (isQuestion q) i e
-  only-6 e (Replies.refused-8 i _ _ _) = no-both (isQuestion q) i e
-
-  -- one by 7,
-  only-7 : {b : Replied} → isQuestion q ≡ true → isHeadBound q ≡ false → Replies G q len b → replied (Refused 7) (replicate len 0) ≡ b
-  only-7 e f (Replies.refused-6 i) = no-both (isQuestion q) e i
-  only-7 e f (Replies.refused-7 _ _) = refl
-  only-7 e f (Replies.given _ j _ _) = no-both (isHeadBound q) j f
-  only-7 e f (Replies.refused-8 _ j _ _) = no-both (isHeadBound q) j f
-
-  -- rows that fit,
-  only-rows : {b : Replied} (R : List (List ℕ)) → isQuestion q ≡ true → isHeadBound q ≡ true → RowsOf G q R → length R * headCount q ≤ len → Replies G q len b → replied (Rows (length R)) (filled len R) ≡ b
-  only-rows R e f x h (Replies.refused-6 i) = no-both (isQuestion q) e i
-  only-rows R e f x h (Replies.refused-7 _ j) = no-both (isHeadBound q) f j
-  only-rows R e f x h (Replies.given {R = Q} _ _ y _) = ap (λ (P : List (List ℕ)). replied (Rows (length P)) (filled len P)) (rows-unique R Q x y)
-  only-rows R e f x h (Replies.refused-8 {R = Q} _ _ y k) = no-room (headCount q) len R Q (rows-unique R Q x y) h k
-
-  -- and a refusal by 8.
-  only-8 : {b : Replied} (R : List (List ℕ)) → isQuestion q ≡ true → isHeadBound q ≡ true → RowsOf G q R → len < length R * headCount q → Replies G q len b → replied (Refused 8) (replicate len 0) ≡ b
-  only-8 R e f x h (Replies.refused-6 i) = no-both (isQuestion q) e i
-  only-8 R e f x h (Replies.refused-7 _ j) = no-both (isHeadBound q) f j
-  only-8 R e f x h (Replies.given {R = Q} _ _ y k) = no-room (headCount q) len Q R (rows-unique Q R y x) k h
-  only-8 R e f x h (Replies.refused-8 _ _ _ _) = refl
-
-  -- So a question has one reply.
-  pub replies-unique : {a b : Replied} → Replies G q len a → Replies G q len b → a ≡ b
-  replies-unique (Replies.refused-6 e) y = only-6 e y
-  replies-unique (Replies.refused-7 e f) y = only-7 e f y
-  replies-unique (Replies.given {R} e f x h) y = only-rows R e f x h y
-  replies-unique (Replies.refused-8 {R} e f x h) y = only-8 R e f x h y
+-- So a question has one reply.
+pub replies-unique : {G : Triple → Type 0} {q : List ℕ} {len : ℕ} {a b : Replied} → Replies G q len a → Replies G q len b → a ≡ b
+replies-unique (refused-6 e) (refused-6 _) = refl
+replies-unique {q} (refused-6 e) (refused-7 i _) = no-both (isQuestion q) i e
+replies-unique {q} (refused-6 e) (given i _ _ _) = no-both (isQuestion q) i e
+replies-unique {q} (refused-6 e) (refused-8 i _ _ _) = no-both (isQuestion q) i e
+replies-unique {q} (refused-7 e f) (refused-6 i) = no-both (isQuestion q) e i
+replies-unique (refused-7 e f) (refused-7 _ _) = refl
+replies-unique {q} (refused-7 e f) (given _ j _ _) = no-both (isHeadBound q) j f
+replies-unique {q} (refused-7 e f) (refused-8 _ j _ _) = no-both (isHeadBound q) j f
+replies-unique {q} (given e f x h) (refused-6 i) = no-both (isQuestion q) e i
+replies-unique {q} (given e f x h) (refused-7 _ j) = no-both (isHeadBound q) f j
+replies-unique {len} (given {R} e f x h) (given {R = Q} _ _ y _) = ap (λ (P : List (List ℕ)). replied (Rows (length P)) (filled len P)) (rows-unique R Q x y)
+replies-unique {q} {len} (given {R} e f x h) (refused-8 {R = Q} _ _ y k) = no-room (headCount q) len R Q (rows-unique R Q x y) h k
+replies-unique {q} (refused-8 e f x h) (refused-6 i) = no-both (isQuestion q) e i
+replies-unique {q} (refused-8 e f x h) (refused-7 _ j) = no-both (isHeadBound q) f j
+replies-unique {q} {len} (refused-8 {R} e f x h) (given {R = Q} _ _ y k) = no-room (headCount q) len Q R (rows-unique Q R y x) k h
+replies-unique (refused-8 e f x h) (refused-8 _ _ _ _) = refl

@@ -21,12 +21,12 @@ use Rattle.store.proofs.Laws.{Saturated, empty-sound, empty-contents}
 use Rattle.query.specs.Answer.{rewrittenGraph}
 use Rattle.query.specs.Ask.{ask, askKept, askRewritten}
 use Rattle.query.proofs.AnswerLaws.{rewritten-graph, kept-rewritten}
-use Rattle.ledger.specs.Ledger.{Call, capacities, Ledger, empty, entering, leaving, ledgerEntries}
+use Rattle.ledger.specs.Ledger.{Call, capacities, Ledger, empty, ledgerEntries}
 use Rattle.ledger.specs.History.{storeEntries, emptyStore, storeRun, ledgerRun, graphOf, Replies, Demand3}
 use Rattle.ledger.proofs.Alike.{RunsAlike, calls-alike}
 use Rattle.ledger.proofs.Agreement.{held, Agrees, entries-agree}
-use Rattle.ledger.proofs.Allowed.{Allowed, rows-follow, rows-supported, fits-by, entering-allowed, leaving-allowed}
-use Rattle.ledger.proofs.Asked.{asked-replies}
+use Rattle.ledger.proofs.Sets.{Allowed, rows-follow, rows-supported, fits-by, entering-allowed, leaving-allowed}
+use Rattle.ledger.proofs.Replying.{asked-replies}
 
 -- ---- the runs
 

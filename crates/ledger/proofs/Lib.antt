@@ -1,7 +1,7 @@
 pub mod Alike
 pub mod Agreement
-pub mod Allowed
-pub mod Asked
+pub mod Sets
+pub mod Replying
 pub mod History
 pub mod Fixed
 pub mod Instances

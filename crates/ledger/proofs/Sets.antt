@@ -4,12 +4,12 @@ use Prim.Native.Nat.{ℕ}
 use mathlib.Core.Path.{_≡_, refl, sym, _∙_}
 use mathlib.Core.Bool.{Bool, true, false, cond}
 use mathlib.Core.Logic.{⊎-elim}
-use mathlib.Core.List.{List, [], _∷_, _++_, List·Memᴰ, List·Memᴰ·head, List·Memᴰ·tail}
+use mathlib.Core.List.{List, [], _∷_, List·Memᴰ, List·Memᴰ·head, List·Memᴰ·tail}
 use native.Mathlib.Omega.{arith}
 use lib.ListN.{length}
 use Rattle.rdf.specs.declared.Triple.{Triple}
 use Rattle.rdf.specs.Triple.{isTriple, isStatement, areSidesAllowed, isAllowedStatement, isAllowedFact}
-use Rattle.rdf.specs.Order.{Ascending, insert, remove}
+use Rattle.rdf.specs.Order.{Ascending, insert}
 use Rattle.rdf.specs.Refusal.{firstNo, tripleQuestions}
 use Rattle.rdf.proofs.Lists.{by-test}
 use Rattle.rdf.proofs.Ascending.{insert-asc, insert-cases, remove-asc, remove-sub}
@@ -19,7 +19,7 @@ use Rattle.rdfs.proofs.Entailment.{allowed-no-vocabulary}
 use Rattle.rdfs.proofs.Follows.{follows-fact-iff, carries-iff}
 use Rattle.rdfs.proofs.Kept.{length-keptRows, lookup-entry}
 use Rattle.rdfs.proofs.Saturation.{saturation-counts, saturation-support, support-is, carriers-iff, carriers-ascend, saturation-kept, saturation-ascends}
-use Rattle.ledger.specs.Ledger.{Capacities, Ledger, ledger, entering, leaving, isFitting}
+use Rattle.ledger.specs.Ledger.{Capacities, Ledger, entering, leaving, isFitting}
 use Rattle.ledger.specs.History.{graphOf, FactsFrom, CarriersOf, Supported, none, row, FitsBy}
 
 -- Both sets ascend and hold allowed rows alone.
