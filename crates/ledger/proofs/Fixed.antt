@@ -14,14 +14,15 @@ use Rattle.output.specs.declared.Reply.the-variants.{Rows}
 use Rattle.output.specs.Output.{Replied, replied, filled}
 use Rattle.update.specs.Store.{Tables, tables}
 use Rattle.query.specs.Question.{headCount, isQuestion, isHeadBound}
+use Rattle.query.specs.Ask.{askKept, askRewritten}
 use Rattle.ledger.specs.Ledger.{Ledger, Run, run}
 use Rattle.ledger.specs.History.{FactsFrom, CarriersOf, Supported, none, row, RowsOf, Replies, refused-6, refused-7, given, refused-8, Demand3}
 
 -- ---- the tables
 
 -- The facts that follow make one list,
-pub facts-unique : {G : List Triple} (K J : List Triple) → FactsFrom G K → FactsFrom G J → K ≡ J
-facts-unique K J x y = ascending-ext K J (x .ascend) (y .ascend) (λ t. (λ m. y .exactly t .1 (x .exactly t .0 m), λ m. x .exactly t .1 (y .exactly t .0 m)))
+pub facts-unique : {G : List Triple} (K H : List Triple) → FactsFrom G K → FactsFrom G H → K ≡ H
+facts-unique K H x y = ascending-ext K H (x .ascend) (y .ascend) (λ t. (λ m. y .exactly t .1 (x .exactly t .0 m), λ m. x .exactly t .1 (y .exactly t .0 m)))
 
 -- so do the facts that carry a row,
 carriers-unique : {S F : List Triple} {t : Triple} (fs gs : List Triple) → CarriersOf S F t fs → CarriersOf S F t gs → fs ≡ gs
@@ -73,3 +74,8 @@ replies-unique {q} (refused-8 e f x h) (refused-6 i) = no-both (isQuestion q) e 
 replies-unique {q} (refused-8 e f x h) (refused-7 _ j) = no-both (isHeadBound q) f j
 replies-unique {q} {len} (refused-8 {R} e f x h) (given {R = Q} _ _ y k) = no-room (headCount q) len Q R (rows-unique Q R y x) k h
 replies-unique (refused-8 e f x h) (refused-8 _ _ _ _) = refl
+
+-- Where the claim holds, both ways reply alike to every question.
+pub ways-agree : {s f k u : ℕ} {L : Run Ledger} (T : Run Tables) → Demand3 s f k u L T → (q : List ℕ) (len : ℕ)
+    → askKept (T .after .statements) (T .after .kept) q len ≡ askRewritten (T .after .statements) (T .after .facts) q len
+ways-agree T D q len = replies-unique (D .kept-way q len) (D .rewritten-way q len)
