@@ -1,31 +1,32 @@
 -- Demand 3: over every list of calls from an empty store, the store gives and holds what the ledger does. Assumes nothing.
 use Prim.Native.Nat.{ℕ, _<_}
-use mathlib.Core.Path.{_≡_, refl, sym, ap, _∙_}
-use mathlib.Core.List.{List}
+use mathlib.Core.Path.{_≡_, refl, sym, ap, _∙_, subst}
+use mathlib.Core.Bool.{true}
+use mathlib.Core.Logic.{_↔_}
+use mathlib.Core.List.{List, List·Memᴰ}
 use lib.ListN.{length, length-replicate}
 use Rattle.rdf.specs.declared.Triple.{Triple}
-use Rattle.rdf.specs.Refusal.{firstNo}
 use Rattle.table.specs.Table.{rows, layout, supportLayout}
 use Rattle.table.specs.Laid.{FormedStore}
 use Rattle.table.proofs.Formed.{wellFormed-isTable}
 use Rattle.table.proofs.Store.{isStore-formed}
-use Rattle.rdfs.specs.Entailment.{NoVocabulary}
+use Rattle.rdfs.specs.Follows.{Follows}
 use Rattle.rdfs.specs.Saturation.{saturation, keptRows, keptSupports}
 use Rattle.rdfs.proofs.Entailment.{allowed-no-vocabulary}
-use Rattle.rdfs.proofs.Saturation.{saturation-kept, saturation-support, support-is}
-use Rattle.update.specs.Store.{Tables, tables, contents, contentsOf}
+use Rattle.rdfs.proofs.Follows.{follows-iff}
+use Rattle.update.specs.Store.{Tables, tables, contentsOf}
 use Rattle.kept.proofs.Formed.{keptRows-keptOf}
-use Rattle.store.proofs.Fitting.{Fitting, formed-fitting, supports-are}
+use Rattle.store.proofs.Fitting.{formed-fitting, supports-are}
 use Rattle.store.proofs.Laws.{Saturated, empty-sound, empty-contents}
-use Rattle.query.specs.Question.{atoms, head}
-use Rattle.query.specs.Answer.{IsAnswer, rewrittenGraph}
+use Rattle.query.specs.Answer.{rewrittenGraph}
 use Rattle.query.specs.Ask.{ask, askKept, askRewritten}
-use Rattle.query.proofs.Meaning.{answers-iff}
-use Rattle.query.proofs.AnswerLaws.{answers-ascend, head-stands, rewritten-graph, kept-rewritten}
+use Rattle.query.proofs.AnswerLaws.{rewritten-graph, kept-rewritten}
 use Rattle.ledger.specs.Ledger.{Call, capacities, Ledger, empty, ledgerEntries}
-use Rattle.ledger.specs.History.{storeEntries, emptyStore, storeRun, ledgerRun, laidOut, ledgerReply, Demand3, Meaning}
+use Rattle.ledger.specs.History.{storeEntries, emptyStore, storeRun, ledgerRun, graphOf, Replies, Demand3}
 use Rattle.ledger.proofs.Alike.{RunsAlike, calls-alike}
 use Rattle.ledger.proofs.Agreement.{held, Agrees, entries-agree}
+use Rattle.ledger.proofs.Sets.{Allowed, rows-follow, rows-supported, fits-by, entering-allowed, leaving-allowed}
+use Rattle.ledger.proofs.Replying.{asked-replies}
 
 -- ---- the runs
 
@@ -61,6 +62,12 @@ module _ {S F K U : List ℕ} (W : FormedStore S F K U) (e : Saturated (contents
 tables-eq : {S S' F F' K K' U U' : List ℕ} → S ≡ S' → F ≡ F' → K ≡ K' → U ≡ U' → tables S F K U ≡ tables S' F' K' U'
 tables-eq a b c d = λ i. tables (a i) (b i) (c i) (d i)
 
+-- The words of a ledger, by the saturation that is worked out afresh.
+unfoldable pub laidOut : ℕ → ℕ → ℕ → ℕ → Ledger → Tables
+laidOut s f k u L =
+    let K = saturation (L .statements) (L .facts) in
+    tables (layout s (L .statements)) (layout f (L .facts)) (layout k (keptRows K)) (supportLayout u (keptSupports K))
+
 -- Every word of tables that agree with a ledger is the ledger's.
 words-laid : (s f k u : ℕ) (T : Tables) (L : Ledger) → Agrees s f k u T L → T ≡ laidOut s f k u L
 unfolding laidOut contentsOf
@@ -69,64 +76,67 @@ words-laid s f k u T L A =
     rw (A .is, ← A .statement-words, ← A .fact-words, ← A .kept-words, ← A .places)
     (tables-eq (W .statements .laid .is-layout) (W .facts .laid .is-layout) (kept-laid W (A .sound .saturated)) (supports-laid W (A .sound .saturated)))
 
+-- Every word that a list of calls leaves is the ledger's.
+pub run-words : (s f k u : ℕ) → 0 < s → 0 < f → 0 < k → (cs : List Call) → storeRun s f k u cs .after ≡ laidOut s f k u (ledgerRun s f k u cs .after)
+run-words s f k u h i j cs = words-laid s f k u (storeRun s f k u cs .after) (ledgerRun s f k u cs .after) (runs-alike s f k u h i j cs .leaves)
+
+-- ---- the sets
+
+-- The sets of a ledger that agrees with tables ascend and hold allowed rows alone.
+agrees-allowed : {s f k u : ℕ} (T : Tables) (L : Ledger) → Agrees s f k u T L → Allowed L
+agrees-allowed T L A =
+    let X = formed-fitting T (A .sound .formed) in
+    rw (A .is) (record { statements-ascend = X .statements-ascend; facts-ascend = X .facts-ascend; statements-allowed = X .statements-allowed; facts-allowed = X .facts-allowed })
+
 -- ---- the questions
 
+-- The triples of the rewritten way are those that follow from the ledger's triples.
+graph-follows : {L : Ledger} → Allowed L → (t : Triple) → List·Memᴰ t (rewrittenGraph (L .statements) (L .facts)) ↔ Follows (graphOf L) t
+graph-follows {L} A t =
+    let g = rewritten-graph (L .statements) (L .facts) t (allowed-no-vocabulary (L .statements) (A .statements-allowed)) in
+    let f = follows-iff (A .statements-allowed) (A .facts-allowed) t in
+    (λ m. f .1 (g .0 m), λ h. g .1 (f .0 h))
+
 module _ {s f k u : ℕ} {T : Tables} {L : Ledger} (A : Agrees s f k u T L) where
-  -- The rewritten way gives the ledger's reply,
-  rewritten-reply : (q : List ℕ) (len : ℕ) → askRewritten (T .statements) (T .facts) q len ≡ ledgerReply L q len
-  unfolding askRewritten ask ledgerReply firstNo contentsOf
-  rewritten-reply q len =
+  -- The rewritten way asks among these triples,
+  rewritten-asks : (q : List ℕ) (len : ℕ) → askRewritten (T .statements) (T .facts) q len ≡ ask true (rewrittenGraph (L .statements) (L .facts)) q len
+  unfolding askRewritten contentsOf
+  rewritten-asks q len =
       let W = isStore-formed (T .statements) (T .facts) (T .kept) (T .supports) (A .sound .formed) in
       rw (A .is, wellFormed-isTable (W .statements), wellFormed-isTable (W .facts)) refl
 
   -- and so does the kept way.
-  kept-reply : (q : List ℕ) (len : ℕ) → askKept (T .statements) (T .kept) q len ≡ ledgerReply L q len
+  kept-asks : (q : List ℕ) (len : ℕ) → askKept (T .statements) (T .kept) q len ≡ ask true (rewrittenGraph (L .statements) (L .facts)) q len
   unfolding contentsOf
-  kept-reply q len =
+  kept-asks q len =
       let W = isStore-formed (T .statements) (T .facts) (T .kept) (T .supports) (A .sound .formed) in
       kept-rewritten (T .statements) (T .kept) (T .facts) q len (wellFormed-isTable (W .statements)) (wellFormed-isTable (W .kept)) (wellFormed-isTable (W .facts)) (sym (keptRows-keptOf W) ∙ ap keptRows (A .sound .saturated))
-      ∙ rewritten-reply q len
+      ∙ rewritten-asks q len
+
+  -- What is asked among them gets the reply that the claim words.
+  asks-replies : (q : List ℕ) (len : ℕ) → Replies (Follows (graphOf L)) q len (ask true (rewrittenGraph (L .statements) (L .facts)) q len)
+  asks-replies = asked-replies (rewrittenGraph (L .statements) (L .facts)) (Follows (graphOf L)) (graph-follows (agrees-allowed T L A))
 
 -- ---- demand 3
 
--- Over every list of calls from an empty store, every call gives the ledger's answer; then every word is the ledger's, and so is
--- the reply to every question, by both ways.
-pub history : (s f k u : ℕ) → 0 < s → 0 < f → 0 < k → (cs : List Call) → Demand3 s f k u cs
+-- Over every list of calls from an empty store, the run is what the ledger's run says.
+pub history : (s f k u : ℕ) → 0 < s → 0 < f → 0 < k → (cs : List Call) → Demand3 s f k u (ledgerRun s f k u cs) (storeRun s f k u cs)
+unfolding laidOut
 history s f k u h i j cs =
     let R = runs-alike s f k u h i j cs in
+    let L = ledgerRun s f k u cs .after in
+    let A = agrees-allowed (storeRun s f k u cs .after) L (R .leaves) in
     record {
       answers = R .gives;
-      words = words-laid s f k u (storeRun s f k u cs .after) (ledgerRun s f k u cs .after) (R .leaves);
-      kept-way = kept-reply (R .leaves);
-      rewritten-way = rewritten-reply (R .leaves);
+      statements-ascend = A .statements-ascend;
+      facts-ascend = A .facts-ascend;
+      kept = keptRows (saturation (L .statements) (L .facts));
+      kept-follow = rows-follow A;
+      supports = keptSupports (saturation (L .statements) (L .facts));
+      supports-count = rows-supported A;
+      words = run-words s f k u h i j cs;
+      addition-fits = λ t e. fits-by (entering-allowed t L A e) (capacities s f k u);
+      withdrawal-fits = λ t e. fits-by (leaving-allowed t L A) (capacities s f k u);
+      kept-way = λ q len. subst (Replies (Follows (graphOf L)) q len) (sym (kept-asks (R .leaves) q len)) (asks-replies (R .leaves) q len);
+      rewritten-way = λ q len. subst (Replies (Follows (graphOf L)) q len) (sym (rewritten-asks (R .leaves) q len)) (asks-replies (R .leaves) q len);
     }
-
--- ---- what the ledger's lists mean
-
--- An answer in a graph is one in any with the same triples.
-answer-in : {G H : Triple → Type 0} {ps : List Triple} {vs row : List ℕ} → ((t : Triple) → G t → H t) → IsAnswer G ps vs row → IsAnswer H ps vs row
-answer-in f A = record { mapping = A .mapping; solves = λ a m. f _ (A .solves a m); gives = A .gives }
-
--- What ascending lists of allowed statements and facts mean.
-held-means : (S F : List Triple) (T : Tables) → Fitting (contents S F (saturation S F)) T → Meaning (held (contents S F (saturation S F)))
-held-means S F T X =
-    let N : NoVocabulary S = allowed-no-vocabulary S (X .statements-allowed) in
-    record {
-      statements-ascend = X .statements-ascend;
-      facts-ascend = X .facts-ascend;
-      kept-holds = λ t. saturation-kept S F t N;
-      supports-count = λ t. saturation-support S F t ∙ support-is S F t;
-      rows-answer = λ q e g row.
-          let r = answers-iff (rewrittenGraph S F) (atoms q) (head q) row (head-stands q e g) in
-          (λ m. answer-in (λ t. rewritten-graph S F t N .0) (r .0 m), λ a. r .1 (answer-in (λ t. rewritten-graph S F t N .1) a));
-      rows-ascend = λ q. answers-ascend (rewrittenGraph S F) (atoms q) (head q);
-    }
-
--- The lists of the ledger after any calls mean what document 01 says of them.
-pub meaning : (s f k u : ℕ) → 0 < s → 0 < f → 0 < k → (cs : List Call) → Meaning (ledgerRun s f k u cs .after)
-meaning s f k u h i j cs =
-    let A = runs-alike s f k u h i j cs .leaves in
-    let T = storeRun s f k u cs .after in
-    let c = contentsOf T in
-    let e : contents (c .statements) (c .facts) (saturation (c .statements) (c .facts)) ≡ c = ap (contents (c .statements) (c .facts)) (sym (A .sound .saturated)) in
-    rw (A .is) (held-means (c .statements) (c .facts) T (rw e (formed-fitting T (A .sound .formed))))

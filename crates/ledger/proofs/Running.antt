@@ -14,7 +14,6 @@ use Rattle.update.specs.Update.{Outcome, outcome, add, withdraw}
 use Rattle.deliver.specs.declared.Delivered.{Delivered}
 use Rattle.deliver.specs.Deliver.{deliver}
 use Rattle.ledger.specs.Ledger.{Given, answered, resulted, call, calls}
-use Rattle.query.specs.Ask.{askKept, askRewritten}
 use Rattle.ledger.specs.History.{storeEntries, emptyStore, storeRun}
 use Rattle.ledger.specs.Encoded.{callOf, callsFrom, encoded, givenWords, replyWords, wordedCall, Runnable, Ran}
 use Rattle.ledger.proofs.History.{history}
@@ -159,7 +158,7 @@ module _ {words bytes replies₀ : List ℕ} {T₀ : Tables} where
 
 -- ---- the whole
 
--- All calls run from cleared tables leave and give what the ledger does.
+-- Of all calls run from cleared tables demand 3 holds.
 pub ran : (T₀ : Tables) (words bytes replies replies' S F K U : List ℕ) (T : Tables) → Runnable T₀ words replies
     → S ≡ replicate (length (T₀ .statements)) 0 → F ≡ replicate (length (T₀ .facts)) 0 → K ≡ replicate (length (T₀ .kept)) 0 → U ≡ replicate (length (T₀ .supports)) 0
     → T ≡ calls storeEntries (encoded words bytes) (tables S F K U) .after
@@ -175,8 +174,7 @@ ran T₀ words bytes replies replies' S F K U T R a b c d e g =
     let w : replies' ≡ replyWords (storeRun s f k u (encoded words bytes) .given) ++ drop (length (replyWords (storeRun s f k u (encoded words bytes) .given))) replies = (rw (a, b, c, d) at g) ∙ sets-front (replyWords (storeRun s f k u (encoded words bytes) .given)) replies few in
     let left : T ≡ storeRun s f k u (encoded words bytes) .after = rw (a, b, c, d) at e in
     record {
-      words = left ∙ D .words;
-      given = rw (D .answers) at w;
-      kept-way = λ q len. ap (λ (z : Tables). askKept (z .statements) (z .kept) q len) left ∙ D .kept-way q len;
-      rewritten-way = λ q len. ap (λ (z : Tables). askRewritten (z .statements) (z .facts) q len) left ∙ D .rewritten-way q len;
+      gave = storeRun s f k u (encoded words bytes) .given;
+      written = w;
+      claim = rw left D;
     }

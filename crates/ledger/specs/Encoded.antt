@@ -6,9 +6,8 @@ use lib.ListN.{length, getD, take, drop}
 use Rattle.rdf.specs.Triple.{triple}
 use Rattle.update.specs.Store.{Tables}
 use Rattle.update.specs.Update.{answerNumber}
-use Rattle.query.specs.Ask.{askKept, askRewritten}
-use Rattle.ledger.specs.Ledger.{Call, addition, withdrawal, delivery, Given, answered, resulted, call}
-use Rattle.ledger.specs.History.{storeEntries, ledgerRun, laidOut, ledgerReply}
+use Rattle.ledger.specs.Ledger.{Call, addition, withdrawal, delivery, Given, answered, resulted, run, call}
+use Rattle.ledger.specs.History.{storeEntries, ledgerRun, Demand3}
 
 -- ---- calls
 
@@ -53,11 +52,9 @@ pub record Runnable (T : Tables) (ws replies : List ℕ) : Type 0 where
   pub kept-words : 0 < length (T .kept)
   pub reply-words : length ws / 4 * 5 ≤ length replies
 
--- The claim of demand 3 about a run of encoded calls: what was lent as tables of s, f, k and u words is then the ledger's, every
--- word, the replies begin with the ledger's answers and results, the words behind them being as they were, and any question put to
--- the tables by either way gives the ledger's reply.
+-- A run of encoded calls over what was lent as tables of s, f, k and u words: the replies begin with what the calls gave, the words behind them
+-- being as they were, and demand 3 holds of it.
 pub record Ran (s f k u : ℕ) (ws bytes replies : List ℕ) (T : Tables) (replies' : List ℕ) : Type 0 where
-  pub words : T ≡ laidOut s f k u (ledgerRun s f k u (encoded ws bytes) .after)
-  pub given : replies' ≡ replyWords (ledgerRun s f k u (encoded ws bytes) .given) ++ drop (length (replyWords (ledgerRun s f k u (encoded ws bytes) .given))) replies
-  pub kept-way : (q : List ℕ) (len : ℕ) → askKept (T .statements) (T .kept) q len ≡ ledgerReply (ledgerRun s f k u (encoded ws bytes) .after) q len
-  pub rewritten-way : (q : List ℕ) (len : ℕ) → askRewritten (T .statements) (T .facts) q len ≡ ledgerReply (ledgerRun s f k u (encoded ws bytes) .after) q len
+  pub gave : List Given
+  pub written : replies' ≡ replyWords gave ++ drop (length (replyWords gave)) replies
+  pub claim : Demand3 s f k u (ledgerRun s f k u (encoded ws bytes)) (run gave T)

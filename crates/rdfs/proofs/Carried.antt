@@ -13,7 +13,7 @@ use Rattle.rdf.specs.Triple.{triple}
 use Rattle.rdf.specs.Order.{triple-eq, choose, Ascending}
 use Rattle.rdf.proofs.Order.{of-subject, of-property, of-object, choose-elim, choose-yes, choose-no}
 use Rattle.rdf.proofs.Ascending.{ascend-asc, ascend-in, ascend-out}
-use Rattle.rdfs.specs.Entailment.{explicit, rdfs2, rdfs3, rdfs7, rdfs9, Carries, Reach, stay, step, ReachFrom, NoVocabulary}
+use Rattle.rdfs.specs.Entailment.{explicit, rdfs2, rdfs3, rdfs7, rdfs9, HoldsBy, Reach, stay, step, ReachFrom, NoVocabulary}
 use Rattle.rdfs.specs.Closure.{leaves, objects, properties, subjectClasses, objectClasses, conclusions, carried}
 use Rattle.rdfs.proofs.Sets.{Distinct, ascending-distinct, distinct-length}
 use Rattle.rdfs.proofs.Reach.{from-step, spread-iff, reach-iff}
@@ -180,29 +180,29 @@ carried-part S f t = (λ m. part-out S f t (ascend-out (conclusions S f) m), λ 
 -- ---- what is listed is derived
 
 -- A fact carries itself under each property that its own is below.
-carries-property : (S : List Triple) (f : Triple) {q : ℕ} → Reach S subPropertyOf (f .property) q → Carries S f (triple (f .subject) q (f .object))
+carries-property : (S : List Triple) (f : Triple) {q : ℕ} → Reach S subPropertyOf (f .property) q → HoldsBy S f (triple (f .subject) q (f .object))
 carries-property S f stay = explicit (List·Memᴰ·head refl)
 carries-property S f (step r m) = rdfs7 m (carries-property S f r)
 
 -- With a class, each class above it is carried.
-carries-class : {S : List Triple} {f : Triple} {a b c : ℕ} → Carries S f (triple a type b) → Reach S subClassOf b c → Carries S f (triple a type c)
+carries-class : {S : List Triple} {f : Triple} {a b c : ℕ} → HoldsBy S f (triple a type b) → Reach S subClassOf b c → HoldsBy S f (triple a type c)
 carries-class d stay = d
 carries-class d (step r m) = rdfs9 m (carries-class d r)
 
 -- The classes before any subclass step are carried.
-carries-start : (S : List Triple) (f : Triple) (c : ℕ) → SubjectStart S f c → Carries S f (triple (f .subject) type c)
+carries-start : (S : List Triple) (f : Triple) (c : ℕ) → SubjectStart S f c → HoldsBy S f (triple (f .subject) type c)
 carries-start S f c (from-type e g) = explicit (List·Memᴰ·head (triple-eq (triple (f .subject) type c) f refl (sym e) g))
 carries-start S f c (from-domain q r m) = rdfs2 m (carries-property S f r)
 
 -- Each part is carried.
-part-sound : (S : List Triple) (f t : Triple) → Part S f t → Carries S f t
-part-sound S f t (as-property a b r) = subst (Carries S f) (triple-eq (triple (f .subject) (t .property) (f .object)) t (sym a) refl (sym b)) (carries-property S f r)
+part-sound : (S : List Triple) (f t : Triple) → Part S f t → HoldsBy S f t
+part-sound S f t (as-property a b r) = subst (HoldsBy S f) (triple-eq (triple (f .subject) (t .property) (f .object)) t (sym a) refl (sym b)) (carries-property S f r)
 part-sound S f t (as-subject a b r) =
-    subst (Carries S f) (triple-eq (triple (f .subject) type (t .object)) t (sym a) (sym b) refl)
+    subst (HoldsBy S f) (triple-eq (triple (f .subject) type (t .object)) t (sym a) (sym b) refl)
     (carries-class (carries-start S f (r .start) (start-out S f (r .start) (r .listed))) (r .path))
 part-sound S f t (as-object a b n r) =
     let h = objects-out S range (properties S f) (r .start) (r .listed) in
-    subst (Carries S f) (triple-eq (triple (f .object) type (t .object)) t (sym a) (sym b) refl)
+    subst (HoldsBy S f) (triple-eq (triple (f .object) type (t .object)) t (sym a) (sym b) refl)
     (carries-class (rdfs3 (h .stated) n (carries-property S f (properties-iff S f (h .start) .0 (h .listed)))) (r .path))
 
 -- ---- what is derived is listed
@@ -246,7 +246,7 @@ by-range c w m n (as-subject e g i) = not-type w m g
 by-range c w m n (as-object e g l i) = not-type w m g
 
 -- All that is carried is a part.
-part-complete : {S : List Triple} {f t : Triple} → NoVocabulary S → Carries S f t → Part S f t
+part-complete : {S : List Triple} {f t : Triple} → NoVocabulary S → HoldsBy S f t → Part S f t
 part-complete w (explicit m) = let e = List·Memᴰ·eq-of-singleton m in as-property (of-subject e) (of-object e) (rw (of-property e) stay)
 part-complete w (rdfs2 {c} m h) = by-domain c w m (part-complete w h)
 part-complete w (rdfs3 {c} m n h) = by-range c w m n (part-complete w h)
@@ -254,7 +254,7 @@ part-complete w (rdfs7 {q} m h) = by-property q w m (part-complete w h)
 part-complete w (rdfs9 {d} m h) = by-class d w m (part-complete w h)
 
 -- `carried` lists exactly what the fact carries.
-pub carried-iff : (S : List Triple) (f t : Triple) → NoVocabulary S → List·Memᴰ t (carried S f) ↔ Carries S f t
+pub carried-iff : (S : List Triple) (f t : Triple) → NoVocabulary S → List·Memᴰ t (carried S f) ↔ HoldsBy S f t
 carried-iff S f t w = (λ m. part-sound S f t (carried-part S f t .0 m), λ h. carried-part S f t .1 (part-complete w h))
 
 -- A fact carries itself.

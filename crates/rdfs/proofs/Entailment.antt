@@ -11,7 +11,7 @@ use Rattle.rdf.specs.declared.Triple.{Triple}
 use Rattle.rdf.specs.Term.{isUri, isLiteral, isVocabulary}
 use Rattle.rdf.specs.Triple.{triple, isResource, isTriple, isStatement, isClass, isProperty, areSidesAllowed, isAllowedStatement, isAllowedFact}
 use Rattle.rdf.proofs.Ascending.{and-left, and-right}
-use Rattle.rdfs.specs.Entailment.{Holds, explicit, rdfs2, rdfs3, rdfs7, rdfs9, Carries, NoVocabulary}
+use Rattle.rdfs.specs.Entailment.{Holds, explicit, rdfs2, rdfs3, rdfs7, rdfs9, HoldsBy, NoVocabulary}
 
 -- More statements and more explicit facts, no fewer conclusions.
 pub holds-mono : {R S F G : List Triple} {t : Triple} → ((u : Triple) → List·Memᴰ u R → List·Memᴰ u S) → ((u : Triple) → List·Memᴰ u F → List·Memᴰ u G) → Holds R F t → Holds S G t
@@ -25,10 +25,10 @@ holds-mono g h (rdfs9 m d) = rdfs9 (g _ m) (holds-mono g h d)
 pub record Carrier (S F : List Triple) (t : Triple) : Type 0 where
   pub fact : Triple
   pub explicit-fact : List·Memᴰ fact F
-  pub carries : Carries S fact t
+  pub carries : HoldsBy S fact t
 
 -- What is derived from a carried triple is carried by the same fact.
-onward : {S F : List Triple} {t u : Triple} → ((f : Triple) → Carries S f t → Carries S f u) → Carrier S F t → Carrier S F u
+onward : {S F : List Triple} {t u : Triple} → ((f : Triple) → HoldsBy S f t → HoldsBy S f u) → Carrier S F t → Carrier S F u
 onward g c = record { fact = c .fact; explicit-fact = c .explicit-fact; carries = g (c .fact) (c .carries) }
 
 -- The fact at the start of a derivation carries what is derived.

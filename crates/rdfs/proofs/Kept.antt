@@ -1,6 +1,6 @@
 -- Laws of kept facts: `lookup`, `raise` and `lower`; the supports fix the list. Assumes nothing.
 use mathlib.Core.Path.{_≡_, refl, sym, ap₂, _∙_}
-use mathlib.Core.List.{[], _∷_, List·Memᴰ, List·Memᴰ·head, List·Memᴰ·tail, List·Memᴰ·cases-cons, List·Memᴰ·not-nil}
+use mathlib.Core.List.{[], _∷_, List·Memᴰ, List·Memᴰ·head, List·Memᴰ·tail, List·Memᴰ·cases-cons, List·Memᴰ·not-nil, Memᴰ·map}
 use mathlib.Core.Logic.{⊎-elim, by-cases, _↔_}
 use Prim.Native.Nat.{ℕ, zero, suc, _+_, _-_, _≤_, _<_}
 use native.Mathlib.Omega.{arith}
@@ -254,6 +254,17 @@ lookup-kept (e ∷ k) t a =
           (λ q. let p = a .0 in omega (arith, lookup-same e k t q))
           (λ n. omega (arith, lookup-other e k t n, r .1 (⊎-elim (λ q. absurd (n q)) (λ j. j) (List·Memᴰ·cases-cons m)))),
     )
+
+-- Each kept row has the support that stands beside it.
+pub lookup-entry : (k : Kept) (e : Triple × ℕ) → Counts k → List·Memᴰ e k → lookup k (e .0) ≡ e .1
+lookup-entry [] e a m = absurd (List·Memᴰ·not-nil m)
+lookup-entry (g ∷ k) e a m =
+    ⊎-elim
+    (λ (q : e ≡ g). rw q (lookup-same g k (g .0) refl))
+    (λ j.
+    let l = above-member (keptRows k) (above-rows (g .0) k (a .1)) (e .0) (Memᴰ·map (λ (d : Triple × ℕ). d .0) j) in
+    lookup-other g k (e .0) (λ q. less-ne l (sym q)) ∙ lookup-entry k e (kept-counts (g .0) k (a .1)) j)
+    (List·Memᴰ·cases-cons m)
 
 -- A kept row with the support n.
 pub record Supported (k : Kept) (n : ℕ) : Type 0 where

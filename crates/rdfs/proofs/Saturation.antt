@@ -8,9 +8,10 @@ use native.Mathlib.Omega.{arith}
 use lib.ListN.{length}
 use Rattle.rdf.specs.declared.Triple.{Triple}
 use Rattle.rdf.specs.Triple.{isAllowedStatement, isAllowedFact}
-use Rattle.rdf.specs.Order.{compareTriples, equalTriples, choose, Ascending, insert, remove}
+use Rattle.rdf.specs.Order.{compareTriples, equalTriples, choose, Above, Ascending, insert, remove}
 use Rattle.rdf.proofs.Order.{choose-elim, choose-yes, byOrder-elim}
-use Rattle.rdfs.specs.Entailment.{Holds, Carries, NoVocabulary}
+use Rattle.rdf.proofs.Ascending.{above-asc, above-weaken}
+use Rattle.rdfs.specs.Entailment.{Holds, HoldsBy, NoVocabulary}
 use Rattle.rdfs.specs.Closure.{isIn, carried}
 use Rattle.rdfs.specs.Saturation.{carriers, support, Kept, lookup, raiseAll, lowerAll, saturation, keptRows, keptSupports}
 use Rattle.rdfs.proofs.Sets.{Distinct, ascending-distinct}
@@ -154,17 +155,25 @@ support-is S [] t = refl
 support-is S (f ∷ F) t = bit-length (isIn equalTriples t (carried S f)) f (carriers S F t) (support-is S F t)
 
 -- which are exactly the facts of F that carry t,
-pub carriers-iff : (S F : List Triple) (t f : Triple) → NoVocabulary S → List·Memᴰ f (carriers S F t) ↔ (List·Memᴰ f F × Carries S f t)
+pub carriers-iff : (S F : List Triple) (t f : Triple) → NoVocabulary S → List·Memᴰ f (carriers S F t) ↔ (List·Memᴰ f F × HoldsBy S f t)
 carriers-iff S F t f w = (λ m. let r = carriers-out S F t f m in (r .0, carried-iff S f t w .0 (r .1)), λ h. carriers-in S F t f (h .0) (carried-iff S f t w .1 (h .1)))
 
--- each once, as in F,
-pub carriers-distinct : (S F : List Triple) (t : Triple) → Distinct F → Distinct (carriers S F t)
+-- ascending as in F, each once,
+above-carriers : (v : Triple) (S F : List Triple) (t : Triple) → Above v F → Above v (carriers S F t)
 unfolding carriers
-carriers-distinct S [] t d = tt
-carriers-distinct S (f ∷ F) t d =
-    choose-elim Distinct (isIn equalTriples t (carried S f))
-    (λ _. (λ m. d .0 (carriers-out S F t f m .0), carriers-distinct S F t (d .1)))
-    (λ _. carriers-distinct S F t (d .1))
+above-carriers v S [] t a = tt
+above-carriers v S (f ∷ F) t a =
+    choose-elim (Above v) (isIn equalTriples t (carried S f))
+    (λ _. (a .0, above-carriers f S F t (a .1)))
+    (λ _. above-carriers v S F t (above-weaken F (a .0) (a .1)))
+
+pub carriers-ascend : (S F : List Triple) (t : Triple) → Ascending F → Ascending (carriers S F t)
+unfolding carriers
+carriers-ascend S [] t a = tt
+carriers-ascend S (f ∷ F) t a =
+    choose-elim Ascending (isIn equalTriples t (carried S f))
+    (λ _. above-carriers f S F t a)
+    (λ _. carriers-ascend S F t (above-asc f F a))
 
 -- and so at most the number of facts.
 pub support-bound : (S F : List Triple) (t : Triple) → support S F t ≤ length F

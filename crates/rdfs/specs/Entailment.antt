@@ -1,5 +1,5 @@
--- What follows from statements and facts: RDF 1.1 Semantics, section 9.2.1, the rules rdfs2, rdfs3, rdfs7 and rdfs9, as
--- document 01, "What follows", narrows them. Definitions only.
+-- The facts that hold, by rules of which one premise is an explicit statement and the other a fact: for rows that the tables may hold this is
+-- what follows (`follows-iff`), in the form that the code computes. Definitions only.
 use mathlib.Core.Path.{_≡_}
 use mathlib.Core.Bool.{false}
 use mathlib.Core.List.{List, [], _∷_, List·Memᴰ}
@@ -21,9 +21,9 @@ pub data Holds (S F : List Triple) : Triple → Type 0 where
   -- "Subclass: c 2 d and a 1 c give a 1 d."
   rdfs9 : {c d a : ℕ} → List·Memᴰ (triple c subClassOf d) S → Holds S F (triple a type c) → Holds S F (triple a type d)
 
--- "One fact and the statements carry a set of facts, itself included."
-abbrev pub Carries : List Triple → Triple → Triple → Type 0
-Carries S f t = Holds S (f ∷ []) t
+-- A fact that holds by the one explicit fact f.
+abbrev pub HoldsBy : List Triple → Triple → Triple → Type 0
+HoldsBy S f t = Holds S (f ∷ []) t
 
 -- The triples that a question is put to: "statements match as explicit, without closure", and the facts that hold.
 abbrev pub InGraph : List Triple → List Triple → Triple → Type 0

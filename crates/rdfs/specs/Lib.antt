@@ -1,3 +1,4 @@
+pub mod Follows
 pub mod Entailment
 pub mod Closure
 pub mod Saturation

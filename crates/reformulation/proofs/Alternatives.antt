@@ -161,17 +161,17 @@ gives-sound S a x u (gives-4 r) =
 
 -- ---- a source is the subject of a statement
 
-record Begins (S : List Triple) (x : ℕ) : Type 0 where
-  statement : Triple
-  stated : List·Memᴰ statement S
-  is : statement .subject ≡ x
+pub record Begins (S : List Triple) (x : ℕ) : Type 0 where
+  pub statement : Triple
+  pub stated : List·Memᴰ statement S
+  pub is : statement .subject ≡ x
 
 reach-begins : {S : List Triple} {k x y : ℕ} → Reach S k x y → (x ≡ y) ⊎ Begins S x
 reach-begins stay = inl refl
 reach-begins {x} (step {b} {c} r m) = inr (⊎-elim (λ (e : x ≡ b). record { statement = _; stated = m; is = sym e }) (λ g. g) (reach-begins r))
 
 -- An alternative is the explicit triple as it is, or of another kind, with a source that is the subject of a statement.
-source-begins : {S : List Triple} {a : Triple} {k s t : ℕ} → IsAlternative S a k s t → (triple k s t ≡ triple 0 0 0) ⊎ ((¬ (k ≡ 0)) × Begins S s)
+pub source-begins : {S : List Triple} {a : Triple} {k s t : ℕ} → IsAlternative S a k s t → (triple k s t ≡ triple 0 0 0) ⊎ ((¬ (k ≡ 0)) × Begins S s)
 source-begins as-it-is = inl refl
 source-begins (by-subclass r n e) = inr (λ z. omega arith, ⊎-elim (λ q. absurd (n q)) (λ b. b) (reach-begins r))
 source-begins (by-domain {p} {q} {c} u m r e) = inr (λ z. omega arith, ⊎-elim (λ (i : p ≡ q). record { statement = triple q domain c; stated = m; is = sym i }) (λ b. b) (reach-begins u))

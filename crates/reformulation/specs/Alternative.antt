@@ -1,4 +1,4 @@
--- The alternatives of an atom: how it is reformulated over explicit facts (document 01, "Questions and their rewriting"; source
+-- The alternatives of an atom: how it is reformulated over explicit triples (document 01, "Questions and their rewriting"; source
 -- document 000, section 4.3). Definitions only.
 use Prim.Native.Nat.{ℕ}
 use mathlib.Core.Path.{_≡_}
@@ -39,7 +39,7 @@ pub data IsAlternative (S : List Triple) (a : Triple) : ℕ → ℕ → ℕ → 
   -- "Kind 4: a source b gives a target b, by one or more subproperty steps, source and target different."
   by-subproperty : {p q : ℕ} → Reach S subPropertyOf p q → ¬ (p ≡ q) → admitsProperty a q ≡ true → IsAlternative S a 4 p q
 
--- What an alternative gives of an explicit fact.
+-- What an alternative gives of an explicit triple.
 pub data Gives : ℕ → ℕ → ℕ → Triple → Triple → Type 0 where
   -- "An explicit triple as it is."
   itself : {f : Triple} → Gives 0 0 0 f f
@@ -52,7 +52,7 @@ pub data Gives : ℕ → ℕ → ℕ → Triple → Triple → Type 0 where
   -- "A source b gives a target b."
   a-property : {x p q y : ℕ} → Gives 4 p q (triple x p y) (triple x q y)
 
--- A triple that some alternative of an atom gives of some explicit fact.
+-- A triple that some alternative of an atom gives of one of the explicit triples F.
 pub record Reformulated (S F : List Triple) (a t : Triple) : Type 0 where
   pub kind : ℕ
   pub source : ℕ

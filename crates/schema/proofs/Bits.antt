@@ -11,7 +11,7 @@ use Rattle.rdf.specs.Term.{isLiteral}
 use Rattle.rdf.specs.Triple.{triple}
 use Rattle.rdf.specs.Order.{triple-eq, equalTriples}
 use Rattle.rdf.proofs.Order.{of-property, of-object, choose-elim}
-use Rattle.rdfs.specs.Entailment.{explicit, Carries, NoVocabulary}
+use Rattle.rdfs.specs.Entailment.{explicit, HoldsBy, NoVocabulary}
 use Rattle.rdfs.specs.Closure.{isIn, carried}
 use Rattle.rdfs.proofs.Carried.{carried-iff}
 use Rattle.rdfs.proofs.Kept.{one, one-yes, one-no}
@@ -23,14 +23,14 @@ use Rattle.schema.proofs.Meaning.{Edges, Small, key, key-type, key-othe
 use Rattle.schema.proofs.Meaning as meaning
 
 -- A bit that says whether f carries t is the one that the support counts.
-pub bit-is : (S : List Triple) (f t : Triple) (b : ℕ) → NoVocabulary S → b ≤ 1 → ((b ≡ 1) ↔ Carries S f t) → among t (carried S f) ≡ b
+pub bit-is : (S : List Triple) (f t : Triple) (b : ℕ) → NoVocabulary S → b ≤ 1 → ((b ≡ 1) ↔ HoldsBy S f t) → among t (carried S f) ≡ b
 bit-is S f t b w le h =
     choose-elim (λ (n : ℕ). n ≡ b) (isIn equalTriples t (carried S f))
     (λ m. sym (h .1 (carried-iff S f t w .0 m)))
     (λ n. by-cases (ℕ-discrete b 1) (λ e. absurd (n (carried-iff S f t w .1 (h .0 e)))) (λ k. omega arith))
 
 -- The triple itself, or by a walk, and never both.
-bit-sum : (S : List Triple) (f t : Triple) (P : Type 0) (b : ℕ) → NoVocabulary S → b ≤ 1 → ((b ≡ 1) ↔ P) → (t ≡ f → ¬ P) → (Carries S f t → (t ≡ f) ⊎ P) → (P → Carries S f t) → among t (carried S f) ≡ one t f + b
+bit-sum : (S : List Triple) (f t : Triple) (P : Type 0) (b : ℕ) → NoVocabulary S → b ≤ 1 → ((b ≡ 1) ↔ P) → (t ≡ f → ¬ P) → (HoldsBy S f t → (t ≡ f) ⊎ P) → (P → HoldsBy S f t) → among t (carried S f) ≡ one t f + b
 bit-sum S f t P b w le h apart out into =
     by-cases (equalTriples t f)
     (λ e. let z : b ≡ 0 = by-cases (ℕ-discrete b 1) (λ q. absurd (apart e (h .0 q))) (λ k. omega arith) in
@@ -39,11 +39,11 @@ bit-sum S f t P b w le h apart out into =
 
 module _ (S : List Triple) (f : Triple) (small : Small S) (none : NoVocabulary S) (fo : f .object < 2 ^ 32) (D R : List Edge) (de : Edges S 4 D) (re : Edges S 5 R) where
   -- The two ways of saying what f carries.
-  into : {t : Triple} → Carry f D R t → Carries S f t
+  into : {t : Triple} → Carry f D R t → HoldsBy S f t
   into c = meaning.carried S f small none fo D R de re c
 
   -- And back.
-  out : {t : Triple} → Carries S f t → Carry f D R t
+  out : {t : Triple} → HoldsBy S f t → Carry f D R t
   out c = carry S f small none fo D R de re c
 
   -- What a fact of the subject x adds to a class c.

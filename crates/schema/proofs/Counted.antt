@@ -18,7 +18,7 @@ use Rattle.rdf.proofs.Lists.{cond-elim}
 use Rattle.table.specs.Table.{count, tripleFrom, rowAt, firstRows, rows, mostStatements, mostFacts}
 use Rattle.table.specs.Laid.{WellFormed}
 use Rattle.table.proofs.Rows.{tripleFrom-drop}
-use Rattle.rdfs.specs.Entailment.{Carries}
+use Rattle.rdfs.specs.Entailment.{HoldsBy}
 use Rattle.rdfs.specs.Closure.{isIn, carried}
 use Rattle.rdfs.specs.Saturation.{support}
 use Rattle.rdfs.proofs.Entailment.{not-vocabulary}
@@ -557,7 +557,7 @@ module _ (st col d r f : List ℕ) (ns nc : ℕ) (w : WellFormed isAllowedStatem
       no-column : o < 2 ^ 32 → (c : ℕ) → c < ns → ¬ (getD col c 0 ≡ o)
       no-column small c h e = by-cases (decLt c nc) (λ b. n c b e) (λ b. omega (arith, k .properties c (omega arith) h))
 
-      out : Carries (rows st) (rowAt f y) (triple x 1 o) → Carry (rowAt f y) (edges st 4 (count st)) (edges st 5 (count st)) (triple x 1 o)
+      out : HoldsBy (rows st) (rowAt f y) (triple x 1 o) → Carry (rowAt f y) (edges st 4 (count st)) (edges st 5 (count st)) (triple x 1 o)
       out h = carry (rows st) (rowAt f y) (statements-small st w) (statements-plain st w) (fact-words f v y l .object-small) (edges st 4 (count st)) (edges st 5 (count st)) (edges-are st w 4 (inl refl)) (edges-are st w 5 (inr refl)) h
 
       too-large : ¬ (o < 2 ^ 32) → Carry (rowAt f y) (edges st 4 (count st)) (edges st 5 (count st)) (triple x 1 o) → ⊥

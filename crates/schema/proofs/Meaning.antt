@@ -11,7 +11,7 @@ use Rattle.rdf.specs.Term.{isLiteral}
 use Rattle.rdf.specs.Triple.{triple}
 use Rattle.rdf.specs.Order.{triple-eq, choose}
 use Rattle.rdf.proofs.Order.{of-subject, of-property, of-object, choose-yes, choose-no}
-use Rattle.rdfs.specs.Entailment.{explicit, rdfs2, rdfs3, rdfs7, rdfs9, Carries, NoVocabulary}
+use Rattle.rdfs.specs.Entailment.{explicit, rdfs2, rdfs3, rdfs7, rdfs9, HoldsBy, NoVocabulary}
 use Rattle.rdfs.proofs.Entailment.{not-vocabulary}
 use Rattle.schema.specs.Walks.{Edge, Plus, edge, more}
 use Rattle.schema.specs.Nodes.{propertyNode}
@@ -49,29 +49,29 @@ key-other f n = choose-no (ℕ-discrete (f .property) 1) (f .object) (propertyNo
 -- ---- what is walked to is carried
 
 module _ (S : List Triple) (f : Triple) (small : Small S) (via x : ℕ) (E : List Edge) (edges : Edges S via E)
-    (rule : (p c : ℕ) → List·Memᴰ (triple p via c) S → Carries S f (triple (f .subject) p (f .object)) → Carries S f (triple x 1 c)) where
+    (rule : (p c : ℕ) → List·Memᴰ (triple p via c) S → HoldsBy S f (triple (f .subject) p (f .object)) → HoldsBy S f (triple x 1 c)) where
   -- What is reached at the node n is carried: as a class of x, or as a property of the fact.
   record Got (n : ℕ) : Type 0 where
-    cls : (c : ℕ) → c < 2 ^ 32 → n ≡ c → Carries S f (triple x 1 c)
-    prp : (q : ℕ) → n ≡ propertyNode q → Carries S f (triple (f .subject) q (f .object))
+    cls : (c : ℕ) → c < 2 ^ 32 → n ≡ c → HoldsBy S f (triple x 1 c)
+    prp : (q : ℕ) → n ≡ propertyNode q → HoldsBy S f (triple (f .subject) q (f .object))
 
   -- A link goes from what is carried to what is carried,
   got-step : {a b : ℕ} → Got a → Link S via a b → Got b
   got-step g (sub-class c d m ea eb) =
       let w = small (triple c 2 d) m in
       record {
-        cls = λ k l e. subst (λ (z : ℕ). Carries S f (triple x 1 z)) (sym eb ∙ e) (rdfs9 m (g .cls c (w .0) ea));
+        cls = λ k l e. subst (λ (z : ℕ). HoldsBy S f (triple x 1 z)) (sym eb ∙ e) (rdfs9 m (g .cls c (w .0) ea));
         prp = λ q e. absurd (omega (arith, w .1));
       }
   got-step g (sub-property p q m ea eb) =
       record {
         cls = λ k l e. absurd (omega arith);
-        prp = λ r e. let h : q ≡ r = omega arith in subst (λ (z : ℕ). Carries S f (triple (f .subject) z (f .object))) h (rdfs7 m (g .prp p ea));
+        prp = λ r e. let h : q ≡ r = omega arith in subst (λ (z : ℕ). HoldsBy S f (triple (f .subject) z (f .object))) h (rdfs7 m (g .prp p ea));
       }
   got-step g (typing p c m ea eb) =
       let w = small (triple p via c) m in
       record {
-        cls = λ k l e. subst (λ (z : ℕ). Carries S f (triple x 1 z)) (sym eb ∙ e) (rule p c m (g .prp p ea));
+        cls = λ k l e. subst (λ (z : ℕ). HoldsBy S f (triple x 1 z)) (sym eb ∙ e) (rule p c m (g .prp p ea));
         prp = λ q e. absurd (omega (arith, w .1));
       }
 
@@ -81,12 +81,12 @@ module _ (S : List Triple) (f : Triple) (small : Small S) (via x : ℕ) (E : Lis
   got g (more p m) = got-step (got g p) (edges .out m)
 
   -- A fact carries itself.
-  itself : Carries S f (triple (f .subject) (f .property) (f .object))
+  itself : HoldsBy S f (triple (f .subject) (f .property) (f .object))
   itself = explicit (List·Memᴰ·head refl)
 
   -- A walk from its property.
   got-prop : Got (propertyNode (f .property))
-  got-prop = record { cls = λ c l e. absurd (omega arith); prp = λ q e. let h : f .property ≡ q = omega arith in subst (λ (z : ℕ). Carries S f (triple (f .subject) z (f .object))) h itself }
+  got-prop = record { cls = λ c l e. absurd (omega arith); prp = λ q e. let h : f .property ≡ q = omega arith in subst (λ (z : ℕ). HoldsBy S f (triple (f .subject) z (f .object))) h itself }
 
 -- The rows of the subject, by domains.
 module _ (S : List Triple) (f : Triple) (small : Small S) (fo : f .object < 2 ^ 32) (E : List Edge) (edges : Edges S 4 E) where
@@ -101,15 +101,15 @@ module _ (S : List Triple) (f : Triple) (small : Small S) (fo : f .object < 2 ^ 
       (λ n. rw (key-other f n) (got-prop S f small 4 (f .subject) E edges (λ p c m h. rdfs2 m h)))
 
   -- The classes of the subject are carried,
-  pub subject-class : (c : ℕ) → c < 2 ^ 32 → Plus E (key f) c → Carries S f (triple (f .subject) 1 c)
+  pub subject-class : (c : ℕ) → c < 2 ^ 32 → Plus E (key f) c → HoldsBy S f (triple (f .subject) 1 c)
   subject-class c l p = got S f small 4 (f .subject) E edges (λ p c m h. rdfs2 m h) got-key p .cls c l refl
 
   -- and the properties.
-  pub subject-property : (q : ℕ) → Plus E (key f) (propertyNode q) → Carries S f (triple (f .subject) q (f .object))
+  pub subject-property : (q : ℕ) → Plus E (key f) (propertyNode q) → HoldsBy S f (triple (f .subject) q (f .object))
   subject-property q p = got S f small 4 (f .subject) E edges (λ p c m h. rdfs2 m h) got-key p .prp q refl
 
 -- The rows of the object, by ranges.
-pub object-class : (S : List Triple) (f : Triple) → Small S → isLiteral (f .object) ≡ false → (E : List Edge) → Edges S 5 E → (c : ℕ) → c < 2 ^ 32 → Plus E (propertyNode (f .property)) c → Carries S f (triple (f .object) 1 c)
+pub object-class : (S : List Triple) (f : Triple) → Small S → isLiteral (f .object) ≡ false → (E : List Edge) → Edges S 5 E → (c : ℕ) → c < 2 ^ 32 → Plus E (propertyNode (f .property)) c → HoldsBy S f (triple (f .object) 1 c)
 object-class S f small n E edges c l p = got S f small 5 (f .object) E edges (λ p c m h. rdfs3 m n h) (got-prop S f small 5 (f .object) E edges (λ p c m h. rdfs3 m n h)) p .cls c l refl
 
 -- ---- what is carried is walked to
@@ -184,7 +184,7 @@ module _ (S : List Triple) (f : Triple) (small : Small S) (none : NoVocabulary S
       go n (inr p) = plus-one refl p
 
   -- All that is carried is such.
-  pub carry : {t : Triple} → Carries S f t → Carry f D R t
+  pub carry : {t : Triple} → HoldsBy S f t → Carry f D R t
   carry (explicit m) =
       let e = List·Memᴰ·eq-of-singleton m in
       by-cases (ℕ-discrete (f .property) 1)
@@ -216,15 +216,15 @@ module _ (S : List Triple) (f : Triple) (small : Small S) (none : NoVocabulary S
       go (by-object k z s e l w) = absurd (not-vocabulary (none (triple p 5 c) m .0) (omega arith) (omega arith))
 
   -- All such is carried.
-  pub carried : {t : Triple} → Carry f D R t → Carries S f t
+  pub carried : {t : Triple} → Carry f D R t → HoldsBy S f t
   carried {t} (by-class s p l (inl e)) = explicit (List·Memᴰ·head (back s p l e))
     where
       back : t .subject ≡ f .subject → t .property ≡ 1 → t .object < 2 ^ 32 → t .object ≡ key f → t ≡ f
       back s p l e = by-cases (ℕ-discrete (f .property) 1) (λ h. triple-eq t f s (p ∙ sym h) (e ∙ key-type f h)) (λ n. absurd (omega (arith, key-other f n)))
-  carried {t} (by-class s p l (inr w)) = subst (Carries S f) (triple-eq (triple (f .subject) 1 (t .object)) t (sym s) (sym p) refl) (subject-class S f small fo D de (t .object) l w)
+  carried {t} (by-class s p l (inr w)) = subst (HoldsBy S f) (triple-eq (triple (f .subject) 1 (t .object)) t (sym s) (sym p) refl) (subject-class S f small fo D de (t .object) l w)
   carried {t} (by-property s o (inl e)) = explicit (List·Memᴰ·head (back s o e))
     where
       back : t .subject ≡ f .subject → t .object ≡ f .object → propertyNode (t .property) ≡ key f → t ≡ f
       back s o e = by-cases (ℕ-discrete (f .property) 1) (λ h. absurd (omega (arith, key-type f h))) (λ n. triple-eq t f s (omega (arith, key-other f n)) o)
-  carried {t} (by-property s o (inr w)) = subst (Carries S f) (triple-eq (triple (f .subject) (t .property) (f .object)) t (sym s) refl (sym o)) (subject-property S f small fo D de (t .property) w)
-  carried {t} (by-object n k s p l w) = subst (Carries S f) (triple-eq (triple (f .object) 1 (t .object)) t (sym s) (sym p) refl) (object-class S f small n R re (t .object) l w)
+  carried {t} (by-property s o (inr w)) = subst (HoldsBy S f) (triple-eq (triple (f .subject) (t .property) (f .object)) t (sym s) refl (sym o)) (subject-property S f small fo D de (t .property) w)
+  carried {t} (by-object n k s p l w) = subst (HoldsBy S f) (triple-eq (triple (f .object) 1 (t .object)) t (sym s) (sym p) refl) (object-class S f small n R re (t .object) l w)
