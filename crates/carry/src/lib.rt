@@ -174,7 +174,7 @@ fn write_conclusions(fact: Triple, ends: Ends, found: &[u32], out: &mut [u32])
     }
 }
 
-// Room for the rows that a fact carries: two, and two for each statement.
+// Room for the rows that a fact carries: two, and two for each statement. Nothing is ensured: what is in it does not matter.
 pub fn no_rows() -> [u32; 3078] {
     [0u32; 3078]
 }

@@ -27,7 +27,8 @@ pub data Example : Type 0 where
   answersWith : (S F : List Triple) → List Triple → List ℕ → List (List ℕ) → Example
   -- Under S, an atom has these alternatives.
   hasAlternatives : List Triple → Triple → List Triple → Example
-  -- A triple is refused by this number, whatever the store.
+  -- Of the questions 2 and 3, which an update is asked of its triple alone, the first "no" has this number. An update is asked 1
+  -- before them, so that on a malformed store it gets 1, and is asked nothing behind the first "no".
   isRefused : Triple → ℕ → Example
 
 -- What is claimed of an example.
@@ -90,6 +91,6 @@ examples =
     ∷ supports (triple 21 4 16 ∷ triple 21 5 16 ∷ []) (triple 32 21 32 ∷ []) (triple 32 1 16) 1
     -- "32 1 16 and 32 1 17 under 16 2 17, 17 2 18: 32 1 18 has support 2."
     ∷ supports (triple 16 2 17 ∷ triple 17 2 18 ∷ []) (triple 32 1 16 ∷ triple 32 1 17 ∷ []) (triple 32 1 18) 2
-    -- "19 3 1 is refused with 3."
+    -- "19 3 1 is refused with 3": by the questions asked of the triple, and so by an update of it, on any well-formed store.
     ∷ isRefused (triple 19 3 1) 3
     ∷ []
