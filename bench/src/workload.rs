@@ -121,10 +121,10 @@ fn object_of(facts: &[Triple], property: u32) -> Option<u32> {
     facts.iter().filter(|fact| fact[1] == property && fact[2] < 0x8000_0000).map(|fact| fact[2]).min()
 }
 
-/// Questions of one, two and three atoms about a store of these facts, by name; the first ones ask for a class with few things below it,
+/// Questions of one to four atoms about a store of these facts, by name; the first ones ask for a class with few things below it,
 /// and for one with many.
 pub fn questions(facts: &[Triple]) -> Vec<(&'static str, Vec<u32>)> {
-    let (x, y, z) = (variable(0), variable(1), variable(2));
+    let [x, y, z, u, v] = [0, 1, 2, 3, 4].map(variable);
     let thing = object_of(facts, PROPERTY + 1).unwrap_or(THING);
     vec![
         ("x is of a class with few things", question(&[[x, 1, CLASS + 26]], &[x])),
@@ -139,5 +139,7 @@ pub fn questions(facts: &[Triple]) -> Vec<(&'static str, Vec<u32>)> {
         ("x has a property of a thing", question(&[[x, PROPERTY + 1, thing]], &[x])),
         ("all properties of the members of a class", question(&[[x, 1, CLASS + 26], [x, y, z]], &[x, y, z])),
         ("y is of class z, where x has y", question(&[[x, PROPERTY + 3, y], [y, 1, z]], &[y, z])),
+        ("a zigzag over two shared objects", question(&[[x, PROPERTY + 1, u], [y, PROPERTY + 1, u], [y, PROPERTY + 2, v], [z, PROPERTY + 2, v]], &[x, z])),
+        ("a chain from a known end", question(&[[z, PROPERTY + 1, thing], [y, PROPERTY + 2, z], [x, PROPERTY + 1, y]], &[x])),
     ]
 }

@@ -30,12 +30,13 @@ const VW: u32 = VARIABLE;
 const VX: u32 = VARIABLE + 1;
 const VY: u32 = VARIABLE + 2;
 const VZ: u32 = VARIABLE + 3;
+const VU: u32 = VARIABLE + 4;
 
 /// A case with so many pairs to gather, or a few more.
 type Case = fn(&mut Session, u32) -> Result<(), Failure>;
 
 /// All cases, by name.
-pub const CASES: [(&str, fn(&mut Harness) -> Result<(), Failure>); 7] = [
+pub const CASES: [(&str, fn(&mut Harness) -> Result<(), Failure>); 10] = [
     ("windows of objects, the kept way", |h| run(h, kept_objects)),
     ("windows of objects, the rewritten way", |h| run(h, objects)),
     ("windows of one object", |h| run(h, one_object)),
@@ -43,6 +44,9 @@ pub const CASES: [(&str, fn(&mut Harness) -> Result<(), Failure>); 7] = [
     ("windows of things of a class", |h| run(h, things)),
     ("windows of things of two classes", |h| run(h, two_classes)),
     ("windows of classes by a range", |h| run(h, classes)),
+    ("windows of a zigzag", |h| run(h, zigzag)),
+    ("windows of a chain from a known end", |h| run(h, known_end)),
+    ("windows of things of two variables", |h| run(h, two_variables)),
 ];
 
 /// Runs a case with little to gather beside the model, and with more than fits by itself.
@@ -236,6 +240,54 @@ fn classes(session: &mut Session, n: u32) -> Result<(), Failure> {
             .collect();
         let atoms = [[VY, B, VZ], [VZ, VW, VX]];
         ask(session, way, &atoms, [VY, VZ, VW, VX], rows)?;
+    }
+    Ok(())
+}
+
+/// Two shared objects, one after the other: things 2j and 2j + 1 share an object of A, and things
+/// 2j - 1 and 2j one of B, in the other order. Only keys that the atoms before give are gathered.
+fn zigzag(session: &mut Session, n: u32) -> Result<(), Failure> {
+    for (way, n) in [(Way::Kept, n + n / 2), (Way::Rewritten, n / 2 + 2)] {
+        let mut facts: Vec<Triple> = (0..n).map(|i| [X + i, A, Z + i / 2]).collect();
+        facts.extend((0..n).map(|i| [X + i, B, Y + n - (i + 1) / 2]));
+        lend(session, &[], way, facts)?;
+        let atoms = [[VW, A, VZ], [VX, A, VZ], [VX, B, VY], [VU, B, VY]];
+        let of = |i: u32| {
+            let first = (i / 2 * 2).saturating_sub(1);
+            (first..n.min(i / 2 * 2 + 3)).map(move |k| [X + i, X + k])
+        };
+        let rows = (0..n).flat_map(of).collect();
+        ask(session, way, &atoms, [VW, VU], rows)?;
+    }
+    Ok(())
+}
+
+/// A chain whose last object is known: thing i has thing i / 2, so that few keys are given.
+fn known_end(session: &mut Session, n: u32) -> Result<(), Failure> {
+    for (way, n) in [(Way::Kept, 3 * n + 7), (Way::Rewritten, n + 5)] {
+        let facts = (0..n).map(|i| [X + i, A, X + i / 2]).collect();
+        lend(session, &[], way, facts)?;
+        let end = (n - 8) / 9;
+        let atoms = [[VZ, A, X + end], [VY, A, VZ], [VX, A, VY]];
+        let rows = (0..8).map(|k| [X + 8 * end + k]).collect();
+        ask(session, way, &atoms, [VX], rows)?;
+    }
+    Ok(())
+}
+
+/// The things of two classes, looked up by two variables: for all facts, and for few.
+fn two_variables(session: &mut Session, n: u32) -> Result<(), Failure> {
+    let n = n - 20;
+    let statements = [[A, DOMAIN, CLASS], [A, RANGE, CLASS + 1]];
+    let mut facts: Vec<Triple> = (0..n).map(|i| [X + i, A, Y + n - 1 - i]).collect();
+    let few = (0..7).map(|j| [X + j * (n / 7), B, Y + j * (n / 7)]);
+    facts.extend(few.clone().chain([[W, B, Y], [X, B, W]]));
+    let way = Way::Rewritten;
+    lend(session, &statements, way, facts)?;
+    let all = (0..n).map(|i| [X + i, Y + n - 1 - i]).collect();
+    for (property, rows) in [(A, all), (B, few.map(|[x, _, y]| [x, y]).collect())] {
+        let atoms = [[VX, TYPE, CLASS], [VY, TYPE, CLASS + 1], [VX, property, VY]];
+        ask(session, way, &atoms, [VX, VY], rows)?;
     }
     Ok(())
 }
