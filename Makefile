@@ -28,7 +28,7 @@ SHELF := CARGO_TARGET_DIR=target/tests cargo run --release --offline --quiet --m
 SHELF_STDOUT := bindings/rust/examples/shelf.stdout
 
 trial: library cargo jena valgrind
-	@rm -f $(TRIAL_LOG)
+	@tools/chain >$(TRIAL_LOG) || exit 1
 	@$(call try,1,beside the model,)
 	@$(call try,2,beside Apache Jena,--part jena)
 	@$(call try,3,under valgrind,--part memory)

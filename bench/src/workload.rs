@@ -1,6 +1,7 @@
 //! A made-up product graph: a forest of classes, chains of properties with domains and ranges, and facts about things.
 
 use families::Triple;
+use std::collections::HashMap;
 
 /// A small generator of pseudo-random numbers (xorshift), so that every run has the same workload.
 pub struct Random(u64);
@@ -121,11 +122,20 @@ fn object_of(facts: &[Triple], property: u32) -> Option<u32> {
     facts.iter().filter(|fact| fact[1] == property && fact[2] < 0x8000_0000).map(|fact| fact[2]).min()
 }
 
+/// The end of a chain of three facts with these properties, from the last to the first.
+fn end_of_chain(facts: &[Triple], properties: [u32; 3]) -> Option<u32> {
+    let objects: HashMap<(u32, u32), u32> = facts.iter().map(|&[s, p, o]| ((s, p), o)).collect();
+    let [first, second, third] = properties;
+    let starts = facts.iter().filter(|fact| fact[1] == third);
+    starts.filter_map(|fact| objects.get(&(fact[2], second))).find_map(|&z| objects.get(&(z, first)).copied())
+}
+
 /// Questions of one to four atoms about a store of these facts, by name; the first ones ask for a class with few things below it,
 /// and for one with many.
 pub fn questions(facts: &[Triple]) -> Vec<(&'static str, Vec<u32>)> {
     let [x, y, z, u, v] = [0, 1, 2, 3, 4].map(variable);
     let thing = object_of(facts, PROPERTY + 1).unwrap_or(THING);
+    let end = end_of_chain(facts, [PROPERTY + 1, PROPERTY + 2, PROPERTY + 1]).unwrap_or(THING);
     vec![
         ("x is of a class with few things", question(&[[x, 1, CLASS + 26]], &[x])),
         ("x is of a class with many things", question(&[[x, 1, CLASS]], &[x])),
@@ -140,6 +150,6 @@ pub fn questions(facts: &[Triple]) -> Vec<(&'static str, Vec<u32>)> {
         ("all properties of the members of a class", question(&[[x, 1, CLASS + 26], [x, y, z]], &[x, y, z])),
         ("y is of class z, where x has y", question(&[[x, PROPERTY + 3, y], [y, 1, z]], &[y, z])),
         ("a zigzag over two shared objects", question(&[[x, PROPERTY + 1, u], [y, PROPERTY + 1, u], [y, PROPERTY + 2, v], [z, PROPERTY + 2, v]], &[x, z])),
-        ("a chain from a known end", question(&[[z, PROPERTY + 1, thing], [y, PROPERTY + 2, z], [x, PROPERTY + 1, y]], &[x])),
+        ("a chain from a known end", question(&[[z, PROPERTY + 1, end], [y, PROPERTY + 2, z], [x, PROPERTY + 1, y]], &[x])),
     ]
 }

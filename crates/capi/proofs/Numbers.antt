@@ -2,14 +2,14 @@
 use Prim.Native.Nat.{ℕ}
 use mathlib.Core.Path.{_≡_, refl, ap}
 use mathlib.Core.List.{List}
-use Rattle.output.specs.declared.Reply.{Reply}
-use Rattle.output.specs.declared.Reply.the-variants.{Rows, Refused}
-use Rattle.output.specs.Output.{Replied, replied, replyNumber, replyCount}
-use Rattle.update.specs.declared.Answer.{Answer}
-use Rattle.update.specs.Store.{Tables}
-use Rattle.update.specs.Update.{Outcome, outcome, answerNumber}
-use Rattle.deliver.specs.declared.Delivered.{Delivered}
-use Rattle.capi.specs.Numbered.{updated, numberedOutcome, received, resultWords, numberedDelivery, listed, numberedReply}
+use Rattle.spec.specs.declared.Reply.{Reply}
+use Rattle.spec.specs.declared.Reply.the-variants.{Rows, Refused}
+use Rattle.spec.specs.Outputs.{Replied, replied, replyNumber, replyCount}
+use Rattle.spec.specs.declared.Answer.{Answer}
+use Rattle.spec.specs.Tables.{Tables}
+use Rattle.spec.specs.Updates.{Outcome, outcome, answerNumber}
+use Rattle.spec.specs.declared.Delivered.{Delivered}
+use Rattle.spec.specs.Exported.{updated, numberedOutcome, received, resultWords, numberedDelivery, listed, numberedReply}
 
 -- An update's number and tables are those of its outcome.
 pub update-numbered : (a : Answer) (n : ℕ) (T : Tables) (o : Outcome) → n ≡ answerNumber a → outcome a T ≡ o → updated n T ≡ numberedOutcome o

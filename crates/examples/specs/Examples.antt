@@ -3,15 +3,13 @@
 use mathlib.Core.Path.{_≡_}
 use mathlib.Core.List.{List, [], _∷_}
 use Prim.Native.Nat.{ℕ}
-use Rattle.rdf.specs.declared.Triple.{Triple}
-use Rattle.rdf.specs.Term.{variable}
-use Rattle.rdf.specs.Triple.{triple}
-use Rattle.rdf.specs.Refusal.{firstNo, tripleQuestions}
-use Rattle.rdf.specs.Order.{remove}
-use Rattle.rdfs.specs.Closure.{carried}
-use Rattle.rdfs.specs.Saturation.{Kept, support, lookup, lowerAll, saturation}
-use Rattle.query.specs.Answer.{answers, rewrittenGraph}
-use Rattle.reformulation.specs.Alternative.{alternatives}
+use Rattle.spec.specs.declared.Triple.{Triple}
+use Rattle.spec.specs.Terms.{variable, triple}
+use Rattle.spec.specs.Refusals.{firstNo, tripleQuestions}
+use Rattle.spec.specs.Order.{remove}
+use Rattle.spec.specs.Saturation.{carried, Kept, support, lookup, lowerAll, saturation}
+use Rattle.spec.specs.Questions.{answers, rewrittenGraph}
+use Rattle.spec.specs.Alternatives.{alternatives}
 
 -- What an example says.
 pub data Example : Type 0 where

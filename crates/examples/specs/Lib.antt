@@ -1,2 +1,2 @@
-pub mod Compute
 pub mod Examples
+pub mod inside

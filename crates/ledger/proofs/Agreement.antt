@@ -6,24 +6,21 @@ use mathlib.Core.Logic.{⊎-elim}
 use mathlib.Core.List.{List, [], _∷_, _++_, List·Memᴰ, Memᴰ·cast}
 use lib.ListN.{length}
 use borrow.Author.Tests.{le-leb}
-use Rattle.rdf.specs.declared.Triple.{Triple}
-use Rattle.rdf.specs.Triple.{isStatement}
-use Rattle.rdf.specs.Order.{Ascending, insert}
-use Rattle.rdf.specs.Refusal.{firstNo, tripleQuestions}
-use Rattle.rdf.proofs.Lists.{by-test}
-use Rattle.rdf.proofs.Ascending.{insert-asc, insert-old, insert-cases, ascending-ext}
-use Rattle.table.specs.Table.{capacity}
+use Rattle.spec.specs.declared.Triple.{Triple}
+use Rattle.spec.specs.Terms.{isStatement}
+use Rattle.spec.specs.Order.{Ascending, insert}
+use Rattle.spec.specs.Refusals.{firstNo, tripleQuestions}
+use Rattle.spec.proofs.Lists.{by-test}
+use Rattle.spec.proofs.Ascending.{insert-asc, insert-old, insert-cases, ascending-ext}
+use Rattle.spec.specs.Tables.{capacity, Tables, areFormed, Contents, contentsOf}
 use Rattle.table.proofs.Change.{remove-absent}
-use Rattle.update.specs.declared.Answer.{Answer}
-use Rattle.update.specs.Store.{Tables, areFormed, Contents, contentsOf}
-use Rattle.update.specs.Update.{withTriple, withoutTriple, isThere, isBelowCapacity, isKeptFitting, additionQuestions, withdrawalQuestions, decide, add, withdraw}
+use Rattle.spec.specs.declared.Answer.{Answer}
+use Rattle.spec.specs.Updates.{withTriple, withoutTriple, isThere, isBelowCapacity, isKeptFitting, additionQuestions, withdrawalQuestions, decide, add, withdraw}
 use Rattle.store.proofs.Fitting.{contentsOf-put, Fitting, SameLengths, formed-fitting}
 use Rattle.store.proofs.Laws.{there-false, there-true, with-saturated, without-saturated, Saturated, add-lengths, withdraw-lengths, Sound, add-sound, withdraw-sound}
-use Rattle.entry.specs.Entry.{addition, withdrawal}
-use Rattle.deliver.specs.Deliver.{messageQuestions, deliver}
-use Rattle.delivery.specs.Message.{read}
-use Rattle.ledger.specs.Ledger.{Capacities, capacities, Ledger, ledger, entering, leaving, isMember, isBelow, isFitting, entryQuestions, removalQuestions, settle, enter, remit, receive, ledgerEntries}
-use Rattle.ledger.specs.History.{storeEntries}
+use Rattle.spec.specs.Deliveries.{addition, withdrawal, messageQuestions, deliver, read}
+use Rattle.spec.specs.Ledger.{Capacities, capacities, Ledger, ledger, entering, leaving, isMember, isBelow, isFitting, entryQuestions, removalQuestions, settle, enter, remit, receive, ledgerEntries}
+use Rattle.spec.specs.Demand3.{storeEntries}
 use Rattle.ledger.proofs.Alike.{Same, conclude-alike, EntriesAlike}
 
 -- The ledger whose sets are the statements and the facts of some contents.

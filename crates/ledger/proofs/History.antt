@@ -5,28 +5,26 @@ use mathlib.Core.Bool.{true}
 use mathlib.Core.Logic.{_↔_}
 use mathlib.Core.List.{List, List·Memᴰ}
 use lib.ListN.{length, length-replicate}
-use Rattle.rdf.specs.declared.Triple.{Triple}
-use Rattle.table.specs.Table.{rows, layout, supportLayout}
-use Rattle.table.specs.Laid.{FormedStore}
-use Rattle.table.proofs.Formed.{wellFormed-isTable}
+use Rattle.spec.specs.declared.Triple.{Triple}
+use Rattle.spec.specs.Tables.{rows, layout, supportLayout, Tables, tables, contentsOf}
+use Rattle.spec.specs.inside.Laid.{FormedStore}
+use Rattle.spec.proofs.TableFormed.{wellFormed-isTable}
 use Rattle.table.proofs.Store.{isStore-formed}
-use Rattle.rdfs.specs.Follows.{Follows}
-use Rattle.rdfs.specs.Saturation.{saturation, keptRows, keptSupports}
-use Rattle.rdfs.proofs.Entailment.{allowed-no-vocabulary}
-use Rattle.rdfs.proofs.Follows.{follows-iff}
-use Rattle.update.specs.Store.{Tables, tables, contentsOf}
-use Rattle.kept.proofs.Formed.{keptRows-keptOf}
+use Rattle.spec.specs.Rules.{Follows}
+use Rattle.spec.specs.Saturation.{saturation, keptRows, keptSupports}
+use Rattle.spec.proofs.Entailment.{allowed-no-vocabulary}
+use Rattle.spec.proofs.Follows.{follows-iff}
+use Rattle.update_kept.proofs.Formed.{keptRows-keptOf}
 use Rattle.store.proofs.Fitting.{formed-fitting, supports-are}
 use Rattle.store.proofs.Laws.{Saturated, empty-sound, empty-contents}
-use Rattle.query.specs.Answer.{rewrittenGraph}
-use Rattle.query.specs.Ask.{ask, askKept, askRewritten}
-use Rattle.query.proofs.AnswerLaws.{rewritten-graph, kept-rewritten}
-use Rattle.ledger.specs.Ledger.{Call, capacities, Ledger, empty, ledgerEntries}
-use Rattle.ledger.specs.History.{storeEntries, emptyStore, storeRun, ledgerRun, graphOf, Replies, Demand3}
+use Rattle.spec.specs.Questions.{rewrittenGraph, ask, askKept, askRewritten}
+use Rattle.spec.proofs.AnswerLaws.{rewritten-graph, kept-rewritten}
+use Rattle.spec.specs.Ledger.{Call, capacities, Ledger, empty, ledgerEntries}
+use Rattle.spec.specs.Demand3.{storeEntries, emptyStore, storeRun, ledgerRun, graphOf, Replies, Demand3}
 use Rattle.ledger.proofs.Alike.{RunsAlike, calls-alike}
 use Rattle.ledger.proofs.Agreement.{held, Agrees, entries-agree}
-use Rattle.ledger.proofs.Sets.{Allowed, rows-follow, rows-supported, fits-by, entering-allowed, leaving-allowed}
-use Rattle.ledger.proofs.Replying.{asked-replies}
+use Rattle.spec.proofs.LedgerSets.{Allowed, rows-follow, rows-supported, fits-by, entering-allowed, leaving-allowed}
+use Rattle.spec.proofs.Replying.{asked-replies}
 
 -- ---- the runs
 

@@ -6,16 +6,16 @@ use mathlib.Core.List.{List, [], _∷_, _++_}
 use native.Mathlib.Omega.{arith}
 use lib.ListN.{length, getD, take, drop, set, replicate, length-append, length-drop, drop-of-length-le}
 use lib.Seq.{take-all, sets, length-sets, sets-eq}
-use Rattle.rdf.specs.Triple.{triple}
-use Rattle.rows.proofs.Tables.{le-or}
-use Rattle.update.specs.declared.Answer.{Answer}
-use Rattle.update.specs.Store.{Tables, tables}
-use Rattle.update.specs.Update.{Outcome, outcome, add, withdraw}
-use Rattle.deliver.specs.declared.Delivered.{Delivered}
-use Rattle.deliver.specs.Deliver.{deliver}
-use Rattle.ledger.specs.Ledger.{Given, answered, resulted, call, calls}
-use Rattle.ledger.specs.History.{storeEntries, emptyStore, storeRun}
-use Rattle.ledger.specs.Encoded.{callOf, callsFrom, encoded, givenWords, replyWords, wordedCall, Runnable, Ran}
+use Rattle.spec.specs.Terms.{triple}
+use Rattle.spec.proofs.Lists.{le-or}
+use Rattle.spec.specs.declared.Answer.{Answer}
+use Rattle.spec.specs.Tables.{Tables, tables}
+use Rattle.spec.specs.Updates.{Outcome, outcome, add, withdraw}
+use Rattle.spec.specs.declared.Delivered.{Delivered}
+use Rattle.spec.specs.Deliveries.{deliver}
+use Rattle.spec.specs.Ledger.{Given, answered, resulted, call, calls}
+use Rattle.spec.specs.Demand3.{storeEntries, emptyStore, storeRun}
+use Rattle.spec.specs.Runs.{callOf, callsFrom, encoded, givenWords, replyWords, wordedCall, Runnable, Ran}
 use Rattle.ledger.proofs.History.{history}
 
 -- ---- parts of bytes

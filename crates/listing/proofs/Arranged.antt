@@ -9,21 +9,23 @@ use native.Mathlib.Omega.{arith}
 use lib.Dec.{eqb}
 use lib.ListN.{length, getD, length-map}
 use borrow.Author.Tests.{eqb-true}
-use Rattle.rdf.specs.declared.Triple.{Triple}
-use Rattle.rdf.specs.Triple.{triple}
-use Rattle.rdf.specs.Order.{Ascending, triple-eq}
-use Rattle.rdf.proofs.Lists.{true-not-false, or-cases}
-use Rattle.rdf.proofs.Order.{less-ne}
-use Rattle.rdf.proofs.Ascending.{and-left, and-right, above-asc, above-member}
-use Rattle.table.specs.Table.{all}
-use Rattle.table.specs.Table as table
-use Rattle.table.proofs.All.{all-getD}
-use Rattle.table.proofs.Rows.{getD-rows}
-use Rattle.rows.specs.Rows.{less, tabulate, rows, rowAt, insert, sort, insertOnce, ordered}
-use Rattle.rows.proofs.Order.{less-tri}
-use Rattle.rows.proofs.Ordered.{ordered-iff}
-use Rattle.listing.specs.Listing.{columnOrders, column, arranged, listingRows}
-use Rattle.listing.specs.Written.{RowsWritten}
+use Rattle.spec.specs.declared.Triple.{Triple}
+use Rattle.spec.specs.Terms.{triple}
+use Rattle.spec.specs.Order.{Ascending, triple-eq}
+use Rattle.spec.proofs.Lists.{true-not-false, or-cases}
+use Rattle.spec.proofs.Order.{less-ne}
+use Rattle.spec.proofs.Ascending.{and-left, and-right, above-asc, above-member}
+use Rattle.spec.specs.Tables.{all}
+use Rattle.spec.specs.Tables as table
+use Rattle.spec.proofs.TableAll.{all-getD}
+use Rattle.spec.proofs.TableRows.{getD-rows}
+use Rattle.spec.specs.Rows.{less, insertOnce, ordered}
+use Rattle.rows.specs.inside.Rows.{tabulate, rows, rowAt}
+use Rattle.spec.specs.inside.Sorting.{insert, sort}
+use Rattle.spec.proofs.RowOrder.{less-tri}
+use Rattle.spec.proofs.OrderedRows.{ordered-iff}
+use Rattle.spec.specs.Listings.{columnOrders, column, arranged, listingRows}
+use Rattle.listing.specs.inside.Written.{RowsWritten}
 
 -- ---- the rule of the table of column orders: each order has all three columns
 

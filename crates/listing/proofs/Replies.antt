@@ -6,20 +6,20 @@ use mathlib.Core.List.{List, []}
 use native.Mathlib.Omega.{arith}
 use lib.ListN.{length, getD, drop, replicate, length-replicate}
 use borrow.Author.Tests.{leb-true, le-leb, lt-leb}
-use Rattle.rdf.specs.declared.Triple.{Triple}
-use Rattle.rdf.specs.Refusal.{firstNo}
-use Rattle.table.specs.Table.{count, rows}
-use Rattle.table.specs.Laid.{WellFormed}
-use Rattle.table.proofs.Rows.{length-rows}
-use Rattle.rows.specs.Rows.{sort}
-use Rattle.rows.specs.Rows as sort
-use Rattle.quick.specs.Effects.{SortedRows}
+use Rattle.spec.specs.declared.Triple.{Triple}
+use Rattle.spec.specs.Refusals.{firstNo}
+use Rattle.spec.specs.Tables.{count, rows}
+use Rattle.spec.specs.inside.Laid.{WellFormed}
+use Rattle.spec.proofs.TableRows.{length-rows}
+use Rattle.spec.specs.inside.Sorting.{sort}
+use Rattle.rows.specs.inside.Rows as sort
+use Rattle.rows_quicksort.specs.inside.Effects.{SortedRows}
 use Rattle.rows.proofs.RowWords.{drop-ext}
-use Rattle.output.specs.declared.Reply.the-variants.{Rows, Refused}
-use Rattle.output.specs.Output.{areFitting, filled, replied, give}
+use Rattle.spec.specs.declared.Reply.the-variants.{Rows, Refused}
+use Rattle.spec.specs.Outputs.{areFitting, filled, replied, give}
 use Rattle.output.proofs.Filled.{rows-filled}
-use Rattle.listing.specs.Listing.{columnOrders, listingRows, listing}
-use Rattle.listing.specs.Written.{RowsWritten, Listable}
+use Rattle.spec.specs.Listings.{columnOrders, listingRows, listing}
+use Rattle.listing.specs.inside.Written.{RowsWritten, Listable}
 use Rattle.listing.proofs.Arranged.{listing-sorted, listing-length, written-rows}
 
 -- The rows of a well-formed table can be listed.

@@ -6,13 +6,13 @@ use mathlib.Core.Logic.{⊎-elim}
 use native.Mathlib.Omega.{arith}
 use lib.ListN.{length, getD, set, length-set}
 use lib.Seq.{getD-set-same, getD-set-other}
-use Rattle.rdf.specs.declared.Triple.{Triple}
-use Rattle.table.specs.Table as table
-use Rattle.rows.specs.Rows.{row, rowAt}
+use Rattle.spec.specs.declared.Triple.{Triple}
+use Rattle.spec.specs.Tables as table
+use Rattle.rows.specs.inside.Rows.{row, rowAt}
 use Rattle.rows.proofs.RowWords.{row-ext}
 use Rattle.rows.proofs.Tables.{eq-or}
-use Rattle.listing.specs.Listing.{column}
-use Rattle.listing.specs.Written.{RowWritten, RowsWritten}
+use Rattle.spec.specs.Listings.{column}
+use Rattle.listing.specs.inside.Written.{RowWritten, RowsWritten}
 
 -- The third column.
 pub column-last : (t : Triple) (c : ℕ) → (c ≡ 0 → ⊥) → (c ≡ 1 → ⊥) → t .object ≡ column t c

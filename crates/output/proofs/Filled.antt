@@ -8,10 +8,11 @@ use native.Mathlib.Omega.{arith}
 use lib.Dec.{leb}
 use lib.ListN.{length, getD, take, drop, replicate, length-replicate, getD-replicate, take-append-drop}
 use lib.Seq.{ext-getD, length-take-le}
-use Rattle.rows.specs.Rows.{rows, flat}
-use Rattle.rows.specs.Effects.{WordsZeroed}
+use Rattle.rows.specs.inside.Rows.{rows}
+use Rattle.spec.specs.Rows.{flat}
+use Rattle.rows.specs.inside.Effects.{WordsZeroed}
 use Rattle.rows.proofs.HeldWords.{flat-rows}
-use Rattle.output.specs.Output.{areFitting, filled}
+use Rattle.spec.specs.Outputs.{areFitting, filled}
 
 -- Words that are set to zero up to their end.
 pub all-zero : (i : ℕ) (t s : List ℕ) → WordsZeroed 0 i t s → length s ≡ length t → length s ≤ i → s ≡ replicate (length t) 0

@@ -8,7 +8,7 @@ use native.Mathlib.Omega.{arith}
 use lib.ListN.{length, getD, take, drop, set, length-append}
 use lib.Seq.{take-suc, take-suc-set, drop-set-lt, drop-drop, take-all, length-take-le}
 use Rattle.report.specs.Text.{decimal}
-use Rattle.report.specs.Appended.{Appended}
+use Rattle.report.specs.inside.Appended.{Appended}
 use Rattle.report.proofs.Decimal.{decimal-small, decimal-large}
 
 -- One byte.

@@ -6,7 +6,7 @@ use native.Mathlib.Omega.{arith}
 use lib.ListN.{length, length-append}
 use lib.Dec.{ltb}
 use borrow.Author.Tests.{lt-ltb, le-ltb, ltb-true, ltb-false}
-use Rattle.rdf.proofs.Lists.{by-test}
+use Rattle.spec.proofs.Lists.{by-test}
 use Rattle.report.specs.Text.{digits, decimal}
 
 -- ---- the digits of a number

@@ -5,16 +5,15 @@ use mathlib.Core.List.{List, [], _∷_, _++_, append-nil, append-assoc}
 use native.Mathlib.Numerals.{add-one}
 use lib.ListN.{length, getD, take}
 use lib.Seq.{take-suc, take-all}
-use Rattle.rdf.specs.declared.Triple.{Triple}
-use Rattle.rdf.specs.Triple.{triple}
-use Rattle.table.specs.Table.{count, rowAt}
-use Rattle.table.proofs.Rows.{length-rows}
-use Rattle.rdfs.specs.Saturation.{Kept}
-use Rattle.update.specs.Store.{keptOf}
-use Rattle.kept.proofs.Entries.{noEntry, length-entries, getD-entries, keptOf-entries}
-use Rattle.deliver.specs.declared.Delivered.{Delivered}
+use Rattle.spec.specs.declared.Triple.{Triple}
+use Rattle.spec.specs.Terms.{triple}
+use Rattle.spec.specs.Tables.{count, rowAt, keptOf}
+use Rattle.spec.proofs.TableRows.{length-rows}
+use Rattle.spec.specs.Saturation.{Kept}
+use Rattle.update_kept.proofs.Entries.{noEntry, length-entries, getD-entries, keptOf-entries}
+use Rattle.spec.specs.declared.Delivered.{Delivered}
 use Rattle.report.specs.Text.{labelled, rowsWord, newline, resultLine, rowsLine, rowLine, rowLines, reportText}
-use Rattle.report.specs.Appended.{Appended}
+use Rattle.report.specs.inside.Appended.{Appended}
 use Rattle.report.proofs.Appending.{both-appended, text-appended}
 
 -- The lines of one row more.

@@ -5,15 +5,14 @@ use mathlib.Core.List.{List}
 use native.Mathlib.Omega.{arith}
 use lib.ListN.{length, replicate, length-replicate}
 use borrow.Author.Tests.{eq-eqb, ne-eqb}
-use Rattle.table.specs.Table.{count}
-use Rattle.table.specs.Laid.{FormedStore}
+use Rattle.spec.specs.Tables.{count, Tables, tables, keptOf}
+use Rattle.spec.specs.inside.Laid.{FormedStore}
 use Rattle.table.proofs.Store.{isStore-formed}
-use Rattle.update.specs.Store.{Tables, tables, keptOf}
 use Rattle.store.proofs.Laws.{Sound, empty-sound}
-use Rattle.deliver.specs.declared.Delivered.{Delivered}
-use Rattle.deliver.specs.Deliver.{deliver}
+use Rattle.spec.specs.declared.Delivered.{Delivered}
+use Rattle.spec.specs.Deliveries.{deliver}
 use Rattle.report.specs.Text.{reportText, refusalText, outcomeText, emptyStore, response}
-use Rattle.report.specs.Appended.{Appended, Printable, headRoom, responseRoom}
+use Rattle.report.specs.inside.Appended.{Appended, Printable, headRoom, responseRoom}
 use Rattle.report.proofs.Appending.{text-appended}
 use Rattle.report.proofs.Sound.{deliver-sound}
 

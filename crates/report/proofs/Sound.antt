@@ -1,15 +1,11 @@
 -- A delivery leaves a store sound: well formed, its kept facts the saturation. Assumes nothing.
 use Prim.Native.Nat.{ℕ, zero, suc}
 use mathlib.Core.List.{List, [], _∷_}
-use Rattle.rdf.specs.declared.Triple.{Triple}
-use Rattle.rdf.specs.Refusal.{firstNo}
-use Rattle.update.specs.Store.{Tables, areFormed}
+use Rattle.spec.specs.declared.Triple.{Triple}
+use Rattle.spec.specs.Refusals.{firstNo}
+use Rattle.spec.specs.Tables.{Tables, areFormed}
 use Rattle.store.proofs.Laws.{Sound, add-sound, withdraw-sound}
-use Rattle.delivery.specs.Message.{Message, read}
-use Rattle.tally.specs.Tally.{tally}
-use Rattle.entry.specs.Entry.{Update, addition, withdrawal}
-use Rattle.section.specs.Section.{Progress, progress, runEntry, runEntries}
-use Rattle.deliver.specs.Deliver.{runMessage, messageQuestions, conclude, deliver}
+use Rattle.spec.specs.Deliveries.{Message, read, tally, Update, addition, withdrawal, Progress, progress, runEntry, runEntries, runMessage, messageQuestions, conclude, deliver}
 
 -- Entries whose updates each leave it so, all together do.
 entries-sound : (update : Update Tables) → ((T : Tables) (t : Triple) → Sound T → Sound (update T t .1))

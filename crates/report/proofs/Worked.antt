@@ -4,19 +4,13 @@ use mathlib.Core.List.{List, [], _∷_, zip, zipWith}
 use mathlib.Core.Logic.{Dec·and}
 use native.Mathlib.Decide.{ℕ-discrete, decLt}
 use Prim.Native.Nat.{ℕ}
-use Rattle.rdf.specs.Term.{isUri, isBlank, isLiteral, isVocabulary}
-use Rattle.rdf.specs.Triple.{isTriple, isStatement, areSidesAllowed, isAllowedStatement, isAllowedFact}
-use Rattle.rdf.specs.Refusal.{firstNo}
-use Rattle.rdf.specs.Order.{compareNumbers, compareTriples, equalTriples, choose, byOrder, isAbove, isAscending, insert, remove, ascend}
-use Rattle.table.specs.Table.{capacity, firstRows, rows, flatten, layout, areZero, all, isTable, isSupportTable, supportLayout, isStore}
-use Rattle.rdfs.specs.Closure.{isIn, add, addAll, keep, leaves, pull, afterPull, explore, spread, reach, objects, properties, subjectClasses, objectClasses, conclusions, carried}
-use Rattle.rdfs.specs.Saturation.{raise, raiseAll, saturation}
-use Rattle.update.specs.Store.{contentsOf, keptOf, put}
-use Rattle.update.specs.Update.{withTriple, isThere, isBelowCapacity, isKeptFitting, decide, add as addition}
-use Rattle.delivery.specs.Message.{short, word, entriesFrom, sectionEnd, sectionStart, fieldEnd, fieldsFrom, fieldsEnd, numberFields, read, isWhole, areSectionsRight, isNumberRight, numberOf}
-use Rattle.tally.specs.Tally.{tallied}
-use Rattle.section.specs.Section.{runEntry, runEntries}
-use Rattle.deliver.specs.Deliver.{runMessage, conclude, deliver}
+use Rattle.spec.specs.Terms.{isUri, isBlank, isLiteral, isVocabulary, isTriple, isStatement, areSidesAllowed, isAllowedStatement, isAllowedFact}
+use Rattle.spec.specs.Refusals.{firstNo}
+use Rattle.spec.specs.Order.{compareNumbers, compareTriples, equalTriples, choose, byOrder, isAbove, isAscending, insert, remove, ascend}
+use Rattle.spec.specs.Tables.{capacity, firstRows, rows, flatten, layout, areZero, all, isTable, isSupportTable, supportLayout, isStore, contentsOf, keptOf, put}
+use Rattle.spec.specs.Saturation.{isIn, add, addAll, keep, leaves, pull, afterPull, explore, spread, reach, objects, properties, subjectClasses, objectClasses, conclusions, carried, raise, raiseAll, saturation}
+use Rattle.spec.specs.Updates.{withTriple, isThere, isBelowCapacity, isKeptFitting, decide, add as addition}
+use Rattle.spec.specs.Deliveries.{short, word, entriesFrom, sectionEnd, sectionStart, fieldEnd, fieldsFrom, fieldsEnd, numberFields, read, isWhole, areSectionsRight, isNumberRight, numberOf, tallied, runEntry, runEntries, runMessage, conclude, deliver}
 use Rattle.report.specs.Text.{digits, decimal, resultLine, rowsLine, rowLine, rowLines, reportText, refusalText, outcomeText, response}
 
 -- The 94 bytes.

@@ -4,11 +4,11 @@ use mathlib.Core.Bool.{cond}
 use mathlib.Core.List.{List, [], _∷_, _++_}
 use lib.ListN.{length, replicate}
 use lib.Dec.{eqb, ltb}
-use Rattle.rdf.specs.declared.Triple.{Triple}
-use Rattle.rdfs.specs.Saturation.{Kept}
-use Rattle.update.specs.Store.{Tables, tables, keptOf}
-use Rattle.deliver.specs.declared.Delivered.{Delivered}
-use Rattle.deliver.specs.Deliver.{deliver}
+use Rattle.spec.specs.declared.Triple.{Triple}
+use Rattle.spec.specs.Saturation.{Kept}
+use Rattle.spec.specs.Tables.{Tables, tables, keptOf}
+use Rattle.spec.specs.declared.Delivered.{Delivered}
+use Rattle.spec.specs.Deliveries.{deliver}
 
 -- ---- numbers
 

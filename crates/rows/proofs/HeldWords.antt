@@ -7,7 +7,8 @@ use native.Mathlib.Numerals.{add-one}
 use native.Mathlib.Omega.{arith}
 use lib.ListN.{length, getD, drop, take}
 use lib.Seq.{drop-cons, drop-drop, take-add}
-use Rattle.rows.specs.Rows.{row, tabulate, rows, flat}
+use Rattle.rows.specs.inside.Rows.{row, tabulate, rows}
+use Rattle.spec.specs.Rows.{flat}
 
 -- A row is a part of the words.
 pub row-take : (m p : ℕ) (s : List ℕ) → p + m ≤ length s → row m p s ≡ take m (drop p s)

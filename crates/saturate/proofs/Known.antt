@@ -4,24 +4,23 @@ use mathlib.Core.List.{List}
 use Prim.Native.Nat.{ℕ, _*_, _^_, _≤_, _<_}
 use native.Mathlib.Omega.{arith}
 use lib.ListN.{length, getD}
-use Rattle.rdf.specs.Term.{isLiteral}
-use Rattle.rdf.specs.Triple.{triple, isAllowedStatement, isAllowedFact}
-use Rattle.table.specs.Table.{count, rows, mostStatements, mostFacts}
-use Rattle.table.specs.Laid.{WellFormed}
-use Rattle.table.proofs.Formed.{capacity-most}
-use Rattle.table.proofs.Rows.{length-rows}
-use Rattle.rdfs.specs.Saturation.{saturation}
-use Rattle.rdfs.proofs.Saturation.{saturation-support, saturation-counts, support-bound}
-use Rattle.schema.specs.Nodes.{edges}
-use Rattle.schema.specs.Walks.{Plus}
-use Rattle.schema.specs.Ascent.{Placed, Ends, termOf}
-use Rattle.schema.specs.Compiled.{Compiled, Keyed, objectAt}
-use Rattle.schema.proofs.Tables.{fact-words, rows-ascend, row-subject, row-property, row-object, plain-below}
-use Rattle.schema.proofs.Counted.{marks-even, no-type, class-support, class-support-none, property-support, property-support-none, absent-support}
-use Rattle.schema.proofs.Made.{compiled-made, keyed-made}
-use Rattle.counts.specs.Prepared.{Prepared, Facts}
-use Rattle.counts.specs.Supported.{Supported, Small}
-use Rattle.saturate.specs.Saturated.{Exists, Domains, Ranges}
+use Rattle.spec.specs.Terms.{isLiteral, triple, isAllowedStatement, isAllowedFact}
+use Rattle.spec.specs.Tables.{count, rows, mostStatements, mostFacts}
+use Rattle.spec.specs.inside.Laid.{WellFormed}
+use Rattle.spec.proofs.TableFormed.{capacity-most}
+use Rattle.spec.proofs.TableRows.{length-rows}
+use Rattle.spec.specs.Saturation.{saturation}
+use Rattle.spec.proofs.Saturation.{saturation-support, saturation-counts, support-bound}
+use Rattle.saturate_schema.specs.inside.Nodes.{edges}
+use Rattle.saturate_schema.specs.inside.Walks.{Plus}
+use Rattle.saturate_schema.specs.inside.Ascent.{Placed, Ends, termOf}
+use Rattle.saturate_schema.specs.inside.Compiled.{Compiled, Keyed, objectAt}
+use Rattle.saturate_schema.proofs.Tables.{fact-words, rows-ascend, row-subject, row-property, row-object, plain-below}
+use Rattle.saturate_schema.proofs.Counted.{marks-even, no-type, class-support, class-support-none, property-support, property-support-none, absent-support}
+use Rattle.saturate_schema.proofs.Made.{compiled-made, keyed-made}
+use Rattle.saturate_counts.specs.inside.Prepared.{Prepared, Facts}
+use Rattle.saturate_counts.specs.inside.Supported.{Supported, Small}
+use Rattle.saturate.specs.inside.Saturated.{Exists, Domains, Ranges}
 
 -- The facts of a well-formed table.
 pub facts-are : (f : List ℕ) → WellFormed isAllowedFact mostFacts f → Facts f (count f)

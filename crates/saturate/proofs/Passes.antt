@@ -9,12 +9,12 @@ use native.Mathlib.Decide.{decLt}
 use lib.ListN.{length, set, take, drop, replicate, length-append, length-drop}
 use lib.Seq.{take-at}
 use borrow.Author.Tests.{le-leb, lt-leb}
-use Rattle.table.specs.Table.{flatten, layout, supportLayout}
-use Rattle.table.proofs.Rows.{length-flatten}
-use Rattle.rdfs.specs.Saturation.{Kept, keptRows, keptSupports}
-use Rattle.merge.specs.Output.{Output, output, putAll}
-use Rattle.merge.proofs.Whole.{count-all, put-fits}
-use Rattle.saturate.specs.Saturated.{result, written, zeroFrom}
+use Rattle.spec.specs.Tables.{flatten, layout, supportLayout}
+use Rattle.spec.proofs.TableRows.{length-flatten}
+use Rattle.spec.specs.Saturation.{Kept, keptRows, keptSupports}
+use Rattle.saturate_merge.specs.inside.Output.{Output, output, putAll}
+use Rattle.saturate_merge.proofs.Whole.{count-all, put-fits}
+use Rattle.saturate.specs.inside.Saturated.{result, written, zeroFrom}
 
 -- ---- words set to 0, from the last on
 

@@ -9,27 +9,26 @@ use native.Mathlib.Decide.{decLt, ℕ-discrete}
 use lib.ListN.{length, getD}
 use lib.Dec.{eqb}
 use borrow.Author.Tests.{lt-ltb, le-ltb, eq-eqb, ne-eqb}
-use Rattle.rdf.specs.declared.Triple.{Triple}
-use Rattle.rdf.specs.Term.{isLiteral}
-use Rattle.rdf.specs.Triple.{triple}
-use Rattle.rdf.specs.Order.{Less, by-subject, by-property, by-object, triple-eq}
-use Rattle.rdf.proofs.Lists.{true-not-false}
-use Rattle.rdfs.specs.Saturation.{Kept, lookup}
-use Rattle.rdfs.specs.Counts.{Counts}
-use Rattle.schema.specs.Compiled.{subjectAt, objectAt}
-use Rattle.schema.proofs.Sums.{sumAt-is, sum-zero, sum-term}
-use Rattle.schema.proofs.Tables.{row-subject}
-use Rattle.merge.specs.Output.{Output, putAll}
-use Rattle.merge.specs.Between.{between, Within}
-use Rattle.merge.specs.Streams.{lesserOf}
-use Rattle.merge.proofs.Output.{put-append}
-use Rattle.merge.proofs.Between.{between-none, between-skip}
-use Rattle.merge.proofs.Streams.{lesser-left, lesser-right}
-use Rattle.merge.proofs.Whole.{between-join, between-all}
-use Rattle.index.specs.Index.{objectOf, Once, Sorted}
-use Rattle.counts.specs.Prepared.{Facts}
-use Rattle.counts.specs.Supported.{Supported, Range}
-use Rattle.saturate.specs.Run.{EndOf, subjectFrom, thingFrom, nextSubject}
+use Rattle.spec.specs.declared.Triple.{Triple}
+use Rattle.spec.specs.Terms.{isLiteral, triple}
+use Rattle.spec.specs.Order.{Less, by-subject, by-property, by-object, triple-eq}
+use Rattle.spec.proofs.Lists.{true-not-false}
+use Rattle.spec.specs.Saturation.{Kept, lookup}
+use Rattle.spec.specs.inside.Counts.{Counts}
+use Rattle.saturate_schema.specs.inside.Compiled.{subjectAt, objectAt}
+use Rattle.saturate_schema.proofs.Sums.{sumAt-is, sum-zero, sum-term}
+use Rattle.saturate_schema.proofs.Tables.{row-subject}
+use Rattle.saturate_merge.specs.inside.Output.{Output, putAll}
+use Rattle.saturate_merge.specs.inside.Between.{between, Within}
+use Rattle.saturate_merge.specs.inside.Streams.{lesserOf}
+use Rattle.saturate_merge.proofs.Output.{put-append}
+use Rattle.saturate_merge.proofs.Between.{between-none, between-skip}
+use Rattle.saturate_merge.proofs.Streams.{lesser-left, lesser-right}
+use Rattle.saturate_merge.proofs.Whole.{between-join, between-all}
+use Rattle.saturate_index.specs.inside.Index.{objectOf, Once, Sorted}
+use Rattle.saturate_counts.specs.inside.Prepared.{Facts}
+use Rattle.saturate_counts.specs.inside.Supported.{Supported, Range}
+use Rattle.saturate.specs.inside.Run.{EndOf, subjectFrom, thingFrom, nextSubject}
 
 -- ---- the search for an end
 

@@ -5,15 +5,15 @@ ghost use mathlib.Core.Path.{_≡_};
 ghost use mathlib.Core.Bool.{true};
 ghost use Prim.Native.Nat.{ℕ, _*_, _≤_, _<_};
 ghost use lib.ListN.{length};
-ghost use Rattle.table.specs.Table.{isStatementTable, isFactTable, count};
-ghost use Rattle.rdfs.specs.Saturation.{Kept};
-ghost use Rattle.rdfs.specs.Counts.{Counts};
-ghost use Rattle.schema.specs.Nodes.{Columns};
-ghost use Rattle.schema.specs.Squares.{at};
-ghost use Rattle.index.specs.Index.{Index, Once, Sorted};
-ghost use Rattle.counts.specs.Prepared.{Prepared, Facts};
-ghost use Rattle.counts.specs.Supported.{Supported, Small};
-ghost use Rattle.saturate.specs.Saturated.{result, written, saturated, Exists, zeroFrom, Domains, Ranges};
+ghost use Rattle.spec.specs.Tables.{isStatementTable, isFactTable, count};
+ghost use Rattle.spec.specs.Saturation.{Kept};
+ghost use Rattle.spec.specs.inside.Counts.{Counts};
+ghost use Rattle.saturate_schema.specs.inside.Nodes.{Columns};
+ghost use Rattle.saturate_schema.specs.inside.Squares.{at};
+ghost use Rattle.saturate_index.specs.inside.Index.{Index, Once, Sorted};
+ghost use Rattle.saturate_counts.specs.inside.Prepared.{Prepared, Facts};
+ghost use Rattle.saturate_counts.specs.inside.Supported.{Supported, Small};
+ghost use Rattle.saturate.specs.inside.Saturated.{result, written, saturated, Exists, zeroFrom, Domains, Ranges};
 
 mod run; // run.rt: the run over the subjects
 
@@ -77,7 +77,7 @@ fn fill_square(
     ensures { λ _. ⌜ Ranges (now (statements .entry)) m (now (columns .entry)) ns via (now (square .exit)) ⌝ }
 {
     let mut gain = no_gain();
-    schema::close(statements, m, columns, ns, via, square, &mut gain);
+    saturate_schema::close(statements, m, columns, ns, via, square, &mut gain);
 }
 
 // Fills a square of 0: what the statements lead to by subclasses, subproperties and domains, themselves left out.
@@ -88,7 +88,7 @@ fn fill_domains(statements: &[u32], m: usize, columns: &[u64], ns: usize, square
     ensures { λ _. ⌜ Domains (now (statements .entry)) m (now (columns .entry)) ns (now (square .exit)) ⌝ }
 {
     fill_square(statements, m, columns, ns, 4, square);
-    schema::clear_own(statements, m, columns, ns, square);
+    saturate_schema::clear_own(statements, m, columns, ns, square);
 }
 
 // Fills the places of the facts, in the order of their objects.
@@ -97,7 +97,7 @@ fn fill_places(facts: &[u32], ix: &mut [u32])
     requires { ⌜ length (now ix) ≡ 65536 ⌝ }
     ensures { λ _. ⌜ Index (now (facts .entry)) (now (ix .exit)) (count (now (facts .entry))) × Once (count (now (facts .entry))) (now (ix .exit)) × Sorted (now (facts .entry)) (now (ix .exit)) (count (now (facts .entry))) ⌝ }
 {
-    index::by_object(facts, ix, facts[0] as usize);
+    saturate_index::by_object(facts, ix, facts[0] as usize);
 }
 
 // Sets the words from index a on to 0.
@@ -206,10 +206,10 @@ pub fn saturate(
 {
     let m = statements[0] as usize;
     let mut columns = no_columns();
-    let ns = schema::columns(statements, m, &mut columns);
-    let nc = schema::classes(&columns, ns);
+    let ns = saturate_schema::columns(statements, m, &mut columns);
+    let nc = saturate_schema::classes(&columns, ns);
     let mut keys = no_keys();
-    schema::terms(&columns, ns, &mut keys);
+    saturate_schema::terms(&columns, ns, &mut keys);
     let mut domains = no_bits();
     fill_domains(statements, m, &columns, ns, &mut domains);
     let mut ranges = no_bits();

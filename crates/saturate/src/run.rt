@@ -1,21 +1,21 @@
 // The run over the subjects, ascending: the subjects of facts, and the objects that are no literals.
-use counts::words::subject_at;
-use merge::lesser;
-use merge::object_at;
-use merge::wide;
-use subject::rows::subject_rows;
+use saturate_counts::words::subject_at;
+use saturate_merge::lesser;
+use saturate_merge::object_at;
+use saturate_merge::wide;
+use saturate_subject::rows::subject_rows;
 ghost use mathlib.Core.Path.{_≡_};
 ghost use Prim.Native.Nat.{_+_, _*_, _^_, _≤_, _<_};
 ghost use lib.ListN.{length, getD};
-ghost use Rattle.table.specs.Table.{count};
-ghost use Rattle.rdfs.specs.Saturation.{Kept};
-ghost use Rattle.rdfs.specs.Counts.{Counts};
-ghost use Rattle.merge.specs.Output.{output, putAll};
-ghost use Rattle.schema.specs.Compiled.{subjectAt};
-ghost use Rattle.index.specs.Index.{objectOf, Index, Once, Sorted};
-ghost use Rattle.counts.specs.Prepared.{Prepared, Facts};
-ghost use Rattle.counts.specs.Supported.{Supported, Small};
-ghost use Rattle.saturate.specs.Run.{EndOf, subjectFrom, thingFrom, nextSubject};
+ghost use Rattle.spec.specs.Tables.{count};
+ghost use Rattle.spec.specs.Saturation.{Kept};
+ghost use Rattle.spec.specs.inside.Counts.{Counts};
+ghost use Rattle.saturate_merge.specs.inside.Output.{output, putAll};
+ghost use Rattle.saturate_schema.specs.inside.Compiled.{subjectAt};
+ghost use Rattle.saturate_index.specs.inside.Index.{objectOf, Index, Once, Sorted};
+ghost use Rattle.saturate_counts.specs.inside.Prepared.{Prepared, Facts};
+ghost use Rattle.saturate_counts.specs.inside.Supported.{Supported, Small};
+ghost use Rattle.saturate.specs.inside.Run.{EndOf, subjectFrom, thingFrom, nextSubject};
 
 // The end of the facts from i on, below n, whose subject is x.
 fn subject_end(f: &[u32], n: usize, i: usize, x: u32) -> usize

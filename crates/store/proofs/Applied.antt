@@ -6,21 +6,20 @@ use mathlib.Core.Logic.{⊎-elim}
 use mathlib.Core.List.{List, [], _∷_, List·Memᴰ, List·Memᴰ·head, List·Memᴰ·tail, List·Memᴰ·eq-of-singleton}
 use native.Mathlib.Omega.{arith}
 use lib.ListN.{length}
-use Rattle.rdf.specs.declared.Triple.{Triple}
-use Rattle.rdf.specs.Triple.{isStatement, isAllowedStatement, isAllowedFact}
-use Rattle.rdf.specs.Order.{equalTriples, Ascending, insert, remove}
-use Rattle.rdf.proofs.Order.{choose-elim}
-use Rattle.rdf.proofs.Ascending.{insert-asc, insert-cases, insert-length, remove-asc, remove-sub, remove-length}
-use Rattle.rdfs.specs.Closure.{isIn, carried}
-use Rattle.rdfs.specs.Saturation.{Kept, lookup, raiseAll, lowerAll, saturation, keptRows, keptSupports}
-use Rattle.rdfs.specs.Counts.{Counts}
-use Rattle.rdfs.proofs.Entailment.{allowed-no-vocabulary, holds-allowed}
-use Rattle.rdfs.proofs.Carried.{carried-ascends, carried-iff}
-use Rattle.rdfs.proofs.Kept.{counts-of, support-of, kept-positive, kept-ascends, lookup-kept}
-use Rattle.rdfs.proofs.Saturation.{among, raiseAll-counts, lookup-raiseAll, lookup-lowerAll, lowerAll-counts, lowerAll-length, saturation-ascends, saturation-allowed, saturation-supports, lower-saturation}
-use Rattle.update.specs.Store.{Tables, Contents, contents, statementCapacity, factCapacity, keptCapacity}
-use Rattle.update.specs.Update.{withTriple, withoutTriple}
-use Rattle.raise.proofs.Missing.{raiseAll-asc, raiseAll-cases, insert-new-length}
+use Rattle.spec.specs.declared.Triple.{Triple}
+use Rattle.spec.specs.Terms.{isStatement, isAllowedStatement, isAllowedFact}
+use Rattle.spec.specs.Order.{equalTriples, Ascending, insert, remove}
+use Rattle.spec.proofs.Order.{choose-elim}
+use Rattle.spec.proofs.Ascending.{insert-asc, insert-cases, insert-length, remove-asc, remove-sub, remove-length}
+use Rattle.spec.specs.Saturation.{isIn, carried, Kept, lookup, raiseAll, lowerAll, saturation, keptRows, keptSupports}
+use Rattle.spec.specs.inside.Counts.{Counts}
+use Rattle.spec.proofs.Entailment.{allowed-no-vocabulary, holds-allowed}
+use Rattle.spec.proofs.Carried.{carried-ascends, carried-iff}
+use Rattle.spec.proofs.Kept.{counts-of, support-of, kept-positive, kept-ascends, lookup-kept}
+use Rattle.spec.proofs.Saturation.{among, raiseAll-counts, lookup-raiseAll, lookup-lowerAll, lowerAll-counts, lowerAll-length, saturation-ascends, saturation-allowed, saturation-supports, lower-saturation}
+use Rattle.spec.specs.Tables.{Tables, Contents, contents, statementCapacity, factCapacity, keptCapacity}
+use Rattle.spec.specs.Updates.{withTriple, withoutTriple}
+use Rattle.update_raise.proofs.Missing.{raiseAll-asc, raiseAll-cases, insert-new-length}
 use Rattle.store.proofs.Fitting.{Fitting}
 
 -- ---- supports

@@ -5,21 +5,20 @@ use mathlib.Core.Bool.{true}
 use mathlib.Core.List.{List, [], _∷_, _++_, zip, zipWith, List·Memᴰ}
 use native.Mathlib.Omega.{arith}
 use lib.ListN.{length, take, replicate, length-map}
-use Rattle.rdf.specs.declared.Triple.{Triple}
-use Rattle.rdf.specs.Triple.{isAllowedStatement, isAllowedFact}
-use Rattle.rdf.specs.Order.{Ascending}
-use Rattle.table.specs.Table.{mostStatements, mostFacts, mostKept, count, rows, supportLayout, isSupport, isStore}
-use Rattle.table.specs.Laid.{FormedStore}
-use Rattle.table.proofs.Rows.{length-rows, rows-layout, length-layout, count-layout}
-use Rattle.table.proofs.Formed.{capacity-fits, capacity-most, layout-isTable}
+use Rattle.spec.specs.declared.Triple.{Triple}
+use Rattle.spec.specs.Terms.{isAllowedStatement, isAllowedFact}
+use Rattle.spec.specs.Order.{Ascending}
+use Rattle.spec.specs.Tables.{mostStatements, mostFacts, mostKept, count, rows, supportLayout, isSupport, isStore, Tables, tables, areFormed, Contents, contents, keptOf, contentsOf, put, statementCapacity, factCapacity, keptCapacity}
+use Rattle.spec.specs.inside.Laid.{FormedStore}
+use Rattle.spec.proofs.TableRows.{length-rows, rows-layout, length-layout, count-layout}
+use Rattle.spec.proofs.TableFormed.{capacity-fits, capacity-most, layout-isTable}
 use Rattle.table.proofs.Supports.{length-supportLayout, supportLayout-is, isSupport-between, between-isSupport}
-use Rattle.table.proofs.All.{all-member, member-all}
+use Rattle.spec.proofs.TableAll.{all-member, member-all}
 use Rattle.table.proofs.Store.{isStore-formed}
-use Rattle.rdfs.specs.Saturation.{Kept, keptRows, keptSupports}
-use Rattle.rdfs.proofs.Kept.{length-keptRows}
-use Rattle.update.specs.Store.{Tables, tables, areFormed, Contents, contents, keptOf, contentsOf, put, statementCapacity, factCapacity, keptCapacity}
-use Rattle.kept.proofs.Entries.{keptSupports-entries, keptOf-entries}
-use Rattle.kept.proofs.Formed.{kept-tables, keptRows-keptOf, length-keptOf}
+use Rattle.spec.specs.Saturation.{Kept, keptRows, keptSupports}
+use Rattle.spec.proofs.Kept.{length-keptRows}
+use Rattle.update_kept.proofs.Entries.{keptSupports-entries, keptOf-entries}
+use Rattle.update_kept.proofs.Formed.{kept-tables, keptRows-keptOf, length-keptOf}
 
 -- ---- contents read again
 

@@ -7,22 +7,20 @@ use mathlib.Core.List.{List, [], _∷_, _++_, zip, zipWith, List·Memᴰ}
 use native.Mathlib.Omega.{arith}
 use lib.ListN.{length, replicate}
 use borrow.Author.Tests.{not-true, ltb-true, leb-true}
-use Rattle.rdf.specs.declared.Triple.{Triple}
-use Rattle.rdf.specs.Triple.{isTriple, isStatement, areSidesAllowed, isAllowedStatement, isAllowedFact}
-use Rattle.rdf.specs.Order.{equalTriples}
-use Rattle.rdf.specs.Refusal.{firstNo, tripleQuestions}
-use Rattle.rdf.proofs.Order.{choose-elim}
-use Rattle.rdf.proofs.Lists.{true-not-false, by-test, or-cases}
-use Rattle.table.specs.Table.{rows}
-use Rattle.table.proofs.Rows.{rows-layout}
+use Rattle.spec.specs.declared.Triple.{Triple}
+use Rattle.spec.specs.Terms.{isTriple, isStatement, areSidesAllowed, isAllowedStatement, isAllowedFact}
+use Rattle.spec.specs.Order.{equalTriples}
+use Rattle.spec.specs.Refusals.{firstNo, tripleQuestions}
+use Rattle.spec.proofs.Order.{choose-elim}
+use Rattle.spec.proofs.Lists.{true-not-false, by-test, or-cases}
+use Rattle.spec.specs.Tables.{rows, Tables, tables, areFormed, Contents, contents, contentsOf, keptOf, put, statementCapacity, factCapacity, keptCapacity}
+use Rattle.spec.proofs.TableRows.{rows-layout}
 use Rattle.table.proofs.Store.{layout-empty, empty-isStore}
-use Rattle.rdfs.specs.Closure.{isIn}
-use Rattle.rdfs.specs.Saturation.{saturation}
-use Rattle.rdfs.proofs.Saturation.{raise-saturation, lower-saturation}
-use Rattle.update.specs.declared.Answer.the-variants.{Applied, Idle, Refused}
-use Rattle.update.specs.Store.{Tables, tables, areFormed, Contents, contents, contentsOf, keptOf, put, statementCapacity, factCapacity, keptCapacity}
-use Rattle.update.specs.Update.{withTriple, withoutTriple, isThere, isBelowCapacity, isKeptFitting, additionQuestions, withdrawalQuestions, Outcome, outcome, decide, add, withdraw}
-use Rattle.update.proofs.Outcomes.{there-yes}
+use Rattle.spec.specs.Saturation.{isIn, saturation}
+use Rattle.spec.proofs.Saturation.{raise-saturation, lower-saturation}
+use Rattle.spec.specs.declared.Answer.the-variants.{Applied, Idle, Refused}
+use Rattle.spec.specs.Updates.{withTriple, withoutTriple, isThere, isBelowCapacity, isKeptFitting, additionQuestions, withdrawalQuestions, Outcome, outcome, decide, add, withdraw}
+use Rattle.spec.proofs.Outcomes.{there-yes}
 use Rattle.store.proofs.Fitting.{contentsOf-put, Fitting, SameLengths, put-formed, put-lengths, formed-fitting, formed-worded}
 use Rattle.store.proofs.Applied.{fact-enters, statement-enters, statement-goes, fact-goes}
 

@@ -5,17 +5,14 @@ use mathlib.Core.Bool.{true, false}
 use mathlib.Core.List.{[], _∷_, zip, zipWith}
 use mathlib.Core.Logic.{Dec·and}
 use native.Mathlib.Decide.{ℕ-discrete, decLt}
-use Rattle.rdf.specs.declared.Triple.{Triple}
-use Rattle.rdf.specs.Term.{isUri, isBlank, isLiteral, isVocabulary}
-use Rattle.rdf.specs.Triple.{triple, isTriple, isStatement, areSidesAllowed, isAllowedStatement, isAllowedFact}
-use Rattle.rdf.specs.Refusal.{firstNo}
-use Rattle.rdf.specs.Order.{compareNumbers, compareTriples, equalTriples, choose, byOrder, isAbove, isAscending, insert, remove, ascend}
-use Rattle.table.specs.Table.{capacity, firstRows, rows, flatten, layout, areZero, all, isTable, isSupportTable, supportLayout, isStore}
-use Rattle.rdfs.specs.Closure.{isIn, add, addAll, keep, leaves, pull, afterPull, explore, spread, reach, objects, properties, subjectClasses, objectClasses, conclusions, carried}
-use Rattle.rdfs.specs.Saturation.{oneLess, lower, lowerAll}
-use Rattle.update.specs.declared.Answer.the-variants.{Applied}
-use Rattle.update.specs.Store.{Tables, tables, areFormed, contentsOf, keptOf, put}
-use Rattle.update.specs.Update.{withoutTriple, isThere, isKeptFitting, decide, withdraw}
+use Rattle.spec.specs.declared.Triple.{Triple}
+use Rattle.spec.specs.Terms.{isUri, isBlank, isLiteral, isVocabulary, triple, isTriple, isStatement, areSidesAllowed, isAllowedStatement, isAllowedFact}
+use Rattle.spec.specs.Refusals.{firstNo}
+use Rattle.spec.specs.Order.{compareNumbers, compareTriples, equalTriples, choose, byOrder, isAbove, isAscending, insert, remove, ascend}
+use Rattle.spec.specs.Tables.{capacity, firstRows, rows, flatten, layout, areZero, all, isTable, isSupportTable, supportLayout, isStore, Tables, tables, areFormed, contentsOf, keptOf, put}
+use Rattle.spec.specs.Saturation.{isIn, add, addAll, keep, leaves, pull, afterPull, explore, spread, reach, objects, properties, subjectClasses, objectClasses, conclusions, carried, oneLess, lower, lowerAll}
+use Rattle.spec.specs.declared.Answer.the-variants.{Applied}
+use Rattle.spec.specs.Updates.{withoutTriple, isThere, isKeptFitting, decide, withdraw}
 
 -- The fact that is withdrawn.
 abbrev pub second : Triple

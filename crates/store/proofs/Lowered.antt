@@ -7,22 +7,20 @@ use native.Mathlib.Omega.{arith}
 use lib.ListN.{length, take}
 use lib.Dec.{leb}
 use borrow.Author.Tests.{leb-true, le-leb}
-use Rattle.rdf.specs.declared.Triple.{Triple}
-use Rattle.rdf.specs.Triple.{isStatement}
-use Rattle.rdf.specs.Refusal.{firstNo}
-use Rattle.rdf.proofs.Lists.{true-not-false, by-test}
-use Rattle.table.specs.Table.{count, all, isSupport}
-use Rattle.table.proofs.Rows.{count-layout}
-use Rattle.table.proofs.All.{all-member, member-all}
+use Rattle.spec.specs.declared.Triple.{Triple}
+use Rattle.spec.specs.Terms.{isStatement}
+use Rattle.spec.specs.Refusals.{firstNo}
+use Rattle.spec.proofs.Lists.{true-not-false, by-test}
+use Rattle.spec.specs.Tables.{count, all, isSupport, Tables, areFormed, Contents, contentsOf, put}
+use Rattle.spec.proofs.TableRows.{count-layout}
+use Rattle.spec.proofs.TableAll.{all-member, member-all}
 use Rattle.table.proofs.Supports.{length-supportLayout, take-supportLayout, isSupport-between}
 use Rattle.table.proofs.Store.{isStore-formed}
-use Rattle.rdfs.specs.Closure.{carried}
-use Rattle.rdfs.specs.Saturation.{keptSupports}
-use Rattle.rdfs.proofs.Carried.{carried-ascends}
-use Rattle.rdfs.proofs.Kept.{length-keptRows}
-use Rattle.rdfs.proofs.Saturation.{lowerAll-length}
-use Rattle.update.specs.Store.{Tables, areFormed, Contents, contentsOf, put}
-use Rattle.update.specs.Update.{withoutTriple, isThere, withdrawalQuestions, Outcome, withdraw}
+use Rattle.spec.specs.Saturation.{carried, keptSupports}
+use Rattle.spec.proofs.Carried.{carried-ascends}
+use Rattle.spec.proofs.Kept.{length-keptRows}
+use Rattle.spec.proofs.Saturation.{lowerAll-length}
+use Rattle.spec.specs.Updates.{withoutTriple, isThere, withdrawalQuestions, Outcome, withdraw}
 use Rattle.store.proofs.Fitting.{Fitting, put-formed, supports-are, length-supports-of, formed-fitting, formed-worded}
 use Rattle.store.proofs.Applied.{lowered-supports, fitting-counts, fact-leaves}
 use Rattle.store.proofs.Laws.{decide-elim}

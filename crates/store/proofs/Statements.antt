@@ -9,25 +9,24 @@ use lib.Seq.{length-take-le, take-at, drop-at, drop-append-add, split-at}
 use native.Mathlib.Numerals.{add-one}
 use lib.Dec.{leb}
 use borrow.Author.Tests.{lt-ltb, le-ltb}
-use Rattle.rdf.specs.declared.Triple.{Triple}
-use Rattle.rdf.specs.Triple.{isTriple, isStatement, areSidesAllowed, isAllowedStatement}
-use Rattle.rdf.specs.Order.{isAscending, insert, remove}
-use Rattle.rdf.proofs.Ascending.{and-left, and-right}
-use Rattle.rdfs.specs.Saturation.{keptRows, keptSupports, saturation}
+use Rattle.spec.specs.declared.Triple.{Triple}
+use Rattle.spec.specs.Terms.{isTriple, isStatement, areSidesAllowed, isAllowedStatement}
+use Rattle.spec.specs.Order.{isAscending, insert, remove}
+use Rattle.spec.proofs.Ascending.{and-left, and-right}
+use Rattle.spec.specs.Saturation.{keptRows, keptSupports, saturation}
 use Rattle.table.specs.declared.Found.the-variants.{At, Gap}
-use Rattle.table.specs.Table.{capacity, mostStatements, mostKept, count, rows, firstRows, layout, supportLayout, isStatementTable}
-use Rattle.table.specs.Search.{place, insertAt, removeAt}
-use Rattle.table.specs.Laid.{Laid, Spare, WellFormed, FormedStore}
-use Rattle.table.proofs.Rows.{length-rows, rows-of, length-layout}
+use Rattle.spec.specs.Tables.{capacity, mostStatements, mostKept, count, rows, firstRows, layout, supportLayout, isStatementTable, tables, contentsOf, put}
+use Rattle.table.specs.inside.Search.{place, insertAt, removeAt}
+use Rattle.spec.specs.inside.Laid.{Laid, Spare, WellFormed, FormedStore}
+use Rattle.spec.proofs.TableRows.{length-rows, rows-of, length-layout}
 use Rattle.table.proofs.Place.{at-member, gap-absent, missing-at, stands-at}
-use Rattle.table.proofs.Formed.{capacity-fits, capacity-most, ready, spare, wellFormed-isTable}
+use Rattle.spec.proofs.TableFormed.{capacity-fits, capacity-most, ready, spare, wellFormed-isTable}
 use Rattle.table.proofs.Change.{insertAt-gap, removeAt-at, length-insertAt, length-removeAt, wellFormed-insert, wellFormed-remove}
 use Rattle.table.proofs.Store.{formed-isStore}
-use Rattle.update.specs.declared.Answer.the-variants.{Applied, Idle, Refused}
-use Rattle.update.specs.Store.{tables, contentsOf, put}
-use Rattle.update.specs.Update.{withTriple, withoutTriple, isThere, isBelowCapacity, isKeptFitting, outcome, add, withdraw}
-use Rattle.saturate.specs.Saturated.{Result, result, written, saturated}
-use Rattle.update.proofs.Outcomes.{Passes, add-idle, add-full, add-unfit, add-applied, withdraw-idle, withdraw-unfit, withdraw-applied, there-yes, there-no}
+use Rattle.spec.specs.declared.Answer.the-variants.{Applied, Idle, Refused}
+use Rattle.spec.specs.Updates.{withTriple, withoutTriple, isThere, isBelowCapacity, isKeptFitting, outcome, add, withdraw}
+use Rattle.saturate.specs.inside.Saturated.{Result, result, written, saturated}
+use Rattle.spec.proofs.Outcomes.{Passes, add-idle, add-full, add-unfit, add-applied, withdraw-idle, withdraw-unfit, withdraw-applied, there-yes, there-no}
 
 -- What `saturate` asks of the room, and the capacity of the kept facts gives.
 pub kept-room : {S F K U : List ℕ} → FormedStore S F K U → (room : ℕ) → room ≡ min (capacity mostKept K) (length U) → (room * 3 < length K) × (room ≤ length U) × (room ≤ 262143)

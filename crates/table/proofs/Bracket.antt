@@ -8,15 +8,15 @@ use mathlib.Core.List.{List}
 use native.Mathlib.Nat.{eq-or-lt-of-le}
 use native.Mathlib.Omega.{arith}
 use lib.ListN.{getD, drop}
-use Rattle.rdf.specs.declared.Triple.{Triple}
-use Rattle.rdf.specs.Triple.{triple}
-use Rattle.rdf.specs.Order.{Less, isAscending}
-use Rattle.rdf.proofs.Order.{less-trans}
-use Rattle.rdf.proofs.Ascending.{isAscending-iff}
+use Rattle.spec.specs.declared.Triple.{Triple}
+use Rattle.spec.specs.Terms.{triple}
+use Rattle.spec.specs.Order.{Less, isAscending}
+use Rattle.spec.proofs.Order.{less-trans}
+use Rattle.spec.proofs.Ascending.{isAscending-iff}
 use Rattle.table.specs.declared.Found.the-variants.{At, Gap}
-use Rattle.table.specs.Table.{rowAt, firstRows}
-use Rattle.table.specs.Search.{place}
-use Rattle.table.proofs.Rows.{length-firstRows, getD-rowAt}
+use Rattle.spec.specs.Tables.{rowAt, firstRows}
+use Rattle.table.specs.inside.Search.{place}
+use Rattle.spec.proofs.TableRows.{length-firstRows, getD-rowAt}
 use Rattle.table.proofs.Place.{ascending-getD, place-at, place-gap}
 
 pub record Bracket (ws : List ℕ) (n : ℕ) (x : Triple) (lo hi : ℕ) : Type 0 where

@@ -8,17 +8,17 @@ use native.Mathlib.Nat.{suc-add}
 use native.Mathlib.Omega.{arith}
 use lib.ListN.{length, length-append, length-drop}
 use lib.Seq.{length-take-le}
-use Rattle.rdf.specs.declared.Triple.{Triple}
-use Rattle.rdf.specs.Order.{Less, compareTriples, equalTriples, insert, remove}
-use Rattle.rdf.proofs.Order.{less-ne, byOrder-elim, byOrder-less, byOrder-same, byOrder-more, choose-yes, choose-no}
-use Rattle.rdf.proofs.Ascending.{insert-asc, insert-cases, remove-asc, remove-sub, remove-length}
+use Rattle.spec.specs.declared.Triple.{Triple}
+use Rattle.spec.specs.Order.{Less, compareTriples, equalTriples, insert, remove}
+use Rattle.spec.proofs.Order.{less-ne, byOrder-elim, byOrder-less, byOrder-same, byOrder-more, choose-yes, choose-no}
+use Rattle.spec.proofs.Ascending.{insert-asc, insert-cases, remove-asc, remove-sub, remove-length}
 use Rattle.table.specs.declared.Found.{Found}
 use Rattle.table.specs.declared.Found.the-variants.{At, Gap}
-use Rattle.table.specs.Table.{capacity, rows, layout, all}
-use Rattle.table.specs.Search.{next, place, insertAt, removeAt}
-use Rattle.table.specs.Laid.{WellFormed}
-use Rattle.table.proofs.All.{all-member, member-all}
-use Rattle.table.proofs.Formed.{capacity-fits, capacity-most, wellFormed-of}
+use Rattle.spec.specs.Tables.{capacity, rows, layout, all}
+use Rattle.table.specs.inside.Search.{next, place, insertAt, removeAt}
+use Rattle.spec.specs.inside.Laid.{WellFormed}
+use Rattle.spec.proofs.TableAll.{all-member, member-all}
+use Rattle.spec.proofs.TableFormed.{capacity-fits, capacity-most, wellFormed-of}
 use Rattle.table.proofs.Place.{missing-at}
 
 -- What insertion does at a place.

@@ -6,12 +6,12 @@ use native.Mathlib.Nat.{zero-add, suc-add}
 use native.Mathlib.Omega.{arith}
 use lib.ListN.{length, take, drop, set, replicate, length-append, take-append-drop}
 use lib.Seq.{take-at, drop-at, take-append-add, length-take-le, set-at}
-use Rattle.rdf.specs.declared.Triple.{Triple}
-use Rattle.table.specs.Table.{count, rows, flatten, layout}
-use Rattle.table.specs.Search.{insertAt}
-use Rattle.table.specs.Words.{movedUp}
-use Rattle.table.specs.Laid.{Laid}
-use Rattle.table.proofs.Rows.{length-flatten, flatten-append, length-rows}
+use Rattle.spec.specs.declared.Triple.{Triple}
+use Rattle.spec.specs.Tables.{count, rows, flatten, layout}
+use Rattle.table.specs.inside.Search.{insertAt}
+use Rattle.table.specs.inside.Words.{movedUp}
+use Rattle.spec.specs.inside.Laid.{Laid}
+use Rattle.spec.proofs.TableRows.{length-flatten, flatten-append, length-rows}
 
 set-append-add : (xs ys : List ℕ) (n : ℕ) (a : ℕ) → set (xs ++ ys) (length xs + n) a ≡ xs ++ set ys n a
 set-append-add [] ys n a = rw zero-add

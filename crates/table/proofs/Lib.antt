@@ -1,11 +1,8 @@
-pub mod Rows
 pub mod Place
 pub mod Bracket
 pub mod Shift
 pub mod Insert
 pub mod Remove
-pub mod All
-pub mod Formed
 pub mod Supports
 pub mod Change
 pub mod Store

@@ -6,16 +6,16 @@ use mathlib.Core.List.{List, [], _∷_, List·Memᴰ, List·Memᴰ·head, List·
 use native.Mathlib.Decide.{decLt}
 use native.Mathlib.Omega.{arith}
 use lib.ListN.{length, getD}
-use Rattle.rdf.specs.declared.Triple.{Triple}
-use Rattle.rdf.specs.Order.{Less, by-object, triple-eq, compareTriples, Above, Ascending}
-use Rattle.rdf.proofs.Order.{less-trans, less-ne, byOrder-elim, byOrder-less, byOrder-same, byOrder-more}
-use Rattle.rdf.proofs.Ascending.{above-asc}
+use Rattle.spec.specs.declared.Triple.{Triple}
+use Rattle.spec.specs.Order.{Less, by-object, triple-eq, compareTriples, Above, Ascending}
+use Rattle.spec.proofs.Order.{less-trans, less-ne, byOrder-elim, byOrder-less, byOrder-same, byOrder-more}
+use Rattle.spec.proofs.Ascending.{above-asc}
 use Rattle.table.specs.declared.Ordering.{Ordering}
 use Rattle.table.specs.declared.Ordering.the-variants.{Lower, Equal, Higher}
 use Rattle.table.specs.declared.Found.{Found}
 use Rattle.table.specs.declared.Found.the-variants.{At, Gap}
-use Rattle.table.specs.Search.{ordering, next, place}
-use Rattle.table.specs.Words.{Says}
+use Rattle.table.specs.inside.Search.{ordering, next, place}
+use Rattle.table.specs.inside.Words.{Says}
 
 -- What an ordering says of two triples.
 abbrev pub SaysOf : Ordering → Triple → Triple → Type 0

@@ -6,13 +6,13 @@ use native.Mathlib.Numerals.{add-one}
 use native.Mathlib.Omega.{arith}
 use lib.ListN.{length, getD, take, drop, set, replicate, length-append, length-drop}
 use lib.Seq.{take-at, drop-append-le, drop-append-add, length-take-le, set-at, split-at}
-use Rattle.rdf.specs.declared.Triple.{Triple}
-use Rattle.rdf.specs.Triple.{triple}
-use Rattle.table.specs.Table.{count, rows, flatten, layout}
-use Rattle.table.specs.Search.{removeAt}
-use Rattle.table.specs.Words.{movedDown}
-use Rattle.table.specs.Laid.{Laid}
-use Rattle.table.proofs.Rows.{length-flatten, flatten-append, length-rows}
+use Rattle.spec.specs.declared.Triple.{Triple}
+use Rattle.spec.specs.Terms.{triple}
+use Rattle.spec.specs.Tables.{count, rows, flatten, layout}
+use Rattle.table.specs.inside.Search.{removeAt}
+use Rattle.table.specs.inside.Words.{movedDown}
+use Rattle.spec.specs.inside.Laid.{Laid}
+use Rattle.spec.proofs.TableRows.{length-flatten, flatten-append, length-rows}
 use Rattle.table.proofs.Insert.{set-past}
 
 exactly-three : (l : List ℕ) → length l ≡ 3 → (u : ℕ) × (v : ℕ) × (w : ℕ) × (l ≡ u ∷ v ∷ w ∷ [])

@@ -6,7 +6,7 @@ use native.Mathlib.Numerals.{add-one}
 use native.Mathlib.Omega.{arith}
 use lib.ListN.{length, getD, take, drop, set, length-append, take-append-drop, List·getD-append}
 use lib.Seq.{slice, slice-cons, slice-empty, take-suc, drop-cons, append-snoc, set-at, getD-take, length-take-le, length-slice, getD-append-add, getD-drop, drop-append-le}
-use Rattle.table.specs.Words.{movedUp, movedDown}
+use Rattle.table.specs.inside.Words.{movedUp, movedDown}
 
 pub up-none : (e : ℕ) (ws : List ℕ) → e + 3 ≤ length ws → ws ≡ movedUp e e ws
 unfolding movedUp

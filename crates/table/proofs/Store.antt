@@ -6,12 +6,12 @@ use mathlib.Core.List.{List, []}
 use native.Mathlib.Nat.{sub-zero}
 use native.Mathlib.Omega.{arith}
 use lib.ListN.{replicate}
-use Rattle.rdf.specs.declared.Triple.{Triple}
-use Rattle.rdf.specs.Triple.{isAllowedStatement, isAllowedFact}
-use Rattle.rdf.proofs.Ascending.{and-left, and-right}
-use Rattle.table.specs.Table.{mostStatements, mostFacts, mostKept, count, layout, flatten, all, isTable, isStatementTable, isFactTable, isKeptTable, isSupportTable, supportLayout, isStore}
-use Rattle.table.specs.Laid.{FormedStore}
-use Rattle.table.proofs.Formed.{isTable-wellFormed, wellFormed-isTable, layout-isTable}
+use Rattle.spec.specs.declared.Triple.{Triple}
+use Rattle.spec.specs.Terms.{isAllowedStatement, isAllowedFact}
+use Rattle.spec.proofs.Ascending.{and-left, and-right}
+use Rattle.spec.specs.Tables.{mostStatements, mostFacts, mostKept, count, layout, flatten, all, isTable, isStatementTable, isFactTable, isKeptTable, isSupportTable, supportLayout, isStore}
+use Rattle.spec.specs.inside.Laid.{FormedStore}
+use Rattle.spec.proofs.TableFormed.{isTable-wellFormed, wellFormed-isTable, layout-isTable}
 use Rattle.table.proofs.Supports.{supports-of, supports-is, supportLayout-is}
 
 pub isStore-formed : (S F K U : List ℕ) → isStore S F K U ≡ true → FormedStore S F K U

@@ -8,10 +8,10 @@ use lib.ListN.{length, getD, take, drop, replicate, length-append, length-replic
 use lib.Seq.{take-at, drop-at, getD-take, length-take-le}
 use lib.Dec.{leb}
 use borrow.Author.Tests.{leb-true, le-leb}
-use Rattle.rdf.proofs.Ascending.{and-left, and-right}
-use Rattle.table.specs.Table.{areZero, all, isSupport, isSupportTable, supportLayout}
-use Rattle.table.specs.Laid.{Supports}
-use Rattle.table.proofs.All.{all-getD, replicate-of, areZero-replicate}
+use Rattle.spec.proofs.Ascending.{and-left, and-right}
+use Rattle.spec.specs.Tables.{areZero, all, isSupport, isSupportTable, supportLayout}
+use Rattle.spec.specs.inside.Laid.{Supports}
+use Rattle.spec.proofs.TableAll.{all-getD, replicate-of, areZero-replicate}
 
 -- ---- one support
 

@@ -1,4 +1,1 @@
-pub mod Table
-pub mod Search
-pub mod Words
-pub mod Laid
+pub mod inside

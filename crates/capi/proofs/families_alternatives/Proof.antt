@@ -5,7 +5,7 @@ use Rattle.capi.proofs.families_alternatives.Statement.{statement}
 use Rattle.capi.proofs.families_alternatives.Tie as tie
 use Rattle.capi.proofs.families_alternatives.Reads as reads
 use Rattle.capi.proofs.families_alternatives.Lts as lts
-use Rattle.alternatives.proofs.alternatives.Reads as alternatives-reads
+use Rattle.query_alternatives.proofs.alternatives.Reads as alternatives-reads
 use Rattle.capi.proofs.reply_number.Reads as reply-number-reads
 
 alternatives-requires : tie.Need-alternatives-requires

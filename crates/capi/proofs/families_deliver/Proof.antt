@@ -6,7 +6,7 @@ use Rattle.capi.proofs.families_deliver.Tie as tie
 use Rattle.capi.proofs.families_deliver.Reads as reads
 use Rattle.capi.proofs.families_deliver.Lts as lts
 use Rattle.capi.proofs.write_result.Reads as write-result-reads
-use Rattle.deliver.proofs.deliver.Reads as deliver-reads
+use Rattle.delivery_run.proofs.deliver.Reads as deliver-reads
 
 deliver-requires : tie.Need-deliver-requires
 deliver-requires c κs = search needs

@@ -4,7 +4,7 @@ use Prim.Native.Nat.{_-_, _≤_}
 use mathlib.Core.Path.{_≡_, refl}
 use native.Mathlib.Omega.{arith}
 use lib.ListN.{length, length-set}
-use Rattle.rows.specs.Effects.{WordsZeroed}
+use Rattle.rows.specs.inside.Effects.{WordsZeroed}
 use Rattle.rows.proofs.RowWords.{zero-none, zero-more}
 use Rattle.output.proofs.Filled.{all-zero}
 use Rattle.ledger.proofs.clear_supports.Statement.{statement}

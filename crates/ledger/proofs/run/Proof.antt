@@ -1,5 +1,5 @@
 -- The tables are cleared, and so demand 3 says what the calls leave and give. Assumes nothing.
-use Rattle.update.specs.Store.{tables}
+use Rattle.spec.specs.Tables.{tables}
 use Rattle.ledger.proofs.Running.{ran}
 use borrow.Author.Needs.{needs}
 use Rattle.ledger.proofs.run.Statement.{statement}

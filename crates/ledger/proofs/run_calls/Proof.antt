@@ -3,7 +3,7 @@ use borrow.Author.Needs.{needs}
 use mathlib.Core.Path.{_≡_, refl}
 use native.Mathlib.Omega.{arith}
 use lib.ListN.{length}
-use Rattle.update.specs.Store.{tables}
+use Rattle.spec.specs.Tables.{tables}
 use Rattle.store.proofs.Fitting.{SameLengths}
 use Rattle.ledger.proofs.Running.{Going, going-start, going-more, going-end}
 use Rattle.ledger.proofs.run_calls.Statement.{statement}

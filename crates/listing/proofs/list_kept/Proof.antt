@@ -1,7 +1,7 @@
 -- `list_kept` lists a table that `is_kept_table` judges.
 use mathlib.Core.Path.{sym, _∙_}
 use borrow.Author.Needs.{needs}
-use Rattle.table.proofs.Formed.{isTable-wellFormed}
+use Rattle.spec.proofs.TableFormed.{isTable-wellFormed}
 use Rattle.listing.proofs.Replies.{listable}
 use Rattle.listing.proofs.list_kept.Statement.{statement}
 use Rattle.listing.proofs.list_kept.Tie as tie

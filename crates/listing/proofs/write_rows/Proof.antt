@@ -4,7 +4,7 @@ use mathlib.Core.Path.{_≡_, refl, _∙_}
 use native.Mathlib.Omega.{arith}
 use lib.ListN.{length}
 use borrow.Author.Needs.{needs}
-use Rattle.listing.specs.Written.{RowsWritten}
+use Rattle.listing.specs.inside.Written.{RowsWritten}
 use Rattle.listing.proofs.Writing.{none-written, more-written, written-whole}
 use Rattle.listing.proofs.write_rows.Statement.{statement}
 use Rattle.listing.proofs.write_rows.Tie as tie

@@ -1,7 +1,7 @@
 -- All words are 0.
 use Prim.Native.Nat.{ℕ, _-_, _+_, _*_}
 use lib.ListN.{length-replicate}
-use Rattle.counts.proofs.Zeros.{zero-words}
+use Rattle.saturate_counts.proofs.Zeros.{zero-words}
 use Rattle.saturate.proofs.no_bits.Statement.{statement}
 use Rattle.saturate.proofs.no_bits.Tie as tie
 

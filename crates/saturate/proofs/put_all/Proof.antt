@@ -3,7 +3,7 @@ use mathlib.Core.Path.{_∙_}
 use Prim.Native.Nat.{_≤_, _-_}
 use native.Mathlib.Omega.{arith}
 use lib.ListN.{length-set}
-use Rattle.table.specs.Table.{count}
+use Rattle.spec.specs.Tables.{count}
 use Rattle.saturate.proofs.Passes.{first-pass, written-not, written-all, both-passes}
 use borrow.Author.Needs.{needs}
 use Rattle.saturate.proofs.put_all.Statement.{statement}

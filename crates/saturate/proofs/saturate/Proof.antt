@@ -1,12 +1,12 @@
 -- The tables are well formed, so the compiled statements and the facts are as the passes ask, and the saturation has the supports that they count.
 use native.Mathlib.Omega.{arith}
-use Rattle.table.specs.Table.{rows, mostStatements, mostFacts}
-use Rattle.rdf.specs.Triple.{isAllowedStatement, isAllowedFact}
-use Rattle.table.proofs.Formed.{isTable-wellFormed}
-use Rattle.rdfs.specs.Saturation.{saturation}
-use Rattle.rdfs.proofs.Saturation.{saturation-counts}
-use Rattle.schema.proofs.Made.{columns-are}
-use Rattle.saturate.specs.Saturated.{saturated}
+use Rattle.spec.specs.Tables.{rows, mostStatements, mostFacts}
+use Rattle.spec.specs.Terms.{isAllowedStatement, isAllowedFact}
+use Rattle.spec.proofs.TableFormed.{isTable-wellFormed}
+use Rattle.spec.specs.Saturation.{saturation}
+use Rattle.spec.proofs.Saturation.{saturation-counts}
+use Rattle.saturate_schema.proofs.Made.{columns-are}
+use Rattle.saturate.specs.inside.Saturated.{saturated}
 use Rattle.saturate.proofs.Known.{facts-are, statement-count, prepared, saturation-supported, exists, supports-small}
 use borrow.Author.Needs.{needs}
 use Rattle.saturate.proofs.saturate.Statement.{statement}

@@ -2,7 +2,7 @@
 use mathlib.Core.Path.{sym, _∙_}
 use borrow.Author.Tests.{not-true, not-false}
 use Rattle.table.proofs.Store.{isStore-formed}
-use Rattle.update.proofs.Outcomes.{add-malformed}
+use Rattle.spec.proofs.Outcomes.{add-malformed}
 use borrow.Author.Needs.{needs}
 use Rattle.store.proofs.add.Statement.{statement}
 use Rattle.store.proofs.add.Tie as tie

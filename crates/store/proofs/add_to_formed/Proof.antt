@@ -2,7 +2,7 @@
 use mathlib.Core.Path.{sym, _∙_}
 use borrow.Author.Tests.{not-true, not-false}
 use Rattle.table.proofs.Store.{formed-isStore}
-use Rattle.update.proofs.Outcomes.{add-no-triple, add-wrong-sides}
+use Rattle.spec.proofs.Outcomes.{add-no-triple, add-wrong-sides}
 use Rattle.store.proofs.Passing.{fact-allowed, statement-allowed, sides-asked}
 use borrow.Author.Needs.{needs}
 use Rattle.store.proofs.add_to_formed.Statement.{statement}

@@ -2,7 +2,7 @@
 use mathlib.Core.Path.{sym, _∙_}
 use borrow.Author.Tests.{not-true, not-false}
 use Rattle.table.proofs.Store.{isStore-formed}
-use Rattle.update.proofs.Outcomes.{withdraw-malformed}
+use Rattle.spec.proofs.Outcomes.{withdraw-malformed}
 use borrow.Author.Needs.{needs}
 use Rattle.store.proofs.withdraw.Statement.{statement}
 use Rattle.store.proofs.withdraw.Tie as tie

@@ -2,7 +2,7 @@
 use mathlib.Core.Path.{sym, _∙_}
 use borrow.Author.Tests.{not-true, not-false}
 use Rattle.table.proofs.Store.{formed-isStore}
-use Rattle.update.proofs.Outcomes.{withdraw-no-triple, withdraw-wrong-sides}
+use Rattle.spec.proofs.Outcomes.{withdraw-no-triple, withdraw-wrong-sides}
 use Rattle.store.proofs.Passing.{fact-allowed, statement-allowed, sides-asked}
 use borrow.Author.Needs.{needs}
 use Rattle.store.proofs.withdraw_from_formed.Statement.{statement}

@@ -1,5 +1,5 @@
 -- By the three cases of the definition.
-use Rattle.table.proofs.Formed.{capacity-none, capacity-room, capacity-limit}
+use Rattle.spec.proofs.TableFormed.{capacity-none, capacity-room, capacity-limit}
 use native.Mathlib.Omega.{arith}
 use borrow.Author.Needs.{needs}
 use Rattle.table.proofs.capacity.Statement.{statement}

@@ -1,8 +1,8 @@
 -- The first words that differ decide the order of two triples.
 use mathlib.Core.Path.{sym}
-use Rattle.rdf.specs.Order.{by-subject, by-property}
+use Rattle.spec.specs.Order.{by-subject, by-property}
 use Rattle.table.specs.declared.Ordering.the-variants.{Lower, Higher}
-use Rattle.table.specs.Table.{rowAt}
+use Rattle.spec.specs.Tables.{rowAt}
 use Rattle.table.proofs.Place.{says-ordering, by-objects}
 use borrow.Author.Needs.{needs}
 use Rattle.table.proofs.compare_at.Statement.{statement}

@@ -4,7 +4,7 @@ use Prim.Native.Nat.{_≤_, _-_}
 use mathlib.Core.Path.{_≡_, refl}
 use native.Mathlib.Omega.{arith}
 use lib.ListN.{length, length-set}
-use Rattle.table.specs.Words.{movedDown}
+use Rattle.table.specs.inside.Words.{movedDown}
 use Rattle.table.proofs.Shift.{down-none, down-step}
 use Rattle.table.proofs.move_down.Statement.{statement}
 use Rattle.table.proofs.move_down.Tie as tie

@@ -4,7 +4,7 @@ use Prim.Native.Nat.{_≤_}
 use mathlib.Core.Path.{_≡_, refl}
 use native.Mathlib.Omega.{arith}
 use lib.ListN.{length, length-set}
-use Rattle.table.specs.Words.{movedUp}
+use Rattle.table.specs.inside.Words.{movedUp}
 use Rattle.table.proofs.Shift.{up-none, up-step}
 use Rattle.table.proofs.move_up.Statement.{statement}
 use Rattle.table.proofs.move_up.Tie as tie

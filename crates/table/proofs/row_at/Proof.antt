@@ -1,6 +1,6 @@
 -- By computation.
 use mathlib.Core.Path.{refl}
-use Rattle.table.specs.Table.{rowAt}
+use Rattle.spec.specs.Tables.{rowAt}
 use borrow.Author.Needs.{needs}
 use Rattle.table.proofs.row_at.Statement.{statement}
 use Rattle.table.proofs.row_at.Tie as tie

@@ -4,9 +4,9 @@ use Prim.Native.Nat.{_+_, _≤_, _-_, _*_, zero-le}
 use mathlib.Core.Path.{_≡_, refl, _∙_}
 use lib.ListN.{length, take}
 use native.Mathlib.Omega.{arith}
-use Rattle.update.specs.Store.{keptOf}
+use Rattle.spec.specs.Tables.{keptOf}
 use Rattle.report.specs.Text.{rowLines}
-use Rattle.report.specs.Appended.{Appended, rowRoom}
+use Rattle.report.specs.inside.Appended.{Appended, rowRoom}
 use Rattle.report.proofs.Appending.{none-appended, text-appended}
 use Rattle.report.proofs.Lines.{rows-none, rows-more, rows-whole}
 use Rattle.report.proofs.append.write_rows.Statement.{statement}

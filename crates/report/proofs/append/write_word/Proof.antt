@@ -4,7 +4,7 @@ use Prim.Native.Nat.{_≤_, _-_, zero-le}
 use mathlib.Core.Path.{_≡_, refl, _∙_}
 use lib.ListN.{length, take}
 use native.Mathlib.Omega.{arith}
-use Rattle.report.specs.Appended.{Appended}
+use Rattle.report.specs.inside.Appended.{Appended}
 use Rattle.report.proofs.Appending.{none-appended, word-more, word-whole, word-place}
 use Rattle.report.proofs.append.write_word.Statement.{statement}
 use Rattle.report.proofs.append.write_word.Tie as tie

@@ -1,7 +1,7 @@
 -- The lesser of the two.
 use mathlib.Core.Path.{ap₂, _∙_}
 use Prim.Native.Nat.{_-_}
-use Rattle.merge.specs.Streams.{lesserOf}
+use Rattle.saturate_merge.specs.inside.Streams.{lesserOf}
 use borrow.Author.Needs.{needs}
 use Rattle.saturate.proofs.run.next_subject.Statement.{statement}
 use Rattle.saturate.proofs.run.next_subject.Tie as tie

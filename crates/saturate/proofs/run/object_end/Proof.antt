@@ -3,7 +3,7 @@ use borrow.Author.Needs.{needs}
 use mathlib.Core.Path.{_≡_, sym, _∙_}
 use Prim.Native.Nat.{ℕ, _≤_, _-_, _<_}
 use native.Mathlib.Omega.{arith}
-use Rattle.index.specs.Index.{objectOf}
+use Rattle.saturate_index.specs.inside.Index.{objectOf}
 use Rattle.saturate.proofs.Running.{all-more, end-here, end-last}
 use Rattle.saturate.proofs.run.object_end.Statement.{statement}
 use Rattle.saturate.proofs.run.object_end.Tie as tie

@@ -4,8 +4,8 @@ use mathlib.Core.Path.{_≡_, refl, _∙_}
 use Prim.Native.Nat.{_-_, _+_}
 use native.Mathlib.Omega.{arith}
 use lib.ListN.{length}
-use Rattle.table.specs.Table.{count}
-use Rattle.merge.specs.Output.{output}
+use Rattle.spec.specs.Tables.{count}
+use Rattle.saturate_merge.specs.inside.Output.{output}
 use Rattle.saturate.proofs.Running.{Running, run-start, run-thing, run-subjects, run-objects, run-less, run-more, run-end}
 use Rattle.saturate.proofs.run.put_rows.Statement.{statement}
 use Rattle.saturate.proofs.run.put_rows.Tie as tie

@@ -1,16 +1,16 @@
 -- By the answers to questions 4 and 5, as the code counts them. Assumes nothing.
 use mathlib.Core.Path.{refl}
 use native.Mathlib.Omega.{arith}
-use Rattle.table.proofs.Rows.{length-rows}
+use Rattle.spec.proofs.TableRows.{length-rows}
 use Rattle.table.proofs.Place.{missing-at}
-use Rattle.table.proofs.Formed.{wellFormed-isTable}
+use Rattle.spec.proofs.TableFormed.{wellFormed-isTable}
 use Rattle.store.proofs.Statements.{kept-room, statements-full, statement-spare, with-table, with-laid, statement-added, statement-unfit}
 use borrow.Author.Needs.{needs}
 use Rattle.store.proofs.statement_updates.add_new_statement.Statement.{statement}
 use Rattle.store.proofs.statement_updates.add_new_statement.Tie as tie
 use Rattle.store.proofs.statement_updates.add_new_statement.Reads as reads
 use Rattle.store.proofs.statement_updates.add_new_statement.Lts as lts
-use Rattle.kept.proofs.kept_capacity.Reads as kept-capacity-reads
+use Rattle.update_kept.proofs.kept_capacity.Reads as kept-capacity-reads
 use Rattle.saturate.proofs.saturate.Reads as saturate-reads
 use Rattle.table.proofs.capacity.Reads as capacity-reads
 use Rattle.table.proofs.insert_at.Reads as insert-at-reads

@@ -1,12 +1,12 @@
 -- By the answer to question 5, as the code counts it. Assumes nothing.
-use Rattle.table.proofs.Formed.{wellFormed-isTable}
+use Rattle.spec.proofs.TableFormed.{wellFormed-isTable}
 use Rattle.store.proofs.Statements.{kept-room, statement-laid, without-table, without-spare, statement-withdrawn, withdrawal-unfit}
 use borrow.Author.Needs.{needs}
 use Rattle.store.proofs.statement_updates.withdraw_old_statement.Statement.{statement}
 use Rattle.store.proofs.statement_updates.withdraw_old_statement.Tie as tie
 use Rattle.store.proofs.statement_updates.withdraw_old_statement.Reads as reads
 use Rattle.store.proofs.statement_updates.withdraw_old_statement.Lts as lts
-use Rattle.kept.proofs.kept_capacity.Reads as kept-capacity-reads
+use Rattle.update_kept.proofs.kept_capacity.Reads as kept-capacity-reads
 use Rattle.saturate.proofs.saturate.Reads as saturate-reads
 use Rattle.table.proofs.insert_at.Reads as insert-at-reads
 use Rattle.table.proofs.remove_at.Reads as remove-at-reads

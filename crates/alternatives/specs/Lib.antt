@@ -1,2 +1,0 @@
-pub mod Reformulate
-pub mod Putting

@@ -1,0 +1,52 @@
+// What the programs of cases print of a call: its reply, and every word of the output that was lent to it.
+use spec::Reply;
+ghost use Prim.Native.Nat.{_<_};
+
+// Prints a reply, and below it the words of the output, rows of so many words on a line each. Nothing is promised but that it ends.
+pub fn print_replied(reply: Reply, words: &[u32], width: usize)
+    requires { ⌜ 0 < width ⌝ }
+{
+    print_reply(reply);
+    print_words(words, width);
+}
+
+// Prints the number of rows given, or the number that refused, and no line end.
+fn print_reply(reply: Reply) {
+    match reply {
+        Reply::Rows(n) => {
+            io::write_all(1, b"rows ");
+            io::print_decimal(1, n as u64);
+        }
+        Reply::Refused(n) => {
+            io::write_all(1, b"refused ");
+            io::print_decimal(1, n as u64);
+        }
+    }
+}
+
+// Prints words, each row of them on a line of its own, and a line end.
+fn print_words(words: &[u32], width: usize)
+    requires { ⌜ 0 < width ⌝ }
+{
+    let mut i = 0;
+    while i < words.len() {
+        print_gap(i % width);
+        print_word(words[i]);
+        i += 1;
+    }
+    io::write_all(1, b"\n");
+}
+
+// Prints what stands before a word in a column: a line end before the first, else a space.
+fn print_gap(column: usize) {
+    if column == 0 {
+        io::write_all(1, b"\n    ");
+        return;
+    }
+    io::write_all(1, b" ");
+}
+
+// Prints a word in decimal.
+fn print_word(word: u32) {
+    io::print_decimal(1, word as u64);
+}

@@ -1,0 +1,16 @@
+-- Where `compute` unfolds, the definitions of the store compute on closed terms. Definitions only.
+use mathlib.Core.List.{flatMap}
+use mathlib.Core.Logic.{Dec·and}
+use native.Mathlib.Decide.{ℕ-discrete, decLt}
+use Rattle.spec.specs.Terms.{isUri, isBlank, isLiteral, isVariable, isVocabulary, isTriple, isStatement, areSidesAllowed}
+use Rattle.spec.specs.Refusals.{firstNo}
+use Rattle.spec.specs.Order.{compareNumbers, compareTriples, equalTriples, choose, byOrder, insert, remove, ascend}
+use Rattle.spec.specs.Saturation.{isIn, add, addAll, keep, leaves, pull, afterPull, explore, spread, reach, objects, properties, subjectClasses, objectClasses, conclusions, carried, support, lookup, raise, oneLess, lower, raiseAll, lowerAll, saturation}
+use Rattle.spec.specs.Rows.{less, insertOnce, ordered}
+use Rattle.spec.specs.Questions.{boundTo, isBound, bind, matchWord, matchTriple, solutions, answers}
+use Rattle.spec.specs.Alternatives.{select, toClasses, toProperties, without, alternativesFrom, alternatives}
+
+-- The definitions that an example needs, by one name.
+unfoldable pub compute : Unit {0}
+unfolding flatMap Dec·and ℕ-discrete decLt isUri isBlank isLiteral isVariable isVocabulary isTriple isStatement areSidesAllowed firstNo compareNumbers compareTriples equalTriples choose byOrder insert remove ascend isIn add addAll keep leaves pull afterPull explore spread reach objects properties subjectClasses objectClasses conclusions carried support lookup raise oneLess lower raiseAll lowerAll saturation less insertOnce ordered boundTo isBound bind matchWord matchTriple solutions answers select toClasses toProperties without alternativesFrom alternatives
+compute = tt

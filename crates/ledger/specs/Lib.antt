@@ -1,3 +1,0 @@
-pub mod Ledger
-pub mod History
-pub mod Encoded

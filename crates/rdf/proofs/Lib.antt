@@ -1,4 +1,0 @@
-pub mod Sides
-pub mod Lists
-pub mod Order
-pub mod Ascending

@@ -1,4 +1,0 @@
-pub mod Term
-pub mod Triple
-pub mod Refusal
-pub mod Order

@@ -1,0 +1,162 @@
+-- Worked by computation: a list of calls with what the ledger answers, and questions, alternatives and a delivery with their replies. Assumes
+-- nothing.
+use Prim.Native.Nat.{ℕ}
+use mathlib.Core.Path.{_≡_, refl}
+use mathlib.Core.List.{List, [], _∷_, _++_, flatMap}
+use mathlib.Core.Logic.{Dec·and}
+use native.Mathlib.Decide.{ℕ-discrete, decLt}
+use Rattle.spec.specs.Terms.{isUri, isBlank, isLiteral, isVariable, isVocabulary, triple, isTriple, isStatement, areSidesAllowed, isAllowedStatement, isAllowedFact}
+use Rattle.spec.specs.Order.{compareNumbers, compareTriples, equalTriples, choose, byOrder, isAbove, isAscending, insert, remove, ascend}
+use Rattle.spec.specs.Rows.{less, insertOnce, ordered, flat}
+use Rattle.spec.specs.Saturation.{isIn, add, addAll, keep, leaves, pull, afterPull, explore, spread, reach, objects, properties, subjectClasses, objectClasses, conclusions, carried, raise, raiseAll, saturation}
+use Rattle.spec.specs.Refusals.{firstNo}
+use Rattle.spec.specs.Tables.{capacity, firstRows, rows, all, areZero, isTable, isStore, Tables, tables}
+use Rattle.spec.specs.declared.Answer.the-variants.{Applied, Idle, Refused}
+use Rattle.spec.specs.declared.Reply.the-variants.{Rows, Refused as NotGiven}
+use Rattle.spec.specs.Outputs.{areFitting, filled, Replied, replied, give}
+use Rattle.spec.specs.Questions.{atoms, head, isAtom, isLaidOut, isQuestion, standsInOne, isHeadBound, boundTo, isBound, bind, matchWord, matchTriple, solutions, answers, ask, askKept, askRewritten}
+use Rattle.spec.specs.Alternatives.{select, toClasses, toProperties, without, alternativesFrom, alternatives, reformulate}
+use Rattle.spec.specs.Deliveries.{short, word, entriesFrom, sectionEnd, sectionStart, fieldEnd, fieldsFrom, fieldsEnd, numberFields, read, isWhole, areSectionsRight, isNumberRight, numberOf, tally, tallied, runEntry, runEntries, runMessage, delivered, conclude, deliver}
+use Rattle.spec.specs.Ledger.{Call, Ledger, ledger, entering, leaving, isMember, isBelow, isFitting, settle, enter, remit, receive, Given, answered, resulted, run, call, calls}
+use Rattle.spec.specs.Demand3.{ledgerRun}
+use Rattle.spec.specs.Runs.{callOf, callsFrom, encoded}
+use Rattle.spec.specs.Exported.{listed, numberedReply}
+
+-- The definitions that these need to compute, by one name.
+unfoldable pub compute : Unit {0}
+unfolding flatMap Dec·and ℕ-discrete decLt isUri isBlank isLiteral isVariable isVocabulary isTriple isStatement areSidesAllowed isAllowedStatement isAllowedFact firstNo compareNumbers compareTriples equalTriples choose byOrder isAbove isAscending insert remove ascend less insertOnce ordered flat isIn add addAll keep leaves pull afterPull explore spread reach objects properties subjectClasses objectClasses conclusions carried raise raiseAll saturation capacity firstRows rows all areZero isTable isStore areFitting filled give atoms head isAtom isLaidOut isQuestion standsInOne isHeadBound boundTo isBound bind matchWord matchTriple solutions answers ask askKept askRewritten select toClasses toProperties without alternativesFrom alternatives reformulate short word entriesFrom sectionEnd sectionStart fieldEnd fieldsFrom fieldsEnd numberFields read isWhole areSectionsRight isNumberRight numberOf tallied runEntry runEntries runMessage conclude deliver entering leaving isMember isBelow isFitting settle enter remit receive call calls
+compute = tt
+
+-- ---- a list of calls
+
+-- A delivery that adds a statement, for which there is no room, a fact that is there and one that is not; with an unknown field and number 5.
+abbrev pub workedDelivery : List ℕ
+workedDelivery = 0 ∷ 0 ∷ 0 ∷ 0 ∷ 1 ∷ 0 ∷ 17 ∷ 0 ∷ 0 ∷ 0 ∷ 2 ∷ 0 ∷ 0 ∷ 0 ∷ 18 ∷ 0 ∷ 0 ∷ 0 ∷ 2 ∷ 0 ∷ 32 ∷ 0 ∷ 0 ∷ 0 ∷ 1 ∷ 0 ∷ 0 ∷ 0 ∷ 16 ∷ 0 ∷ 0 ∷ 0 ∷ 32 ∷ 0 ∷ 0 ∷ 0 ∷ 19 ∷ 0 ∷ 0 ∷ 0 ∷ 33 ∷ 0 ∷ 0 ∷ 0 ∷ 2 ∷ 0 ∷ 7 ∷ 0 ∷ 1 ∷ 0 ∷ 9 ∷ 1 ∷ 0 ∷ 4 ∷ 0 ∷ 5 ∷ 0 ∷ 0 ∷ 0 ∷ []
+
+-- One that withdraws a fact as a statement, and has a byte too many: 9 and 10 would refuse it.
+abbrev pub brokenDelivery : List ℕ
+brokenDelivery = 1 ∷ 0 ∷ 32 ∷ 0 ∷ 0 ∷ 0 ∷ 1 ∷ 0 ∷ 0 ∷ 0 ∷ 16 ∷ 0 ∷ 0 ∷ 0 ∷ 0 ∷ 0 ∷ 0 ∷ 0 ∷ 0 ∷ 0 ∷ 0 ∷ 0 ∷ 0 ∷ []
+
+-- Over tables for one statement, two facts and four kept facts, with three support places: additions that are applied, two that are idle, one
+-- of them where its table is full, those that 2, 3, 4 and 5 refuse, a withdrawal that is idle, the two deliveries, and a withdrawal that is
+-- applied.
+abbrev pub workedCalls : List Call
+workedCalls =
+    Call.addition (triple 16 2 17)
+    ∷ Call.addition (triple 32 1 16)
+    ∷ Call.addition (triple 32 1 16)
+    ∷ Call.addition (triple 16 2 17)
+    ∷ Call.addition (triple 0 1 16)
+    ∷ Call.addition (triple 16 2 1)
+    ∷ Call.addition (triple 17 2 18)
+    ∷ Call.addition (triple 33 1 16)
+    ∷ Call.withdrawal (triple 40 19 41)
+    ∷ Call.delivery workedDelivery
+    ∷ Call.delivery brokenDelivery
+    ∷ Call.withdrawal (triple 32 19 33)
+    ∷ []
+
+-- What they give.
+abbrev pub workedAnswers : List Given
+workedAnswers =
+    answered Applied
+    ∷ answered Applied
+    ∷ answered Idle
+    ∷ answered Idle
+    ∷ answered (Refused 2)
+    ∷ answered (Refused 3)
+    ∷ answered (Refused 4)
+    ∷ answered (Refused 5)
+    ∷ answered Idle
+    ∷ resulted (delivered 0 5 (tally 1 1 1))
+    ∷ resulted (delivered 9 0 (tally 0 0 0))
+    ∷ answered Applied
+    ∷ []
+
+-- What they leave in the ledger,
+abbrev pub workedLedger : Ledger
+workedLedger = ledger (triple 16 2 17 ∷ []) (triple 32 1 16 ∷ [])
+
+-- and in the store.
+abbrev pub workedTables : Tables
+workedTables =
+    tables
+    (1 ∷ 16 ∷ 2 ∷ 17 ∷ [])
+    (1 ∷ 32 ∷ 1 ∷ 16 ∷ 0 ∷ 0 ∷ 0 ∷ [])
+    (2 ∷ 32 ∷ 1 ∷ 16 ∷ 32 ∷ 1 ∷ 17 ∷ 0 ∷ 0 ∷ 0 ∷ 0 ∷ 0 ∷ 0 ∷ [])
+    (1 ∷ 1 ∷ 0 ∷ [])
+
+-- The ledger's run.
+pub worked-ledger : ledgerRun 4 7 13 3 workedCalls ≡ run workedAnswers workedLedger
+unfolding compute
+worked-ledger = refl
+
+-- Tables with no word are malformed, and so refuse a delivery by 1 that 9 would refuse too.
+pub worked-malformed : deliver (tables [] [] [] []) brokenDelivery ≡ (delivered 1 0 (tally 0 0 0), tables [] [] [] [])
+unfolding compute
+worked-malformed = refl
+
+-- ---- questions after these calls
+
+-- "v0 1 17", for v0: the things of class 17.
+abbrev pub workedQuestion : List ℕ
+workedQuestion = 1 ∷ 1 ∷ 0xC0000000 ∷ 1 ∷ 17 ∷ 0xC0000000 ∷ []
+
+-- One row in eight words: 32, which is of class 16 and so of class 17.
+abbrev pub workedReply : Replied
+workedReply = replied (Rows 1) (32 ∷ 0 ∷ 0 ∷ 0 ∷ 0 ∷ 0 ∷ 0 ∷ 0 ∷ [])
+
+-- Both ways give it.
+pub worked-kept : askKept (workedTables .statements) (workedTables .kept) workedQuestion 8 ≡ workedReply
+unfolding compute
+worked-kept = refl
+
+pub worked-rewritten : askRewritten (workedTables .statements) (workedTables .facts) workedQuestion 8 ≡ workedReply
+unfolding compute
+worked-rewritten = refl
+
+-- Asked for v1, which stands in no atom, it is refused by 7.
+pub worked-unbound : askKept (workedTables .statements) (workedTables .kept) (1 ∷ 1 ∷ 0xC0000000 ∷ 1 ∷ 17 ∷ 0xC0000001 ∷ []) 3 ≡ replied (NotGiven 7) (0 ∷ 0 ∷ 0 ∷ [])
+unfolding compute
+worked-unbound = refl
+
+-- ---- alternatives
+
+-- Those of "v0 1 17", in an output that they fill.
+pub worked-alternatives : reformulate (workedTables .statements) (triple 0xC0000000 1 17) 6 ≡ replied (Rows 2) (0 ∷ 0 ∷ 0 ∷ 1 ∷ 16 ∷ 17 ∷ [])
+unfolding compute
+worked-alternatives = refl
+
+-- An atom that names a blank is refused by 6.
+pub worked-blank : reformulate (workedTables .statements) (triple 0x40000001 1 17) 6 ≡ replied (NotGiven 6) (0 ∷ 0 ∷ 0 ∷ 0 ∷ 0 ∷ 0 ∷ [])
+unfolding compute
+worked-blank = refl
+
+-- ---- exported numbers
+
+-- The exported count is the row count, however large.
+pub worked-count : numberedReply (replied (Rows 4294967296) []) ≡ listed 0 4294967296 []
+worked-count = refl
+
+-- ---- the calls as words
+
+-- The same calls, encoded: their words, and the bytes of the two deliveries one after the other.
+abbrev pub workedWords : List ℕ
+workedWords =
+    0 ∷ 16 ∷ 2 ∷ 17
+    ∷ 0 ∷ 32 ∷ 1 ∷ 16
+    ∷ 0 ∷ 32 ∷ 1 ∷ 16
+    ∷ 0 ∷ 16 ∷ 2 ∷ 17
+    ∷ 0 ∷ 0 ∷ 1 ∷ 16
+    ∷ 0 ∷ 16 ∷ 2 ∷ 1
+    ∷ 0 ∷ 17 ∷ 2 ∷ 18
+    ∷ 0 ∷ 33 ∷ 1 ∷ 16
+    ∷ 1 ∷ 40 ∷ 19 ∷ 41
+    ∷ 2 ∷ 0 ∷ 59 ∷ 0
+    ∷ 2 ∷ 59 ∷ 23 ∷ 0
+    ∷ 1 ∷ 32 ∷ 19 ∷ 33
+    ∷ []
+
+pub worked-encoded : encoded workedWords (workedDelivery ++ brokenDelivery) ≡ workedCalls
+unfolding callOf callsFrom
+worked-encoded = refl

@@ -1,0 +1,4 @@
+pub mod Entailment
+pub mod Counts
+pub mod Laid
+pub mod Sorting

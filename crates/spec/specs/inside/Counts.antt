@@ -1,0 +1,16 @@
+-- What a list of kept facts must be: ascending, every support at least 1. Definitions only.
+use mathlib.Core.List.{[], _∷_}
+use Prim.Native.Nat.{_<_}
+use Rattle.spec.specs.declared.Triple.{Triple}
+use Rattle.spec.specs.Order.{Less}
+use Rattle.spec.specs.Saturation.{Kept}
+
+-- The kept facts ascend from t on, and each support is at least 1.
+abbrev pub KeptAbove : Triple → Kept → Type 0
+KeptAbove t [] = Unit {0}
+KeptAbove t (e ∷ k) = Less t (e .0) × (0 < e .1) × KeptAbove (e .0) k
+
+-- The kept facts ascend, and each support is at least 1.
+abbrev pub Counts : Kept → Type 0
+Counts [] = Unit {0}
+Counts (e ∷ k) = (0 < e .1) × KeptAbove (e .0) k

@@ -1,0 +1,49 @@
+-- Kept facts in the words of their two tables, place by place, as the functions on them ask for it and leave it. Definitions only.
+use Prim.Native.Nat.{ℕ, _+_, _-_, _*_, _≤_, _<_}
+use mathlib.Core.Path.{_≡_}
+use mathlib.Core.List.{List, zip}
+use lib.ListN.{length, drop, set, replicate}
+use Rattle.spec.specs.declared.Triple.{Triple}
+use Rattle.spec.specs.Order.{Ascending}
+use Rattle.spec.specs.Tables.{firstRows, rows, layout, supportLayout}
+use Rattle.spec.specs.inside.Laid.{Laid}
+use Rattle.spec.specs.Saturation.{Kept, keptRows, keptSupports}
+
+-- The rows and supports of the first n places.
+unfoldable pub entries : ℕ → List ℕ → List ℕ → Kept
+entries n ws us = zip (firstRows n (drop 1 ws)) us
+
+-- Words with the row x at place i.
+unfoldable pub putRow : ℕ → Triple → List ℕ → List ℕ
+putRow i x ws = set (set (set ws (i * 3 + 1) (x .subject)) (i * 3 + 1 + 1) (x .property)) (i * 3 + 1 + 2) (x .object)
+
+-- Both tables have n places, and zeros behind them.
+pub record Room (n : ℕ) (ws us : List ℕ) : Type 0 where
+  pub words : n * 3 < length ws
+  pub places : n ≤ length us
+  pub zero-words : drop (n * 3 + 1) ws ≡ replicate (length ws - (n * 3 + 1)) 0
+  pub zero-places : drop n us ≡ replicate (length us - n) 0
+
+-- The tables ws and us, with the row x and its support s at place i.
+pub record Entered (i : ℕ) (x : Triple) (s : ℕ) (ws us ws' us' : List ℕ) : Type 0 where
+  pub row : ws' ≡ putRow i x ws
+  pub support : us' ≡ set us i s
+
+-- The tables of kept facts and supports are laid out, their rows ascend, and each row has a place for its support.
+pub record KeptTables (ws us : List ℕ) : Type 0 where
+  pub laid : Laid ws
+  pub ascends : Ascending (rows ws)
+  pub places : length (rows ws) ≤ length us
+  pub zero-places : drop (length (rows ws)) us ≡ replicate (length us - length (rows ws)) 0
+
+-- The rows that are looked for: those kept ascend, and so do the c rows rs.
+pub record Sought (ws rs : List ℕ) (c : ℕ) : Type 0 where
+  pub laid : Laid ws
+  pub ascends : Ascending (rows ws)
+  pub listed : c * 3 ≤ length rs
+  pub sought-ascend : Ascending (firstRows c rs)
+
+-- Tables of the same lengths as ws and us that hold the kept facts k.
+pub record Holding (k : Kept) (ws us ws' us' : List ℕ) : Type 0 where
+  pub row-words : ws' ≡ layout (length ws) (keptRows k)
+  pub support-places : us' ≡ supportLayout (length us) (keptSupports k)
