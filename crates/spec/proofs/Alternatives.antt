@@ -9,34 +9,19 @@ use lib.Dec.{eqb}
 use borrow.Author.Tests.{eqb-false, ne-eqb, not-true}
 use Rattle.spec.specs.declared.Triple.{Triple}
 use Rattle.spec.specs.Terms.{subClassOf, subPropertyOf, domain, range, triple}
-use Rattle.spec.specs.Order.{Ascending, triple-eq}
+use Rattle.spec.specs.inside.Comparison.{Ascending, triple-eq}
 use Rattle.spec.proofs.Order.{of-subject, of-property, of-object}
-use Rattle.spec.proofs.Lists.{cond-elim, true-not-false, flatMap-in, flatMap-out}
+use Rattle.spec.proofs.Lists.{select-in, select-out, flatMap-in, flatMap-out}
 use Rattle.spec.proofs.Ascending.{ascend-asc, ascend-in, ascend-out}
 use Rattle.spec.specs.Rules.{Reach, stay, step}
-use Rattle.spec.specs.Saturation.{reach, spread, objects}
-use Rattle.spec.proofs.Reach.{reach-iff, spread-iff}
-use Rattle.spec.proofs.Carried.{objects-iff}
-use Rattle.spec.specs.Alternatives.{admitsClass, admitsProperty, IsAlternative, as-it-is, by-subclass, by-domain, by-range, by-subproperty, select, toClasses, toProperties, without, alternativesFrom, alternatives}
+use Rattle.spec.specs.computed.Carried.{reach, spread, objects}
+use Rattle.spec.proofs.Reach.{objects-iff, reach-iff, spread-iff}
+use Rattle.spec.specs.Alternatives.{IsAlternative, as-it-is, by-subclass, by-domain, by-range, by-subproperty}
+use Rattle.spec.specs.Atoms.{admitsClass, admitsProperty}
+use Rattle.spec.specs.Lists.{select}
+use Rattle.spec.specs.computed.Reformulated.{toClasses, toProperties, without, alternativesFrom, alternatives}
 
 -- ---- selections
-
-pub select-in : {A : Type 0} (test : A → Bool) {x : A} (l : List A) → List·Memᴰ x l → test x ≡ true → List·Memᴰ x (select test l)
-unfolding select
-select-in test [] m e = absurd (List·Memᴰ·not-nil m)
-select-in test {x} (y ∷ l) m e =
-    cond-elim (List·Memᴰ x) (test y)
-    (λ _. ⊎-elim List·Memᴰ·head (λ j. List·Memᴰ·tail (select-in test l j e)) (List·Memᴰ·cases-cons m))
-    (λ n. ⊎-elim (λ q. absurd (true-not-false (sym e ∙ ap test q ∙ n))) (λ j. select-in test l j e) (List·Memᴰ·cases-cons m))
-
-pub select-out : {A : Type 0} (test : A → Bool) {x : A} (l : List A) → List·Memᴰ x (select test l) → List·Memᴰ x l × (test x ≡ true)
-unfolding select
-select-out test [] m = absurd (List·Memᴰ·not-nil m)
-select-out test {x} (y ∷ l) m =
-    cond-elim (λ r. List·Memᴰ x r → List·Memᴰ x (y ∷ l) × (test x ≡ true)) (test y)
-    (λ e i. ⊎-elim (λ q. (List·Memᴰ·head q, ap test q ∙ e)) (λ j. let r = select-out test l j in (List·Memᴰ·tail (r .0), r .1)) (List·Memᴰ·cases-cons i))
-    (λ _ i. let r = select-out test l i in (List·Memᴰ·tail (r .0), r .1))
-    m
 
 without-in : (x y : ℕ) (l : List ℕ) → List·Memᴰ y l → ¬ (x ≡ y) → List·Memᴰ y (without x l)
 unfolding without
@@ -74,13 +59,13 @@ rows-out test kind source l u m =
 -- ---- one source
 
 -- The four parts of what a source gives.
-data Gives (S : List Triple) (a : Triple) (x : ℕ) (u : Triple) : Type 0 where
-  gives-1 : Row (admitsClass a) 1 x (without x (reach S subClassOf x)) u → Gives S a x u
-  gives-2 : Row (admitsClass a) 2 x (spread S subClassOf (objects S domain (reach S subPropertyOf x))) u → Gives S a x u
-  gives-3 : Row (admitsClass a) 3 x (spread S subClassOf (objects S range (reach S subPropertyOf x))) u → Gives S a x u
-  gives-4 : Row (admitsProperty a) 4 x (without x (reach S subPropertyOf x)) u → Gives S a x u
+data FromSource (S : List Triple) (a : Triple) (x : ℕ) (u : Triple) : Type 0 where
+  gives-1 : Row (admitsClass a) 1 x (without x (reach S subClassOf x)) u → FromSource S a x u
+  gives-2 : Row (admitsClass a) 2 x (spread S subClassOf (objects S domain (reach S subPropertyOf x))) u → FromSource S a x u
+  gives-3 : Row (admitsClass a) 3 x (spread S subClassOf (objects S range (reach S subPropertyOf x))) u → FromSource S a x u
+  gives-4 : Row (admitsProperty a) 4 x (without x (reach S subPropertyOf x)) u → FromSource S a x u
 
-gives-in : (S : List Triple) (a : Triple) (x : ℕ) (u : Triple) → Gives S a x u → List·Memᴰ u (alternativesFrom S a x)
+gives-in : (S : List Triple) (a : Triple) (x : ℕ) (u : Triple) → FromSource S a x u → List·Memᴰ u (alternativesFrom S a x)
 unfolding alternativesFrom toClasses toProperties
 gives-in S a x u (gives-1 r) = Memᴰ·append-left _ (rows-in (admitsClass a) 1 x (without x (reach S subClassOf x)) u r)
 gives-in S a x u (gives-2 r) =
@@ -96,7 +81,7 @@ gives-in S a x u (gives-4 r) =
     (Memᴰ·append-right (map (triple 3 x) (select (admitsClass a) (spread S subClassOf (objects S range (reach S subPropertyOf x)))))
     (rows-in (admitsProperty a) 4 x _ u r)))
 
-gives-out : (S : List Triple) (a : Triple) (x : ℕ) (u : Triple) → List·Memᴰ u (alternativesFrom S a x) → Gives S a x u
+gives-out : (S : List Triple) (a : Triple) (x : ℕ) (u : Triple) → List·Memᴰ u (alternativesFrom S a x) → FromSource S a x u
 unfolding alternativesFrom toClasses toProperties
 gives-out S a x u m =
     ⊎-elim
@@ -144,7 +129,7 @@ leads-in S k x d l =
 of-words : (S : List Triple) (a : Triple) (k s : ℕ) (u : Triple) → u .subject ≡ k → u .property ≡ s → IsAlternative S a k s (u .object) → Is S a u
 of-words S a k s u e f i = rw (e, f) i
 
-gives-sound : (S : List Triple) (a : Triple) (x : ℕ) (u : Triple) → Gives S a x u → Is S a u
+gives-sound : (S : List Triple) (a : Triple) (x : ℕ) (u : Triple) → FromSource S a x u → Is S a u
 gives-sound S a x u (gives-1 r) =
     let w = without-out x (u .object) (reach S subClassOf x) (r .listed) in
     of-words S a 1 x u (r .is-kind) (r .is-source) (by-subclass (reach-iff S subClassOf x (u .object) .0 (w .0)) (w .1) (r .admitted))
@@ -183,13 +168,13 @@ source-begins (by-subproperty r n e) = inr (λ z. omega arith, ⊎-elim (λ q. a
 pub from-sound : (S : List Triple) (a : Triple) (x : ℕ) (u : Triple) → List·Memᴰ u (alternativesFrom S a x) → (u .property ≡ x) × ((¬ (u .subject ≡ 0)) × IsAlternative S a (u .subject) (u .property) (u .object))
 from-sound S a x u m = let g = gives-out S a x u m in (source-of g, (kind-of g, gives-sound S a x u g))
   where
-    source-of : Gives S a x u → u .property ≡ x
+    source-of : FromSource S a x u → u .property ≡ x
     source-of (gives-1 r) = r .is-source
     source-of (gives-2 r) = r .is-source
     source-of (gives-3 r) = r .is-source
     source-of (gives-4 r) = r .is-source
 
-    kind-of : Gives S a x u → ¬ (u .subject ≡ 0)
+    kind-of : FromSource S a x u → ¬ (u .subject ≡ 0)
     kind-of (gives-1 r) z = omega (arith, r .is-kind)
     kind-of (gives-2 r) z = omega (arith, r .is-kind)
     kind-of (gives-3 r) z = omega (arith, r .is-kind)

@@ -3,12 +3,16 @@ use mathlib.Core.Path.{_≡_, refl, sym, ap₂, _∙_}
 use mathlib.Core.Bool.{Bool, true, false, _&&_}
 use mathlib.Core.List.{List, [], _∷_, List·Memᴰ, List·Memᴰ·head, List·Memᴰ·tail, List·Memᴰ·cases-cons, List·Memᴰ·not-nil, Memᴰ·cast}
 use mathlib.Core.Logic.{_⊎_, inl, inr, ⊎-elim, _↔_}
-use Prim.Native.Nat.{ℕ, suc, _-_, _≤_}
+use Prim.Native.Nat.{suc, _≤_}
 use native.Mathlib.Omega.{arith}
 use lib.ListN.{length}
 use Rattle.spec.specs.declared.Triple.{Triple}
-use Rattle.spec.specs.Order.{Less, less-irrefl, Trichotomy, less, same, more, compareTriples, equalTriples, isLess, isAbove, isAscending, Above, Ascending, insert, remove, ascend}
-use Rattle.spec.proofs.Order.{less-trans, less-ne, choose-elim, byOrder-elim, byOrder-less}
+use Rattle.spec.specs.Lists.{select}
+use Rattle.spec.specs.Order.{isLess, isAscending, insert, remove, ascend}
+use Rattle.spec.specs.inside.Comparison.{Less, less-irrefl, Trichotomy, less, same, more, compareTriples, Above, Ascending}
+use Rattle.spec.proofs.Lists.{cond-elim}
+use Rattle.spec.proofs.Order.{less-trans, less-ne}
+use Rattle.spec.proofs.Tests.{isLess-true, less-isLess, order-elim, same-elim}
 
 pub above-asc : (t : Triple) (F : List Triple) → Above t F → Ascending F
 above-asc t [] a = tt
@@ -28,61 +32,61 @@ above-member {t} (v ∷ F) a u m = ⊎-elim (λ (e : u ≡ v). rw e (a .0)) (λ 
 above-insert : {v : Triple} (t : Triple) (F : List Triple) → Less v t → Above v F → Above v (insert t F)
 unfolding insert
 above-insert t [] h a = (h, tt)
-above-insert {v} t (u ∷ F) h a = byOrder-elim (Above v) (compareTriples t u) (λ l. (h, (l, a .1))) (λ _. a) (λ l. (a .0, above-insert t F l (a .1)))
+above-insert {v} t (u ∷ F) h a = order-elim (Above v) t u (λ l. (h, (l, a .1))) (λ _. a) (λ l. (a .0, above-insert t F l (a .1)))
 
 pub insert-asc : (t : Triple) (F : List Triple) → Ascending F → Ascending (insert t F)
 unfolding insert
 insert-asc t [] a = tt
-insert-asc t (u ∷ F) a = byOrder-elim Ascending (compareTriples t u) (λ l. (l, a)) (λ _. a) (λ l. above-insert t F l a)
+insert-asc t (u ∷ F) a = order-elim Ascending t u (λ l. (l, a)) (λ _. a) (λ l. above-insert t F l a)
 
 pub insert-old : {u : Triple} (t : Triple) (F : List Triple) → List·Memᴰ u F → List·Memᴰ u (insert t F)
 unfolding insert
 insert-old t [] m = List·Memᴰ·tail m
 insert-old {u} t (v ∷ F) m =
-    byOrder-elim (List·Memᴰ u) (compareTriples t v) (λ _. List·Memᴰ·tail m) (λ _. m)
+    order-elim (List·Memᴰ u) t v (λ _. List·Memᴰ·tail m) (λ _. m)
     (λ _. ⊎-elim List·Memᴰ·head (λ j. List·Memᴰ·tail (insert-old t F j)) (List·Memᴰ·cases-cons m))
 
 pub insert-new : (t : Triple) (F : List Triple) → List·Memᴰ t (insert t F)
 unfolding insert
 insert-new t [] = List·Memᴰ·head refl
-insert-new t (v ∷ F) = byOrder-elim (List·Memᴰ t) (compareTriples t v) (λ _. List·Memᴰ·head refl) List·Memᴰ·head (λ _. List·Memᴰ·tail (insert-new t F))
+insert-new t (v ∷ F) = order-elim (List·Memᴰ t) t v (λ _. List·Memᴰ·head refl) List·Memᴰ·head (λ _. List·Memᴰ·tail (insert-new t F))
 
 pub insert-cases : {u : Triple} (t : Triple) (F : List Triple) → List·Memᴰ u (insert t F) → (u ≡ t) ⊎ List·Memᴰ u F
 unfolding insert
 insert-cases t [] = List·Memᴰ·cases-cons
 insert-cases {u} t (v ∷ F) =
-    byOrder-elim (λ (r : List Triple). List·Memᴰ u r → (u ≡ t) ⊎ List·Memᴰ u (v ∷ F)) (compareTriples t v) (λ _. List·Memᴰ·cases-cons) (λ _. inr)
+    order-elim (λ (r : List Triple). List·Memᴰ u r → (u ≡ t) ⊎ List·Memᴰ u (v ∷ F)) t v (λ _. List·Memᴰ·cases-cons) (λ _. inr)
     (λ _ j. ⊎-elim (λ e. inr (List·Memᴰ·head e)) (λ i. ⊎-elim inl (λ z. inr (List·Memᴰ·tail z)) (insert-cases t F i)) (List·Memᴰ·cases-cons j))
 
 pub insert-length : (t : Triple) (F : List Triple) → length (insert t F) ≤ suc (length F)
 unfolding insert
 insert-length t [] = omega arith
-insert-length t (v ∷ F) = byOrder-elim (λ (r : List Triple). length r ≤ suc (suc (length F))) (compareTriples t v) (λ _. omega arith) (λ _. omega arith) (λ _. omega (arith, insert-length t F))
+insert-length t (v ∷ F) = order-elim (λ (r : List Triple). length r ≤ suc (suc (length F))) t v (λ _. omega arith) (λ _. omega arith) (λ _. omega (arith, insert-length t F))
 
 -- ---- remove
 
 above-remove : (v t : Triple) (F : List Triple) → Above v F → Above v (remove t F)
 unfolding remove
 above-remove v t [] a = tt
-above-remove v t (u ∷ F) a = choose-elim (Above v) (equalTriples t u) (λ _. above-weaken F (a .0) (a .1)) (λ _. (a .0, above-remove u t F (a .1)))
+above-remove v t (u ∷ F) a = same-elim (Above v) t u (λ _. above-weaken F (a .0) (a .1)) (λ _. (a .0, above-remove u t F (a .1)))
 
 pub remove-asc : (t : Triple) (F : List Triple) → Ascending F → Ascending (remove t F)
 unfolding remove
 remove-asc t [] a = tt
-remove-asc t (u ∷ F) a = choose-elim Ascending (equalTriples t u) (λ _. above-asc u F a) (λ _. above-remove u t F a)
+remove-asc t (u ∷ F) a = same-elim Ascending t u (λ _. above-asc u F a) (λ _. above-remove u t F a)
 
 pub remove-sub : {u : Triple} (t : Triple) (F : List Triple) → List·Memᴰ u (remove t F) → List·Memᴰ u F
 unfolding remove
 remove-sub t [] = λ m. m
 remove-sub {u} t (v ∷ F) =
-    choose-elim (λ (r : List Triple). List·Memᴰ u r → List·Memᴰ u (v ∷ F)) (equalTriples t v) (λ _. List·Memᴰ·tail)
+    same-elim (λ (r : List Triple). List·Memᴰ u r → List·Memᴰ u (v ∷ F)) t v (λ _. List·Memᴰ·tail)
     (λ _ j. ⊎-elim List·Memᴰ·head (λ i. List·Memᴰ·tail (remove-sub t F i)) (List·Memᴰ·cases-cons j))
 
 pub remove-keeps : {u : Triple} (t : Triple) (F : List Triple) → ¬ (u ≡ t) → List·Memᴰ u F → List·Memᴰ u (remove t F)
 unfolding remove
 remove-keeps t [] n m = m
 remove-keeps {u} t (v ∷ F) n m =
-    choose-elim (List·Memᴰ u) (equalTriples t v)
+    same-elim (List·Memᴰ u) t v
     (λ q. ⊎-elim (λ e. absurd (n (e ∙ sym q))) (λ j. j) (List·Memᴰ·cases-cons m))
     (λ _. ⊎-elim List·Memᴰ·head (λ j. List·Memᴰ·tail (remove-keeps t F n j)) (List·Memᴰ·cases-cons m))
 
@@ -90,14 +94,26 @@ pub remove-gone : (t : Triple) (F : List Triple) → Ascending F → ¬ List·Me
 unfolding remove
 remove-gone t [] a = List·Memᴰ·not-nil
 remove-gone t (v ∷ F) a =
-    choose-elim (λ (r : List Triple). ¬ List·Memᴰ t r) (equalTriples t v)
+    same-elim (λ (r : List Triple). ¬ List·Memᴰ t r) t v
     (λ q j. less-irrefl (rw q at (above-member F a t j)))
     (λ n j. ⊎-elim n (remove-gone t F (above-asc v F a)) (List·Memᴰ·cases-cons j))
 
 pub remove-length : (t : Triple) (F : List Triple) → length (remove t F) ≤ length F
 unfolding remove
 remove-length t [] = omega arith
-remove-length t (v ∷ F) = choose-elim (λ (r : List Triple). length r ≤ suc (length F)) (equalTriples t v) (λ _. omega arith) (λ _. omega (arith, remove-length t F))
+remove-length t (v ∷ F) = same-elim (λ (r : List Triple). length r ≤ suc (length F)) t v (λ _. omega arith) (λ _. omega (arith, remove-length t F))
+
+-- ---- those that pass a test, in their order
+
+above-select : (test : Triple → Bool) (v : Triple) (F : List Triple) → Above v F → Above v (select test F)
+unfolding select
+above-select test v [] a = tt
+above-select test v (u ∷ F) a = cond-elim (Above v) (test u) (λ _. (a .0, above-select test u F (a .1))) (λ _. above-select test v F (above-weaken F (a .0) (a .1)))
+
+pub select-asc : (test : Triple → Bool) (F : List Triple) → Ascending F → Ascending (select test F)
+unfolding select
+select-asc test [] a = tt
+select-asc test (u ∷ F) a = cond-elim Ascending (test u) (λ _. above-select test u F a) (λ _. select-asc test F (above-asc u F a))
 
 -- ---- ascend: the same members, ascending
 
@@ -150,24 +166,16 @@ pub and-right : (a b : Bool) → (a && b) ≡ true → b ≡ true
 and-right true b e = e
 and-right false b e = cc
 
-pub isLess-true : (t u : Triple) → isLess t u ≡ true → Less t u
-isLess-true t u = byOrder-elim (λ (b : Bool). b ≡ true → Less t u) (compareTriples t u) (λ l _. l) (λ _ e. absurd (let z : _≡_ {A = ℕ} 0 1 = cc in omega arith)) (λ _ e. absurd (let z : _≡_ {A = ℕ} 0 1 = cc in omega arith))
-
-pub less-isLess : {t u : Triple} → Less t u → isLess t u ≡ true
-less-isLess {t} {u} l = byOrder-less (compareTriples t u) true false false l
-
-pub isAbove-above : (t : Triple) (F : List Triple) → isAbove t F ≡ true → Above t F
-unfolding isAbove
-isAbove-above t [] e = tt
-isAbove-above t (u ∷ F) e = (isLess-true t u (and-left _ _ e), isAbove-above u F (and-right (isLess t u) _ e))
-
-pub above-isAbove : (t : Triple) (F : List Triple) → Above t F → isAbove t F ≡ true
-unfolding isAbove
-above-isAbove t [] a = refl
-above-isAbove t (u ∷ F) a = rw (less-isLess (a .0)) (above-isAbove u F (a .1))
-
 -- The test decides exactly whether a list ascends.
+above-is : (t : Triple) (F : List Triple) → (isAscending (t ∷ F) ≡ true) ↔ Above t F
+unfolding isAscending
+above-is t [] = (λ _. tt, λ _. refl)
+above-is t (u ∷ F) = (
+  λ e. (isLess-true t u (and-left _ _ e), above-is u F .0 (and-right (isLess t u) _ e)),
+  λ a. rw (less-isLess (a .0)) (above-is u F .1 (a .1)),
+)
+
 pub isAscending-iff : (F : List Triple) → (isAscending F ≡ true) ↔ Ascending F
 unfolding isAscending
 isAscending-iff [] = (λ _. tt, λ _. refl)
-isAscending-iff (u ∷ F) = (isAbove-above u F, above-isAbove u F)
+isAscending-iff (t ∷ F) = above-is t F

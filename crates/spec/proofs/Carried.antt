@@ -7,16 +7,19 @@ use Prim.Native.Nat.{ℕ, _+_, _*_, _≤_}
 use native.Mathlib.Decide.{ℕ-discrete}
 use native.Mathlib.Omega.{arith}
 use lib.ListN.{length, length-append, length-map}
+use lib.Dec.{eqb}
+use borrow.Author.Tests.{eqb-true, eqb-false}
 use Rattle.spec.specs.declared.Triple.{Triple}
 use Rattle.spec.specs.Terms.{type, subClassOf, subPropertyOf, domain, range, isLiteral, triple}
-use Rattle.spec.specs.Order.{triple-eq, choose, Ascending}
-use Rattle.spec.proofs.Order.{of-subject, of-property, of-object, choose-elim, choose-yes, choose-no}
+use Rattle.spec.specs.inside.Comparison.{triple-eq, choose, Ascending}
+use Rattle.spec.proofs.Lists.{cond-elim}
+use Rattle.spec.proofs.Order.{of-subject, of-property, of-object, choose-yes, choose-no}
 use Rattle.spec.proofs.Ascending.{ascend-asc, ascend-in, ascend-out}
 use Rattle.spec.specs.inside.Entailment.{explicit, rdfs2, rdfs3, rdfs7, rdfs9, HoldsBy, ReachFrom, NoVocabulary}
 use Rattle.spec.specs.Rules.{Reach, stay, step}
-use Rattle.spec.specs.Saturation.{leaves, objects, properties, subjectClasses, objectClasses, conclusions, carried}
+use Rattle.spec.specs.computed.Carried.{objects, properties, subjectClasses, objectClasses, conclusions, carried}
 use Rattle.spec.proofs.Sets.{Distinct, ascending-distinct, distinct-length}
-use Rattle.spec.proofs.Reach.{from-step, spread-iff, reach-iff}
+use Rattle.spec.proofs.Reach.{objects-in, objects-out, from-step, spread-iff, reach-iff}
 use Rattle.spec.proofs.Entailment.{not-vocabulary}
 
 -- What one fact carries stands ascending,
@@ -28,43 +31,6 @@ carried-ascends S f = ascend-asc (conclusions S f)
 pub carried-distinct : (S : List Triple) (f : Triple) → Distinct (carried S f)
 carried-distinct S f = ascending-distinct (carried S f) (carried-ascends S f)
 
--- ---- `objects`
-
--- A statement of property k leads from one of xs to c.
-pub record StepFrom (S : List Triple) (k : ℕ) (xs : List ℕ) (c : ℕ) : Type 0 where
-  pub start : ℕ
-  pub listed : List·Memᴰ start xs
-  pub stated : List·Memᴰ (triple start k c) S
-
--- The object of such a statement is listed.
-objects-in : (S : List Triple) (k : ℕ) (xs : List ℕ) (c q : ℕ) → List·Memᴰ q xs → List·Memᴰ (triple q k c) S → List·Memᴰ c (objects S k xs)
-unfolding objects
-objects-in [] k xs c q i m = absurd (List·Memᴰ·not-nil m)
-objects-in (t ∷ S) k xs c q i m =
-    ⊎-elim
-    (λ (e : triple q k c ≡ t). choose-elim (List·Memᴰ c) (leaves k xs t) (λ _. List·Memᴰ·head (of-object e)) (λ n. absurd (n (sym (of-property e), Memᴰ·cast (sym (of-subject e)) i))))
-    (λ j. choose-elim (List·Memᴰ c) (leaves k xs t) (λ _. List·Memᴰ·tail (objects-in S k xs c q i j)) (λ _. objects-in S k xs c q i j))
-    (List·Memᴰ·cases-cons m)
-
--- A statement more in front.
-further : {S : List Triple} {k : ℕ} {xs : List ℕ} {c : ℕ} (t : Triple) → StepFrom S k xs c → StepFrom (t ∷ S) k xs c
-further t r = record { start = r .start; listed = r .listed; stated = List·Memᴰ·tail (r .stated) }
-
--- Only such objects are listed.
-objects-out : (S : List Triple) (k : ℕ) (xs : List ℕ) (c : ℕ) → List·Memᴰ c (objects S k xs) → StepFrom S k xs c
-unfolding objects
-objects-out [] k xs c m = absurd (List·Memᴰ·not-nil m)
-objects-out (t ∷ S) k xs c m =
-    choose-elim (λ (l : List ℕ). List·Memᴰ c l → StepFrom (t ∷ S) k xs c) (leaves k xs t)
-    (λ h j. ⊎-elim (λ (e : c ≡ t .object). record { start = t .subject; listed = h .1; stated = List·Memᴰ·head (triple-eq (triple (t .subject) k c) t refl (sym (h .0)) e) })
-    (λ i. further t (objects-out S k xs c i)) (List·Memᴰ·cases-cons j))
-    (λ _ j. further t (objects-out S k xs c j))
-    m
-
--- `objects` lists exactly the objects of the statements of property k whose subject is one of xs.
-pub objects-iff : (S : List Triple) (k : ℕ) (xs : List ℕ) (c : ℕ) → List·Memᴰ c (objects S k xs) ↔ StepFrom S k xs c
-objects-iff S k xs c = (objects-out S k xs c, λ r. objects-in S k xs c (r .start) (r .listed) (r .stated))
-
 -- ---- the properties of a fact, and the classes that it gives
 
 -- `properties` lists exactly the properties reached from the fact's own by subproperty steps.
@@ -74,7 +40,7 @@ properties-iff S f q = reach-iff S subPropertyOf (f .property) q
 
 -- The classes that a fact gives its subject before any subclass step: its object, where it is a typing, and its properties' domains.
 abbrev pub subjectStarts : List Triple → Triple → List ℕ
-subjectStarts S f = choose (ℕ-discrete (f .property) type) (f .object ∷ []) [] ++ objects S domain (properties S f)
+subjectStarts S f = cond (eqb (f .property) type) (f .object ∷ []) [] ++ objects S domain (properties S f)
 
 -- One of these classes, by what gives it.
 pub data SubjectStart (S : List Triple) (f : Triple) (c : ℕ) : Type 0 where
@@ -83,16 +49,16 @@ pub data SubjectStart (S : List Triple) (f : Triple) (c : ℕ) : Type 0 where
 
 -- Such a class is listed.
 start-in : (S : List Triple) (f : Triple) (c : ℕ) → SubjectStart S f c → List·Memᴰ c (subjectStarts S f)
-start-in S f c (from-type e g) = Memᴰ·append-left _ (choose-elim (List·Memᴰ c) (ℕ-discrete (f .property) type) (λ _. List·Memᴰ·head g) (λ n. absurd (n e)))
-start-in S f c (from-domain q r m) = Memᴰ·append-right (choose (ℕ-discrete (f .property) type) (f .object ∷ []) []) (objects-in S domain (properties S f) c q (properties-iff S f q .1 r) m)
+start-in S f c (from-type e g) = Memᴰ·append-left _ (cond-elim (List·Memᴰ c) (eqb (f .property) type) (λ _. List·Memᴰ·head g) (λ n. absurd (eqb-false (f .property) type n e)))
+start-in S f c (from-domain q r m) = Memᴰ·append-right (cond (eqb (f .property) type) (f .object ∷ []) []) (objects-in S domain (properties S f) c q (properties-iff S f q .1 r) m)
 
 -- Only such classes are listed.
 start-out : (S : List Triple) (f : Triple) (c : ℕ) → List·Memᴰ c (subjectStarts S f) → SubjectStart S f c
 start-out S f c m =
     ⊎-elim
-    (choose-elim (λ (l : List ℕ). List·Memᴰ c l → SubjectStart S f c) (ℕ-discrete (f .property) type) (λ e i. from-type e (List·Memᴰ·eq-of-singleton i)) (λ _ i. absurd (List·Memᴰ·not-nil i)))
+    (cond-elim (λ (l : List ℕ). List·Memᴰ c l → SubjectStart S f c) (eqb (f .property) type) (λ e i. from-type (eqb-true (f .property) type e) (List·Memᴰ·eq-of-singleton i)) (λ _ i. absurd (List·Memᴰ·not-nil i)))
     (λ i. let r = objects-out S domain (properties S f) c i in from-domain (r .start) (properties-iff S f (r .start) .0 (r .listed)) (r .stated))
-    (List·Memᴰ·append-cases (choose (ℕ-discrete (f .property) type) (f .object ∷ []) []) m)
+    (List·Memᴰ·append-cases (cond (eqb (f .property) type) (f .object ∷ []) []) m)
 
 -- `subjectStarts` lists exactly these classes.
 pub start-iff : (S : List Triple) (f : Triple) (c : ℕ) → List·Memᴰ c (subjectStarts S f) ↔ SubjectStart S f c

@@ -7,8 +7,8 @@ use native.Mathlib.Omega.{arith}
 use lib.ListN.{length}
 use Rattle.spec.specs.declared.Triple.{Triple}
 use Rattle.spec.proofs.Lists.{true-not-false}
-use Rattle.spec.proofs.Ascending.{ascending-ext}
-use Rattle.spec.proofs.OrderedRows as sorted-rows
+use Rattle.spec.proofs.Ascending.{ascending-ext, isAscending-iff}
+use Rattle.spec.proofs.OrderedRows.{ordered-ext}
 use Rattle.spec.specs.Tables.{layout, supportLayout, Tables, tables}
 use Rattle.spec.specs.declared.Reply.the-variants.{Rows}
 use Rattle.spec.specs.Outputs.{Replied, replied, filled}
@@ -20,11 +20,11 @@ use Rattle.spec.specs.Demand3.{FactsFrom, CarriersOf, Supported, none, r
 
 -- The facts that follow make one list,
 pub facts-unique : {G : List Triple} (K H : List Triple) → FactsFrom G K → FactsFrom G H → K ≡ H
-facts-unique K H x y = ascending-ext K H (x .ascend) (y .ascend) (λ t. (λ m. y .exactly t .1 (x .exactly t .0 m), λ m. x .exactly t .1 (y .exactly t .0 m)))
+facts-unique K H x y = ascending-ext K H (isAscending-iff K .0 (x .ascend)) (isAscending-iff H .0 (y .ascend)) (λ t. (λ m. y .exactly t .1 (x .exactly t .0 m), λ m. x .exactly t .1 (y .exactly t .0 m)))
 
 -- so do the facts that carry a row,
 carriers-unique : {S F : List Triple} {t : Triple} (fs gs : List Triple) → CarriersOf S F t fs → CarriersOf S F t gs → fs ≡ gs
-carriers-unique fs gs x y = ascending-ext fs gs (x .ascend) (y .ascend) (λ f. (λ m. y .exactly f .1 (x .exactly f .0 m), λ m. x .exactly f .1 (y .exactly f .0 m)))
+carriers-unique fs gs x y = ascending-ext fs gs (isAscending-iff fs .0 (x .ascend)) (isAscending-iff gs .0 (y .ascend)) (λ f. (λ m. y .exactly f .1 (x .exactly f .0 m), λ m. x .exactly f .1 (y .exactly f .0 m)))
 
 -- and so do the supports of some rows.
 supports-unique : {S F K : List Triple} {U W : List ℕ} → Supported S F K U → Supported S F K W → U ≡ W
@@ -44,7 +44,7 @@ fixes s f k u L T T' D E =
 
 -- The rows of a question make one list.
 rows-unique : {G : Triple → Type 0} {q : List ℕ} (R Q : List (List ℕ)) → RowsOf G q R → RowsOf G q Q → R ≡ Q
-rows-unique R Q x y = sorted-rows.ascending-ext R Q (x .ascend) (y .ascend) (λ r. (λ m. y .exactly r .1 (x .exactly r .0 m), λ m. x .exactly r .1 (y .exactly r .0 m)))
+rows-unique R Q x y = sym (x .ascend) ∙ ordered-ext R Q (λ r. (λ m. y .exactly r .1 (x .exactly r .0 m), λ m. x .exactly r .1 (y .exactly r .0 m))) ∙ y .ascend
 
 -- A test does not give both answers.
 no-both : {A : Type 0} (b : Bool) → b ≡ true → b ≡ false → A

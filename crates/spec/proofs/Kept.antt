@@ -6,11 +6,12 @@ use Prim.Native.Nat.{ℕ, zero, suc, _+_, _-_, _≤_, _<_}
 use native.Mathlib.Omega.{arith}
 use lib.ListN.{length, length-map}
 use Rattle.spec.specs.declared.Triple.{Triple}
-use Rattle.spec.specs.Order.{Less, Trichotomy, less, same, more, compareTriples, equalTriples, choose, Above, Ascending}
-use Rattle.spec.proofs.Order.{less-trans, less-ne, choose-yes, choose-no, byOrder-elim}
+use Rattle.spec.specs.inside.Comparison.{Less, Trichotomy, less, same, more, compareTriples, equalTriples, choose, Above, Ascending}
+use Rattle.spec.proofs.Order.{less-trans, less-ne, choose-yes, choose-no}
+use Rattle.spec.proofs.Tests.{order-elim}
 use Rattle.spec.proofs.Ascending.{above-member}
-use Rattle.spec.specs.Saturation.{Kept, lookup, raise, oneLess, lower, keptRows, keptSupports}
-use Rattle.spec.specs.inside.Counts.{KeptAbove, Counts}
+use Rattle.spec.specs.Saturation.{Kept, raise, oneLess, lower, keptRows, keptSupports}
+use Rattle.spec.specs.inside.Counts.{KeptAbove, Counts, lookup}
 
 -- 1 if u is t, else 0.
 pub one : Triple → Triple → ℕ
@@ -70,13 +71,13 @@ first-absent {t} e k l a u q = absent {t = t} (e ∷ k) (l, a .0, a .1) u (λ h.
 kept-above-raise : {v : Triple} (t : Triple) (k : Kept) → Less v t → KeptAbove v k → KeptAbove v (raise t k)
 unfolding raise
 kept-above-raise t [] h a = (h, omega arith, tt)
-kept-above-raise {v} t (e ∷ k) h a = byOrder-elim (KeptAbove v) (compareTriples t (e .0)) (λ l. (h, omega arith, (l, a .1, a .2))) (λ q. (a .0, omega arith, a .2)) (λ l. (a .0, a .1, kept-above-raise t k l (a .2)))
+kept-above-raise {v} t (e ∷ k) h a = order-elim (KeptAbove v) t (e .0) (λ l. (h, omega arith, (l, a .1, a .2))) (λ q. (a .0, omega arith, a .2)) (λ l. (a .0, a .1, kept-above-raise t k l (a .2)))
 
 -- Raising keeps the order and the supports above 0.
 pub raise-counts : (t : Triple) (k : Kept) → Counts k → Counts (raise t k)
 unfolding raise
 raise-counts t [] a = (omega arith, tt)
-raise-counts t (e ∷ k) a = byOrder-elim Counts (compareTriples t (e .0)) (λ l. (omega arith, (l, a .0, a .1))) (λ q. (omega arith, a .1)) (λ l. (a .0, kept-above-raise t k l (a .1)))
+raise-counts t (e ∷ k) a = order-elim Counts t (e .0) (λ l. (omega arith, (l, a .0, a .1))) (λ q. (omega arith, a .1)) (λ l. (a .0, kept-above-raise t k l (a .1)))
 
 -- Raising t gives it one support more, and changes no other.
 pub lookup-raise : (t : Triple) (k : Kept) (u : Triple) → Counts k → lookup (raise t k) u ≡ one u t + lookup k u
@@ -86,7 +87,7 @@ lookup-raise t [] u a =
     (λ q. omega (arith, lookup-same (t, 1) [] u q, one-yes u t q, lookup-nil u))
     (λ n. omega (arith, lookup-other (t, 1) [] u n, one-no u t n, lookup-nil u))
 lookup-raise t (e ∷ k) u a =
-    byOrder-elim (λ (r : Kept). lookup r u ≡ one u t + lookup (e ∷ k) u) (compareTriples t (e .0))
+    order-elim (λ (r : Kept). lookup r u ≡ one u t + lookup (e ∷ k) u) t (e .0)
     (λ l. by-cases (equalTriples u t)
     (λ q. omega (arith, lookup-same (t, 1) (e ∷ k) u q, one-yes u t q, first-absent e k l a u q))
     (λ n. omega (arith, lookup-other (t, 1) (e ∷ k) u n, one-no u t n)))
@@ -102,7 +103,7 @@ pub raise-length : (t : Triple) (k : Kept) → (length k ≤ length (raise t k))
 unfolding raise
 raise-length t [] = omega arith
 raise-length t (e ∷ k) =
-    byOrder-elim (λ (r : Kept). (suc (length k) ≤ length r) × (length r ≤ suc (suc (length k)))) (compareTriples t (e .0)) (λ _. omega arith) (λ _. omega arith) (λ _. omega (arith, raise-length t k))
+    order-elim (λ (r : Kept). (suc (length k) ≤ length r) × (length r ≤ suc (suc (length k)))) t (e .0) (λ _. omega arith) (λ _. omega arith) (λ _. omega (arith, raise-length t k))
 
 -- ---- lower
 
@@ -131,7 +132,7 @@ kept-above-oneLess t (suc (suc n)) k h a = (h, omega arith, a)
 kept-above-lower : (v t : Triple) (k : Kept) → KeptAbove v k → KeptAbove v (lower t k)
 unfolding lower
 kept-above-lower v t [] a = tt
-kept-above-lower v t (e ∷ k) a = byOrder-elim (KeptAbove v) (compareTriples t (e .0)) (λ _. a) (λ _. kept-above-oneLess (e .0) (e .1) k (a .0) (a .2)) (λ _. (a .0, a .1, kept-above-lower (e .0) t k (a .2)))
+kept-above-lower v t (e ∷ k) a = order-elim (KeptAbove v) t (e .0) (λ _. a) (λ _. kept-above-oneLess (e .0) (e .1) k (a .0) (a .2)) (λ _. (a .0, a .1, kept-above-lower (e .0) t k (a .2)))
 
 -- Its supports stay above 0.
 counts-oneLess : (t : Triple) (n : ℕ) (k : Kept) → KeptAbove t k → Counts (oneLess t n k)
@@ -144,14 +145,14 @@ counts-oneLess t (suc (suc n)) k a = (omega arith, a)
 pub lower-counts : (t : Triple) (k : Kept) → Counts k → Counts (lower t k)
 unfolding lower
 lower-counts t [] a = tt
-lower-counts t (e ∷ k) a = byOrder-elim Counts (compareTriples t (e .0)) (λ _. a) (λ _. counts-oneLess (e .0) (e .1) k (a .1)) (λ _. (a .0, kept-above-lower (e .0) t k (a .1)))
+lower-counts t (e ∷ k) a = order-elim Counts t (e .0) (λ _. a) (λ _. counts-oneLess (e .0) (e .1) k (a .1)) (λ _. (a .0, kept-above-lower (e .0) t k (a .1)))
 
 -- Lowering t gives it one support less, if it has any, and changes no other.
 pub lookup-lower : (t : Triple) (k : Kept) (u : Triple) → Counts k → lookup (lower t k) u ≡ lookup k u - one u t
 unfolding lower
 lookup-lower t [] u a = omega (arith, lookup-nil u)
 lookup-lower t (e ∷ k) u a =
-    byOrder-elim (λ (r : Kept). lookup r u ≡ lookup (e ∷ k) u - one u t) (compareTriples t (e .0))
+    order-elim (λ (r : Kept). lookup r u ≡ lookup (e ∷ k) u - one u t) t (e .0)
     (λ l. by-cases (equalTriples u t)
     (λ q. omega (arith, first-absent e k l a u q))
     (λ n. omega (arith, one-no u t n)))
@@ -173,7 +174,7 @@ oneLess-length t (suc (suc n)) k = omega arith
 pub lower-length : (t : Triple) (k : Kept) → length (lower t k) ≤ length k
 unfolding lower
 lower-length t [] = omega arith
-lower-length t (e ∷ k) = byOrder-elim (λ (r : Kept). length r ≤ suc (length k)) (compareTriples t (e .0)) (λ _. omega arith) (λ _. oneLess-length (e .0) (e .1) k) (λ _. omega (arith, lower-length t k))
+lower-length t (e ∷ k) = order-elim (λ (r : Kept). length r ≤ suc (length k)) t (e .0) (λ _. omega arith) (λ _. oneLess-length (e .0) (e .1) k) (λ _. omega (arith, lower-length t k))
 
 -- ---- the supports fix the list
 

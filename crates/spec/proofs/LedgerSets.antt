@@ -9,16 +9,19 @@ use native.Mathlib.Omega.{arith}
 use lib.ListN.{length}
 use Rattle.spec.specs.declared.Triple.{Triple}
 use Rattle.spec.specs.Terms.{isTriple, isStatement, areSidesAllowed, isAllowedStatement, isAllowedFact}
-use Rattle.spec.specs.Order.{Ascending, insert}
+use Rattle.spec.specs.Order.{insert}
+use Rattle.spec.specs.inside.Comparison.{Ascending}
 use Rattle.spec.specs.Refusals.{firstNo, tripleQuestions}
 use Rattle.spec.proofs.Lists.{by-test}
-use Rattle.spec.proofs.Ascending.{insert-asc, insert-cases, remove-asc, remove-sub}
+use Rattle.spec.proofs.Ascending.{insert-asc, insert-cases, remove-asc, remove-sub, isAscending-iff}
 use Rattle.spec.specs.inside.Entailment.{NoVocabulary}
-use Rattle.spec.specs.Saturation.{carriers, Kept, saturation, keptRows, keptSupports}
+use Rattle.spec.specs.Saturation.{Kept, saturation, keptRows, keptSupports}
+use Rattle.spec.specs.computed.Carried.{carriers}
 use Rattle.spec.proofs.Entailment.{allowed-no-vocabulary}
-use Rattle.spec.proofs.Follows.{follows-fact-iff, carries-iff}
+use Rattle.spec.proofs.Follows.{follows-fact-iff}
+use Rattle.spec.proofs.Computed.{carriers-are}
 use Rattle.spec.proofs.Kept.{length-keptRows, lookup-entry}
-use Rattle.spec.proofs.Saturation.{saturation-counts, saturation-support, support-is, carriers-iff, carriers-ascend, saturation-kept, saturation-ascends}
+use Rattle.spec.proofs.Saturation.{saturation-counts, saturation-support, support-is, saturation-kept, saturation-ascends}
 use Rattle.spec.specs.Ledger.{Capacities, Ledger, entering, leaving, isFitting}
 use Rattle.spec.specs.Demand3.{graphOf, FactsFrom, CarriersOf, Supported, none, row, FitsBy}
 
@@ -43,7 +46,7 @@ module _ {L : Ledger} (A : Allowed L) where
   -- The rows of the saturation are the facts that follow,
   pub rows-follow : FactsFrom (graphOf L) (keptRows (saturation (L .statements) (L .facts)))
   rows-follow = record {
-    ascend = saturation-ascends (L .statements) (L .facts);
+    ascend = isAscending-iff (keptRows (saturation (L .statements) (L .facts))) .1 (saturation-ascends (L .statements) (L .facts));
     exactly = λ t.
         let k = saturation-kept (L .statements) (L .facts) t no-vocabulary in
         let f = follows-fact-iff (A .statements-allowed) (A .facts-allowed) t in
@@ -51,20 +54,13 @@ module _ {L : Ledger} (A : Allowed L) where
   }
 
   -- the computed carriers of a row are the facts that carry it,
-  carriers-are : (t : Triple) → CarriersOf (L .statements) (L .facts) t (carriers (L .statements) (L .facts) t)
-  carriers-are t = record {
-    ascend = carriers-ascend (L .statements) (L .facts) t (A .facts-ascend);
-    exactly = λ f.
-        let c = carriers-iff (L .statements) (L .facts) t f no-vocabulary in (
-          λ m. let r = c .0 m in (r .0, carries-iff (A .statements-allowed) f t (A .facts-allowed f (r .0)) .1 (r .1)),
-          λ h. c .1 (h .0, carries-iff (A .statements-allowed) f t (A .facts-allowed f (h .0)) .0 (h .1)),
-        );
-  }
+  row-carriers : (t : Triple) → CarriersOf (L .statements) (L .facts) t (carriers (L .statements) (L .facts) t)
+  row-carriers = carriers-are (A .statements-allowed) (L .facts) (isAscending-iff (L .facts) .1 (A .facts-ascend)) (A .facts-allowed)
 
   -- and the supports of the saturation are their numbers.
   pub rows-supported : Supported (L .statements) (L .facts) (keptRows (saturation (L .statements) (L .facts))) (keptSupports (saturation (L .statements) (L .facts)))
   rows-supported =
-      supported-rows (L .statements) (L .facts) (saturation (L .statements) (L .facts)) carriers-are
+      supported-rows (L .statements) (L .facts) (saturation (L .statements) (L .facts)) row-carriers
       (λ e m. sym (lookup-entry (saturation (L .statements) (L .facts)) e (saturation-counts (L .statements) (L .facts)) m) ∙ saturation-support (L .statements) (L .facts) (e .0) ∙ support-is (L .statements) (L .facts) (e .0))
 
   -- Question 5 is asked on what follows.

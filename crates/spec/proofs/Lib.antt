@@ -1,10 +1,12 @@
 pub mod Sides
 pub mod Lists
 pub mod Order
+pub mod Tests
 pub mod Ascending
 pub mod Alternatives
 pub mod AnswerLaws
 pub mod Carried
+pub mod Computed
 pub mod Entailment
 pub mod Fixed
 pub mod Follows

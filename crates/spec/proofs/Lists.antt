@@ -1,10 +1,12 @@
 -- Laws of lists and tests that the library lacks. Assumes nothing.
-use mathlib.Core.Path.{_≡_, refl}
+use mathlib.Core.Path.{_≡_, refl, sym, ap, _∙_}
 use mathlib.Core.Bool.{Bool, true, false, cond, _||_}
 use mathlib.Core.Logic.{_⊎_, inl, inr, ⊎-elim}
 use mathlib.Core.List.{List, [], _∷_, flatMap, List·Memᴰ, List·Memᴰ·head, List·Memᴰ·tail, List·Memᴰ·cases-cons, List·Memᴰ·not-nil, List·Memᴰ·append-cases, Memᴰ·append-left, Memᴰ·append-right}
 use Prim.Native.Nat.{ℕ, zero, suc, _≤_, _<_}
 use native.Mathlib.Omega.{arith}
+use lib.ListN.{length}
+use Rattle.spec.specs.Lists.{any, select}
 
 -- True is not false.
 pub true-not-false : true ≡ false → ⊥
@@ -24,6 +26,46 @@ by-test false f g = g refl
 pub or-cases : (a b : Bool) → (a || b) ≡ true → (a ≡ true) ⊎ (b ≡ true)
 or-cases true b e = inl refl
 or-cases false b e = inr e
+
+-- ---- some element passes a test, and those that do
+
+-- A test that x alone passes is passed in a list exactly if x is there.
+module _ {A : Type 0} (test : A → Bool) (x : A) (passes : (y : A) → x ≡ y → test y ≡ true) (alone : (y : A) → test y ≡ true → x ≡ y) where
+  pub any-in : (l : List A) → List·Memᴰ x l → any test l ≡ true
+  unfolding any
+  any-in [] m = absurd (List·Memᴰ·not-nil m)
+  any-in (y ∷ l) m = ⊎-elim (λ e. rw (passes y e)) (λ j. by-test (test y) (λ e. rw e) (λ e. rw e (any-in l j))) (List·Memᴰ·cases-cons m)
+
+  pub any-out : (l : List A) → any test l ≡ true → List·Memᴰ x l
+  unfolding any
+  any-out [] h = absurd (true-not-false (sym h))
+  any-out (y ∷ l) h = by-test (test y) (λ e. List·Memᴰ·head (alone y e)) (λ e. List·Memᴰ·tail (any-out l (rw e at h)))
+
+-- What is selected is there and passes the test, and back.
+pub select-in : {A : Type 0} (test : A → Bool) {x : A} (l : List A) → List·Memᴰ x l → test x ≡ true → List·Memᴰ x (select test l)
+unfolding select
+select-in test [] m e = absurd (List·Memᴰ·not-nil m)
+select-in test {x} (y ∷ l) m e =
+    cond-elim (List·Memᴰ x) (test y)
+    (λ _. ⊎-elim List·Memᴰ·head (λ j. List·Memᴰ·tail (select-in test l j e)) (List·Memᴰ·cases-cons m))
+    (λ n. ⊎-elim (λ q. absurd (true-not-false (sym e ∙ ap test q ∙ n))) (λ j. select-in test l j e) (List·Memᴰ·cases-cons m))
+
+pub select-out : {A : Type 0} (test : A → Bool) {x : A} (l : List A) → List·Memᴰ x (select test l) → List·Memᴰ x l × (test x ≡ true)
+unfolding select
+select-out test [] m = absurd (List·Memᴰ·not-nil m)
+select-out test {x} (y ∷ l) m =
+    cond-elim (λ r. List·Memᴰ x r → List·Memᴰ x (y ∷ l) × (test x ≡ true)) (test y)
+    (λ e i. ⊎-elim (λ q. (List·Memᴰ·head q, ap test q ∙ e)) (λ j. let r = select-out test l j in (List·Memᴰ·tail (r .0), r .1)) (List·Memᴰ·cases-cons i))
+    (λ _ i. let r = select-out test l i in (List·Memᴰ·tail (r .0), r .1))
+    m
+
+pub select-length : {A : Type 0} (test : A → Bool) (l : List A) → length (select test l) ≤ length l
+unfolding select
+select-length test [] = omega arith
+select-length {A} test (y ∷ l) =
+    cond-elim (λ (r : List A). length r ≤ suc (length l)) (test y) {x = y ∷ select test l} {y = select test l} (λ _. omega (arith, select-length test l)) (λ _. omega (arith, select-length test l))
+
+-- ---- flatMap
 
 -- An element of `flatMap f l` comes of an element of l.
 pub record FlatMapped {A B : Type 0} (f : A → List B) (l : List A) (b : B) : Type 0 where

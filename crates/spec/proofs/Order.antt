@@ -2,7 +2,7 @@
 use mathlib.Core.Path.{_≡_, refl, ap}
 use native.Mathlib.Omega.{arith}
 use Rattle.spec.specs.declared.Triple.{Triple}
-use Rattle.spec.specs.Order.{Less, by-subject, by-property, by-object, less-irrefl, Trichotomy, less, same, more, choose, byOrder}
+use Rattle.spec.specs.inside.Comparison.{Less, by-subject, by-property, by-object, less-irrefl, Trichotomy, less, same, more, choose, byOrder}
 
 -- The order is transitive.
 pub less-trans : {t u v : Triple} → Less t u → Less u v → Less t v

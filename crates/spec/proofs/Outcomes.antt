@@ -5,10 +5,8 @@ use mathlib.Core.Bool.{Bool, true, false, cond}
 use mathlib.Core.List.{List, _∷_, _++_, List·Memᴰ}
 use Rattle.spec.specs.declared.Triple.{Triple}
 use Rattle.spec.specs.Terms.{isTriple, isStatement, areSidesAllowed}
-use Rattle.spec.specs.Order.{equalTriples}
 use Rattle.spec.specs.Refusals.{firstNo, tripleQuestions}
-use Rattle.spec.proofs.Order.{choose-yes, choose-no}
-use Rattle.spec.specs.Saturation.{isIn}
+use Rattle.spec.proofs.Tests.{isIn-iff, isIn-no}
 use Rattle.spec.specs.declared.Answer.the-variants.{Applied, Idle, Refused}
 use Rattle.spec.specs.Tables.{Tables, areFormed, Contents, contentsOf, put}
 use Rattle.spec.specs.Updates.{withTriple, withoutTriple, isThere, isBelowCapacity, isKeptFitting, outcome, decide, add, withdraw}
@@ -101,8 +99,8 @@ module _ {T : Tables} {t : Triple} (P : Passes T t) where
 
 pub there-yes : (t : Triple) (c : Contents) → List·Memᴰ t (cond (isStatement t) (c .statements) (c .facts)) → isThere t c ≡ true
 unfolding isThere
-there-yes t c m = choose-yes (isIn equalTriples t (cond (isStatement t) (c .statements) (c .facts))) true false m
+there-yes t c m = isIn-iff t (cond (isStatement t) (c .statements) (c .facts)) .1 m
 
 pub there-no : (t : Triple) (c : Contents) → ¬ List·Memᴰ t (cond (isStatement t) (c .statements) (c .facts)) → isThere t c ≡ false
 unfolding isThere
-there-no t c n = choose-no (isIn equalTriples t (cond (isStatement t) (c .statements) (c .facts))) true false n
+there-no t c n = isIn-no t (cond (isStatement t) (c .statements) (c .facts)) n

@@ -9,16 +9,18 @@ use native.Mathlib.Omega.{arith}
 use native.Mathlib.Decide.{ℕ-discrete}
 use Rattle.spec.specs.declared.Triple.{Triple}
 use Rattle.spec.specs.Terms.{type, subClassOf, subPropertyOf, domain, range, isLiteral, isVocabulary, triple, isAllowedStatement, isAllowedFact}
-use Rattle.spec.specs.Order.{triple-eq}
+use Rattle.spec.specs.inside.Comparison.{triple-eq}
 use Rattle.spec.proofs.Order.{of-subject}
 use Rattle.spec.proofs.Ascending.{and-left}
 use Rattle.spec.specs.Rules.{Follows, Reach, stay, step}
 use Rattle.spec.specs.inside.Entailment.{Holds, explicit, rdfs2, rdfs3, rdfs7, rdfs9, NoVocabulary}
-use Rattle.spec.specs.Saturation.{properties}
+use Rattle.spec.specs.computed.Carried.{properties}
 use Rattle.spec.proofs.Entailment.{holds-iff-carried, allowed-no-vocabulary, not-vocabulary}
 use Rattle.spec.proofs.Follows.{statement-property, allowed-statement, follows-iff}
-use Rattle.spec.proofs.Carried.{objects-iff, properties-iff, SubjectStart, from-type, from-domain, start-iff, Part, as-property, as-subject, as-object, carried-iff, carried-part}
-use Rattle.spec.specs.Alternatives.{admits, admitsClass, admitsProperty, IsAlternative, as-it-is, by-subclass, by-domain, by-range, by-subproperty, Gives, itself, a-class, a-property, Reformulated, admitsTriple}
+use Rattle.spec.proofs.Reach.{objects-iff}
+use Rattle.spec.proofs.Carried.{properties-iff, SubjectStart, from-type, from-domain, start-iff, Part, as-property, as-subject, as-object, carried-iff, carried-part}
+use Rattle.spec.specs.Alternatives.{IsAlternative, as-it-is, by-subclass, by-domain, by-range, by-subproperty, Gives, itself, a-class, a-property, Reformulated, admitsTriple}
+use Rattle.spec.specs.Atoms.{admits, admitsClass, admitsProperty}
 use Rattle.spec.proofs.Alternatives.{source-begins}
 
 -- ---- sound

@@ -16,7 +16,7 @@ use Rattle.spec.specs.Outputs.{areFitting, replied, filled, give}
 use Rattle.spec.specs.Questions.{headCount, atoms, head, isQuestion, isHeadBound, IsAnswer, questionRows, ask}
 use Rattle.spec.proofs.Meaning.{answers-iff}
 use Rattle.spec.proofs.QuestionLaws.{question-laid}
-use Rattle.spec.proofs.AnswerLaws.{answers-ascend, head-stands}
+use Rattle.spec.proofs.AnswerLaws.{answers-ordered, head-stands}
 use Rattle.spec.proofs.RefusalLaws as refusal
 use Rattle.spec.specs.Demand3.{RowsOf, Replies}
 
@@ -45,7 +45,7 @@ module _ (K : List Triple) (G : Triple → Type 0) (same : (t : Triple) → List
   -- The computed rows among listed triples are the rows of a graph that has the same triples.
   rows-of : isQuestion q ≡ true → isHeadBound q ≡ true → RowsOf G q (questionRows K q)
   rows-of e f = record {
-    ascend = answers-ascend K (atoms q) (head q);
+    ascend = answers-ordered K (atoms q) (head q);
     exactly = λ row.
         let r = answers-iff K (atoms q) (head q) row (head-stands q e f) in
         (λ m. answer-in (λ t. same t .0) (r .0 m), λ a. r .1 (answer-in (λ t. same t .1) a));

@@ -1,6 +1,6 @@
 -- The saturation: its supports, what it keeps, and that raising and lowering give what working out afresh gives. Assumes nothing.
 use mathlib.Core.Path.{_≡_, refl, sym, _∙_}
-use mathlib.Core.Bool.{true}
+use mathlib.Core.Bool.{Bool, true, false, cond}
 use mathlib.Core.List.{List, [], _∷_, List·Memᴰ, List·Memᴰ·head, List·Memᴰ·tail, List·Memᴰ·cases-cons, List·Memᴰ·not-nil, Memᴰ·cast}
 use mathlib.Core.Logic.{⊎-elim, by-cases, _↔_}
 use Prim.Native.Nat.{ℕ, _+_, _-_, _≤_, _<_}
@@ -8,26 +8,30 @@ use native.Mathlib.Omega.{arith}
 use lib.ListN.{length}
 use Rattle.spec.specs.declared.Triple.{Triple}
 use Rattle.spec.specs.Terms.{isAllowedStatement, isAllowedFact}
-use Rattle.spec.specs.Order.{compareTriples, equalTriples, choose, Above, Ascending, insert, remove}
-use Rattle.spec.proofs.Order.{choose-elim, choose-yes, byOrder-elim}
-use Rattle.spec.proofs.Ascending.{above-asc, above-weaken}
+use Rattle.spec.specs.Lists.{select}
+use Rattle.spec.specs.Order.{isIn, insert, remove}
+use Rattle.spec.specs.inside.Comparison.{equalTriples, Ascending}
+use Rattle.spec.proofs.Lists.{cond-elim, select-in, select-out, select-length}
+use Rattle.spec.proofs.Tests.{order-elim, same-elim, isIn-iff, isIn-elim}
+use Rattle.spec.proofs.Ascending.{select-asc}
 use Rattle.spec.specs.inside.Entailment.{Holds, HoldsBy, NoVocabulary}
-use Rattle.spec.specs.Saturation.{isIn, carried, carriers, support, Kept, lookup, raiseAll, lowerAll, saturation, keptRows, keptSupports}
+use Rattle.spec.specs.Saturation.{Kept, raiseAll, lowerAll, saturation, keptRows, keptSupports}
+use Rattle.spec.specs.computed.Carried.{carried, carriers, support}
 use Rattle.spec.proofs.Sets.{Distinct, ascending-distinct}
 use Rattle.spec.proofs.Entailment.{holds-iff-carried, holds-mono, holds-allowed, allowed-no-vocabulary}
 use Rattle.spec.proofs.Carried.{carried-ascends, carried-iff}
-use Rattle.spec.specs.inside.Counts.{Counts}
+use Rattle.spec.specs.inside.Counts.{Counts, lookup}
 use Rattle.spec.proofs.Kept.{one, lookup-nil, one-yes, one-no, raise-counts, lower-counts, lookup-raise, lookup-lower, raise-length, lower-length, kept-ext, kept-shorter, kept-ascends, kept-positive, lookup-kept, support-of}
 
 -- ---- many rows raised, many lowered
 
 -- 1 if u is one of ts, else 0.
 abbrev pub among : Triple → List Triple → ℕ
-among u ts = choose (isIn equalTriples u ts) 1 0
+among u ts = cond (isIn u ts) 1 0
 
 -- It is at most 1.
-among-bound : (u : Triple) (ts : List Triple) → among u ts ≤ 1
-among-bound u ts = choose-elim {A = ℕ} (λ n. n ≤ 1) (isIn equalTriples u ts) {x = 1} {y = 0} (λ _. omega arith) (λ _. omega arith)
+pub among-bound : (u : Triple) (ts : List Triple) → among u ts ≤ 1
+among-bound u ts = cond-elim (λ (n : ℕ). n ≤ 1) (isIn u ts) (λ _. omega arith) (λ _. omega arith)
 
 -- How often u stands in a list.
 count : Triple → List Triple → ℕ
@@ -51,7 +55,7 @@ count-present u (t ∷ ts) d m =
 
 -- In an ascending list it stands once or not at all.
 count-among : (u : Triple) (ts : List Triple) → Ascending ts → count u ts ≡ among u ts
-count-among u ts a = choose-elim (λ (n : ℕ). count u ts ≡ n) (isIn equalTriples u ts) (count-present u ts (ascending-distinct ts a)) (count-absent u ts)
+count-among u ts a = isIn-elim (λ (n : ℕ). count u ts ≡ n) u ts (count-present u ts (ascending-distinct ts a)) (count-absent u ts)
 
 -- Raising keeps the order and the supports above 0.
 pub raiseAll-counts : (ts : List Triple) (k : Kept) → Counts k → Counts (raiseAll ts k)
@@ -110,11 +114,26 @@ saturation-cons : (S : List Triple) (f : Triple) (F : List Triple) (u : Triple) 
 unfolding saturation
 saturation-cons S f F u = lookup-raiseAll (carried S f) (saturation S F) u (carried-ascends S f) (saturation-counts S F)
 
+-- No fact, no support.
+support-nil : (S : List Triple) (t : Triple) → support S [] t ≡ 0
+unfolding support carriers select
+support-nil S t = refl
+
+-- What is listed counts 1.
+listed-length : (b : Bool) (f : Triple) (l : List Triple) → length (cond b (f ∷ l) l) ≡ cond b 1 0 + length l
+listed-length true f l = omega arith
+listed-length false f l = omega arith
+
+-- One fact more in front adds 1 to what it carries.
+pub support-cons : (S : List Triple) (f : Triple) (F : List Triple) (t : Triple) → support S (f ∷ F) t ≡ among t (carried S f) + support S F t
+unfolding support carriers select
+support-cons S f F t = listed-length (isIn t (carried S f)) f (select (λ g. isIn t (carried S g)) F)
+
 -- Each row has its support, and a row that is not kept has none.
 pub saturation-support : (S F : List Triple) (t : Triple) → lookup (saturation S F) t ≡ support S F t
-unfolding support saturation
-saturation-support S [] t = lookup-nil t
-saturation-support S (f ∷ F) t = omega (arith, saturation-cons S f F t, saturation-support S F t)
+unfolding saturation
+saturation-support S [] t = lookup-nil t ∙ sym (support-nil S t)
+saturation-support S (f ∷ F) t = omega (arith, saturation-cons S f F t, saturation-support S F t, support-cons S f F t)
 
 -- The saturation is the only such list.
 pub saturation-unique : (S F : List Triple) (k : Kept) → Counts k → ((t : Triple) → lookup k t ≡ support S F t) → k ≡ saturation S F
@@ -122,63 +141,34 @@ saturation-unique S F k a h = kept-ext k (saturation S F) a (saturation-counts S
 
 -- ---- the support is the number of the facts that carry the row
 
--- A fact is counted where it is listed.
-bit-length : {P : Type 0} (d : Dec P) (f : Triple) {n : ℕ} (l : List Triple) → n ≡ length l → choose d 1 0 + n ≡ length (choose d (f ∷ l) l)
-unfolding choose
-bit-length (yes p) f l e = omega arith
-bit-length (no h) f l e = omega arith
-
 -- A fact that lists t is a carrier.
 carriers-in : (S F : List Triple) (t f : Triple) → List·Memᴰ f F → List·Memᴰ t (carried S f) → List·Memᴰ f (carriers S F t)
 unfolding carriers
-carriers-in S [] t f m i = absurd (List·Memᴰ·not-nil m)
-carriers-in S (g ∷ F) t f m i =
-    choose-elim (List·Memᴰ f) (isIn equalTriples t (carried S g))
-    (λ _. ⊎-elim List·Memᴰ·head (λ j. List·Memᴰ·tail (carriers-in S F t f j i)) (List·Memᴰ·cases-cons m))
-    (λ n. ⊎-elim (λ (e : f ≡ g). absurd (n (rw e at i))) (λ j. carriers-in S F t f j i) (List·Memᴰ·cases-cons m))
+carriers-in S F t f m i = select-in (λ g. isIn t (carried S g)) F m (isIn-iff t (carried S f) .1 i)
 
 -- A carrier is a fact that lists t.
 carriers-out : (S F : List Triple) (t f : Triple) → List·Memᴰ f (carriers S F t) → List·Memᴰ f F × List·Memᴰ t (carried S f)
 unfolding carriers
-carriers-out S [] t f m = absurd (List·Memᴰ·not-nil m)
-carriers-out S (g ∷ F) t f m =
-    choose-elim (λ (l : List Triple). List·Memᴰ f l → List·Memᴰ f (g ∷ F) × List·Memᴰ t (carried S f)) (isIn equalTriples t (carried S g))
-    (λ i j. ⊎-elim (λ (e : f ≡ g). (List·Memᴰ·head e, rw e i)) (λ k. let r = carriers-out S F t f k in (List·Memᴰ·tail (r .0), r .1)) (List·Memᴰ·cases-cons j))
-    (λ _ j. let r = carriers-out S F t f j in (List·Memᴰ·tail (r .0), r .1))
-    m
+carriers-out S F t f m = let r = select-out (λ g. isIn t (carried S g)) F m in (r .0, isIn-iff t (carried S f) .0 (r .1))
 
 -- The support is the number of the carriers,
 pub support-is : (S F : List Triple) (t : Triple) → support S F t ≡ length (carriers S F t)
-unfolding support carriers
-support-is S [] t = refl
-support-is S (f ∷ F) t = bit-length (isIn equalTriples t (carried S f)) f (carriers S F t) (support-is S F t)
+unfolding support
+support-is S F t = refl
 
 -- which are exactly the facts of F that carry t,
 pub carriers-iff : (S F : List Triple) (t f : Triple) → NoVocabulary S → List·Memᴰ f (carriers S F t) ↔ (List·Memᴰ f F × HoldsBy S f t)
 carriers-iff S F t f w = (λ m. let r = carriers-out S F t f m in (r .0, carried-iff S f t w .0 (r .1)), λ h. carriers-in S F t f (h .0) (carried-iff S f t w .1 (h .1)))
 
 -- ascending as in F, each once,
-above-carriers : (v : Triple) (S F : List Triple) (t : Triple) → Above v F → Above v (carriers S F t)
-unfolding carriers
-above-carriers v S [] t a = tt
-above-carriers v S (f ∷ F) t a =
-    choose-elim (Above v) (isIn equalTriples t (carried S f))
-    (λ _. (a .0, above-carriers f S F t (a .1)))
-    (λ _. above-carriers v S F t (above-weaken F (a .0) (a .1)))
-
 pub carriers-ascend : (S F : List Triple) (t : Triple) → Ascending F → Ascending (carriers S F t)
 unfolding carriers
-carriers-ascend S [] t a = tt
-carriers-ascend S (f ∷ F) t a =
-    choose-elim Ascending (isIn equalTriples t (carried S f))
-    (λ _. above-carriers f S F t a)
-    (λ _. carriers-ascend S F t (above-asc f F a))
+carriers-ascend S F t a = select-asc (λ f. isIn t (carried S f)) F a
 
 -- and so at most the number of facts.
 pub support-bound : (S F : List Triple) (t : Triple) → support S F t ≤ length F
-unfolding support
-support-bound S [] t = omega arith
-support-bound S (f ∷ F) t = omega (arith, support-bound S F t, among-bound t (carried S f))
+unfolding support carriers
+support-bound S F t = select-length (λ f. isIn t (carried S f)) F
 
 -- Each support of the saturation lies between 1 and the number of facts.
 pub saturation-supports : (S F : List Triple) (n : ℕ) → List·Memᴰ n (keptSupports (saturation S F)) → (0 < n) × (n ≤ length F)
@@ -235,7 +225,7 @@ insert-support : (S : List Triple) (f : Triple) (F : List Triple) (u : Triple) �
 unfolding insert
 insert-support S f [] u n = saturation-cons S f [] u
 insert-support S f (g ∷ F) u n =
-    byOrder-elim (λ (r : List Triple). lookup (saturation S r) u ≡ among u (carried S f) + lookup (saturation S (g ∷ F)) u) (compareTriples f g)
+    order-elim (λ (r : List Triple). lookup (saturation S r) u ≡ among u (carried S f) + lookup (saturation S (g ∷ F)) u) f g
     (λ _. saturation-cons S f (g ∷ F) u)
     (λ q. absurd (n (List·Memᴰ·head q)))
     (λ _. omega (arith, saturation-cons S g (insert f F) u, saturation-cons S g F u, insert-support S f F u (λ m. n (List·Memᴰ·tail m))))
@@ -245,7 +235,7 @@ remove-support : (S : List Triple) (f : Triple) (F : List Triple) (u : Triple) �
 unfolding remove
 remove-support S f [] u m = absurd (List·Memᴰ·not-nil m)
 remove-support S f (g ∷ F) u m =
-    choose-elim (λ (r : List Triple). lookup (saturation S (g ∷ F)) u ≡ among u (carried S f) + lookup (saturation S r) u) (equalTriples f g)
+    same-elim (λ (r : List Triple). lookup (saturation S (g ∷ F)) u ≡ among u (carried S f) + lookup (saturation S r) u) f g
     (λ q. rw q (saturation-cons S g F u))
     (λ n. omega (arith, saturation-cons S g (remove f F) u, saturation-cons S g F u, remove-support S f F u (⊎-elim (λ e. absurd (n e)) (λ j. j) (List·Memᴰ·cases-cons m))))
 
@@ -266,18 +256,21 @@ lower-saturation S F f m =
 -- ---- fewer statements, no more rows
 
 -- What implies more counts no more.
-bit-le : {P Q : Type 0} (d : Dec P) (e : Dec Q) → (P → Q) → choose d 1 0 ≤ choose e 1 0
-bit-le d e f = choose-elim (λ (n : ℕ). n ≤ choose e 1 0) d (λ p. omega (arith, choose-yes {A = ℕ} e 1 0 (f p))) (λ _. omega arith)
+bit-le : (a b : Bool) → (a ≡ true → b ≡ true) → cond a 1 0 ≤ cond b 1 0
+bit-le true b f = rw (f refl) (omega arith)
+bit-le false b f = omega arith
 
 -- Fewer statements give no fact a greater support,
 pub support-mono : (R S F : List Triple) (t : Triple) → NoVocabulary S → ((u : Triple) → List·Memᴰ u R → List·Memᴰ u S) → support R F t ≤ support S F t
-unfolding support
-support-mono R S [] t w h = omega arith
+support-mono R S [] t w h = omega (arith, support-nil R t)
 support-mono R S (f ∷ F) t w h =
+    let wider : List·Memᴰ t (carried R f) → List·Memᴰ t (carried S f) = λ m. carried-iff S f t w .1 (holds-mono h (λ u i. i) (carried-iff R f t (λ u i. w u (h u i)) .0 m)) in
     omega (
       arith,
+      support-cons R f F t,
+      support-cons S f F t,
       support-mono R S F t w h,
-      bit-le (isIn equalTriples t (carried R f)) (isIn equalTriples t (carried S f)) (λ m. carried-iff S f t w .1 (holds-mono h (λ u i. i) (carried-iff R f t (λ u i. w u (h u i)) .0 m))),
+      bit-le (isIn t (carried R f)) (isIn t (carried S f)) (λ e. isIn-iff t (carried S f) .1 (wider (isIn-iff t (carried R f) .0 e))),
     )
 
 -- and keep no more rows.

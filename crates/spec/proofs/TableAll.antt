@@ -12,7 +12,8 @@ use lib.Dec.{eqb}
 use borrow.Author.Tests.{eqb-true}
 use Rattle.spec.specs.declared.Triple.{Triple}
 use Rattle.spec.proofs.Ascending.{and-left, and-right}
-use Rattle.spec.specs.Tables.{all, areZero}
+use Rattle.spec.specs.Tables.{areZero}
+use Rattle.spec.specs.Lists.{all}
 
 pub and-false : (b : Bool) → (b && false) ≡ false
 and-false true = refl
@@ -74,7 +75,7 @@ answered test e p q = ap test (sym e) ∙ sym p ∙ q
 -- ---- zeros
 
 pub zeros-are : (ws : List ℕ) → areZero ws ≡ true → ws ≡ replicate (length ws) 0
-unfolding areZero
+unfolding areZero all
 zeros-are [] e = refl
 zeros-are (w ∷ ws) e = ap₂ _∷_ (eqb-true w 0 (and-left _ _ e)) (zeros-are ws (and-right (eqb w 0) _ e))
 
@@ -82,14 +83,14 @@ pub replicate-of : (ws : List ℕ) (n : ℕ) → areZero ws ≡ true → length 
 replicate-of ws n e q = subst (λ (k : ℕ). ws ≡ replicate k 0) q (zeros-are ws e)
 
 pub areZero-replicate : (n : ℕ) → areZero (replicate n 0) ≡ true
-unfolding areZero
+unfolding areZero all
 areZero-replicate zero = refl
 areZero-replicate (suc n) = areZero-replicate n
 
 pub zeros-next : (ws : List ℕ) (i : ℕ) → i < length ws → areZero (drop i ws) ≡ (eqb (getD ws i 0) 0 && areZero (drop (i + 1) ws))
-unfolding areZero
+unfolding areZero all
 zeros-next ws i h = rw (add-one, drop-cons ws i 0 h)
 
 pub zeros-end : (ws : List ℕ) (i : ℕ) → length ws ≤ i → areZero (drop i ws) ≡ true
-unfolding areZero
+unfolding areZero all
 zeros-end ws i h = rw (drop-of-length-le ws h)

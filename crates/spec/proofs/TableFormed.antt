@@ -9,9 +9,11 @@ use lib.Seq.{drop-at}
 use lib.Dec.{leb}
 use borrow.Author.Tests.{leb-true, le-leb}
 use Rattle.spec.specs.declared.Triple.{Triple}
-use Rattle.spec.specs.Order.{isAscending, Ascending}
+use Rattle.spec.specs.Order.{isAscending}
+use Rattle.spec.specs.inside.Comparison.{Ascending}
 use Rattle.spec.proofs.Ascending.{and-left, and-right, isAscending-iff}
-use Rattle.spec.specs.Tables.{capacity, firstRows, rows, flatten, layout, areZero, all, isTable}
+use Rattle.spec.specs.Tables.{capacity, firstRows, rows, flatten, layout, areZero, isTable}
+use Rattle.spec.specs.Lists.{all}
 use Rattle.spec.specs.inside.Laid.{Spare, WellFormed}
 use Rattle.spec.proofs.TableRows.{length-firstRows, flatten-firstRows, firstRows-flatten, firstRows-rows, length-flatten, laid}
 use Rattle.spec.proofs.TableAll.{replicate-of, areZero-replicate}

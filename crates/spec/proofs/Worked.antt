@@ -3,19 +3,21 @@
 use Prim.Native.Nat.{ℕ}
 use mathlib.Core.Path.{_≡_, refl}
 use mathlib.Core.List.{List, [], _∷_, _++_, flatMap}
-use mathlib.Core.Logic.{Dec·and}
-use native.Mathlib.Decide.{ℕ-discrete, decLt}
 use Rattle.spec.specs.Terms.{isUri, isBlank, isLiteral, isVariable, isVocabulary, triple, isTriple, isStatement, areSidesAllowed, isAllowedStatement, isAllowedFact}
-use Rattle.spec.specs.Order.{compareNumbers, compareTriples, equalTriples, choose, byOrder, isAbove, isAscending, insert, remove, ascend}
+use Rattle.spec.specs.Order.{isSame, isAscending, insert, remove, ascend}
 use Rattle.spec.specs.Rows.{less, insertOnce, ordered, flat}
-use Rattle.spec.specs.Saturation.{isIn, add, addAll, keep, leaves, pull, afterPull, explore, spread, reach, objects, properties, subjectClasses, objectClasses, conclusions, carried, raise, raiseAll, saturation}
+use Rattle.spec.specs.Saturation.{raise, raiseAll, saturation}
+use Rattle.spec.specs.computed.Carried.{leaves, steps, spread, reach, objects, properties, subjectClasses, objectClasses, conclusions, carried}
 use Rattle.spec.specs.Refusals.{firstNo}
-use Rattle.spec.specs.Tables.{capacity, firstRows, rows, all, areZero, isTable, isStore, Tables, tables}
+use Rattle.spec.specs.Tables.{capacity, firstRows, rows, areZero, isTable, isStore, Tables, tables}
+use Rattle.spec.specs.Lists.{all, any, select}
 use Rattle.spec.specs.declared.Answer.the-variants.{Applied, Idle, Refused}
 use Rattle.spec.specs.declared.Reply.the-variants.{Rows, Refused as NotGiven}
 use Rattle.spec.specs.Outputs.{areFitting, filled, Replied, replied, give}
-use Rattle.spec.specs.Questions.{atoms, head, isAtom, isLaidOut, isQuestion, standsInOne, isHeadBound, boundTo, isBound, bind, matchWord, matchTriple, solutions, answers, ask, askKept, askRewritten}
-use Rattle.spec.specs.Alternatives.{select, toClasses, toProperties, without, alternativesFrom, alternatives, reformulate}
+use Rattle.spec.specs.Questions.{atoms, head, isAtom, isLaidOut, isQuestion, standsInOne, isHeadBound, ask, askKept, askRewritten}
+use Rattle.spec.specs.computed.Solutions.{boundTo, isBound, bind, matchWord, matchTriple, solutions, answers}
+use Rattle.spec.specs.Alternatives.{reformulate}
+use Rattle.spec.specs.computed.Reformulated.{toClasses, toProperties, without, alternativesFrom, alternatives}
 use Rattle.spec.specs.Deliveries.{short, word, entriesFrom, sectionEnd, sectionStart, fieldEnd, fieldsFrom, fieldsEnd, numberFields, read, isWhole, areSectionsRight, isNumberRight, numberOf, tally, tallied, runEntry, runEntries, runMessage, delivered, conclude, deliver}
 use Rattle.spec.specs.Ledger.{Call, Ledger, ledger, entering, leaving, isMember, isBelow, isFitting, settle, enter, remit, receive, Given, answered, resulted, run, call, calls}
 use Rattle.spec.specs.Demand3.{ledgerRun}
@@ -24,7 +26,7 @@ use Rattle.spec.specs.Exported.{listed, numberedReply}
 
 -- The definitions that these need to compute, by one name.
 unfoldable pub compute : Unit {0}
-unfolding flatMap Dec·and ℕ-discrete decLt isUri isBlank isLiteral isVariable isVocabulary isTriple isStatement areSidesAllowed isAllowedStatement isAllowedFact firstNo compareNumbers compareTriples equalTriples choose byOrder isAbove isAscending insert remove ascend less insertOnce ordered flat isIn add addAll keep leaves pull afterPull explore spread reach objects properties subjectClasses objectClasses conclusions carried raise raiseAll saturation capacity firstRows rows all areZero isTable isStore areFitting filled give atoms head isAtom isLaidOut isQuestion standsInOne isHeadBound boundTo isBound bind matchWord matchTriple solutions answers ask askKept askRewritten select toClasses toProperties without alternativesFrom alternatives reformulate short word entriesFrom sectionEnd sectionStart fieldEnd fieldsFrom fieldsEnd numberFields read isWhole areSectionsRight isNumberRight numberOf tallied runEntry runEntries runMessage conclude deliver entering leaving isMember isBelow isFitting settle enter remit receive call calls
+unfolding flatMap isUri isBlank isLiteral isVariable isVocabulary isTriple isStatement areSidesAllowed isAllowedStatement isAllowedFact firstNo any isSame isAscending insert remove ascend less insertOnce ordered flat leaves steps spread reach objects properties subjectClasses objectClasses conclusions carried raise raiseAll saturation capacity firstRows rows all areZero isTable isStore areFitting filled give atoms head isAtom isLaidOut isQuestion standsInOne isHeadBound boundTo isBound bind matchWord matchTriple solutions answers ask askKept askRewritten select toClasses toProperties without alternativesFrom alternatives reformulate short word entriesFrom sectionEnd sectionStart fieldEnd fieldsFrom fieldsEnd numberFields read isWhole areSectionsRight isNumberRight numberOf tallied runEntry runEntries runMessage conclude deliver entering leaving isMember isBelow isFitting settle enter remit receive call calls
 compute = tt
 
 -- ---- a list of calls

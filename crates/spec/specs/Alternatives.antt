@@ -2,33 +2,18 @@
 -- document 000, section 4.3). Definitions only.
 use Prim.Native.Nat.{ℕ}
 use mathlib.Core.Path.{_≡_}
-use mathlib.Core.Bool.{Bool, true, false, _&&_, _||_, not, cond}
-use mathlib.Core.List.{List, [], _∷_, _++_, map, flatMap, List·Memᴰ}
-use lib.Dec.{eqb}
+use mathlib.Core.Bool.{Bool, true, false, _&&_}
+use mathlib.Core.List.{List, [], _∷_, map, List·Memᴰ}
 use Rattle.spec.specs.declared.Triple.{Triple}
-use Rattle.spec.specs.Terms.{type, subClassOf, subPropertyOf, domain, range, isLiteral, isVariable, triple}
-use Rattle.spec.specs.Order.{ascend}
+use Rattle.spec.specs.Terms.{type, subClassOf, subPropertyOf, domain, range, isLiteral, triple}
+use Rattle.spec.specs.Atoms.{admits, admitsClass, admitsProperty}
 use Rattle.spec.specs.Rules.{Reach}
-use Rattle.spec.specs.Saturation.{reach, spread, objects}
+use Rattle.spec.specs.computed.Reformulated.{alternatives}
 use Rattle.spec.specs.Refusals.{firstNo}
 use Rattle.spec.specs.Tables.{rows, isStatementTable}
 use Rattle.spec.specs.Rows.{words}
 use Rattle.spec.specs.Outputs.{areFitting, Replied, give}
 use Rattle.spec.specs.Questions.{isAtom}
-
--- Whether a word of an atom admits x: it is x or a variable.
-abbrev pub admits : ℕ → ℕ → Bool
-admits w x = isVariable w || eqb w x
-
--- "Kinds 1 to 3 need a property of 1 or a variable, and an object equal to target or variable."
-abbrev pub admitsClass : Triple → ℕ → Bool
-admitsClass a c = admits (a .property) type && admits (a .object) c
-
--- "Kind 4 a property equal to target or variable."
-abbrev pub admitsProperty : Triple → ℕ → Bool
-admitsProperty a q = admits (a .property) q
-
--- ---- as document 01 words it
 
 -- "An alternative of an atom is kind, source, target", under the statements S.
 pub data IsAlternative (S : List Triple) (a : Triple) : ℕ → ℕ → ℕ → Type 0 where
@@ -70,37 +55,7 @@ pub record Reformulated (S F : List Triple) (a t : Triple) : Type 0 where
 abbrev pub admitsTriple : Triple → Triple → Bool
 admitsTriple a t = admits (a .property) (t .property) && admits (a .object) (t .object)
 
--- ---- computed
-
--- Of some elements, those that pass a test.
-unfoldable pub select : {A : Type 0} → (A → Bool) → List A → List A
-select test [] = []
-select test (x ∷ xs) = cond (test x) (x ∷ select test xs) (select test xs)
-
--- The targets that lie over one of some classes, paired with a kind and a source, as an atom admits them.
-unfoldable pub toClasses : Triple → ℕ → ℕ → List ℕ → List Triple
-toClasses a kind source cs = map (triple kind source) (select (admitsClass a) cs)
-
--- The same for properties.
-unfoldable pub toProperties : Triple → ℕ → ℕ → List ℕ → List Triple
-toProperties a kind source qs = map (triple kind source) (select (admitsProperty a) qs)
-
--- All but x.
-unfoldable pub without : ℕ → List ℕ → List ℕ
-without x xs = select (λ y. not (eqb x y)) xs
-
--- The alternatives of kinds 1 to 4 with the source x.
-unfoldable pub alternativesFrom : List Triple → Triple → ℕ → List Triple
-alternativesFrom S a x =
-    let qs = reach S subPropertyOf x in
-    toClasses a 1 x (without x (reach S subClassOf x))
-    ++ (toClasses a 2 x (spread S subClassOf (objects S domain qs))
-    ++ (toClasses a 3 x (spread S subClassOf (objects S range qs))
-    ++ toProperties a 4 x (without x qs)))
-
--- "All that qualify are given, once, ascending." A source of kinds 1 to 4 is the subject of a statement.
-unfoldable pub alternatives : List Triple → Triple → List Triple
-alternatives S a = ascend (triple 0 0 0 ∷ flatMap (λ (t : Triple). alternativesFrom S a (t .subject)) S)
+-- ---- the reply
 
 -- The rows of the alternatives of an atom, three words each: kind, source, target.
 abbrev pub alternativeRows : List Triple → Triple → List (List ℕ)

@@ -6,7 +6,8 @@ use lib.ListN.{length, getD, take, drop}
 use lib.Dec.{eqb, leb}
 use Rattle.spec.specs.declared.Triple.{Triple}
 use Rattle.spec.specs.Terms.{triple, isStatement}
-use Rattle.spec.specs.Tables.{all, Tables, areFormed}
+use Rattle.spec.specs.Tables.{Tables, areFormed}
+use Rattle.spec.specs.Lists.{all}
 use Rattle.spec.specs.declared.Answer.{Answer}
 use Rattle.spec.specs.declared.Answer.the-variants.{Applied, Idle, Refused}
 use Rattle.spec.specs.declared.Tally.{Tally}

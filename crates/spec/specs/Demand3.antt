@@ -7,7 +7,7 @@ use mathlib.Core.Logic.{_↔_}
 use lib.ListN.{length, replicate}
 use lib.Dec.{leb}
 use Rattle.spec.specs.declared.Triple.{Triple}
-use Rattle.spec.specs.Order.{Ascending}
+use Rattle.spec.specs.Order.{isAscending}
 use Rattle.spec.specs.Refusals.{firstNo, tripleQuestions}
 use Rattle.spec.specs.Tables.{layout, supportLayout, Tables, tables}
 use Rattle.spec.specs.Rules.{Follows, FollowsAsFact, Carries}
@@ -16,7 +16,7 @@ use Rattle.spec.specs.Outputs.{Replied, replied, filled}
 use Rattle.spec.specs.Deliveries.{addition, withdrawal, deliver}
 use Rattle.spec.specs.Questions.{headCount, atoms, head, isQuestion, isHeadBound, IsAnswer, askKept, askRewritten}
 use Rattle.spec.specs.Ledger.{Call, capacities, Ledger, empty, entering, leaving, isFitting, Run, Entries, calls, ledgerEntries}
-use Rattle.spec.specs.Rows.{AscendingRows}
+use Rattle.spec.specs.Rows.{ordered}
 
 -- ---- the two runs
 
@@ -44,12 +44,12 @@ graphOf L = L .statements ++ L .facts
 
 -- K are the facts that follow from the graph G, ascending, each once.
 pub record FactsFrom (G K : List Triple) : Type 0 where
-  pub ascend : Ascending K
+  pub ascend : isAscending K ≡ true
   pub exactly : (t : Triple) → List·Memᴰ t K ↔ FollowsAsFact G t
 
 -- fs are the facts of F that carry t under the statements S, ascending, each once.
 pub record CarriersOf (S F : List Triple) (t : Triple) (fs : List Triple) : Type 0 where
-  pub ascend : Ascending fs
+  pub ascend : isAscending fs ≡ true
   pub exactly : (f : Triple) → List·Memᴰ f fs ↔ (List·Memᴰ f F × Carries S f t)
 
 -- "Each support the number of its facts that carry the row": of some rows, and of their supports.
@@ -65,9 +65,9 @@ pub record FitsBy (capacity : ℕ) (L : Ledger) (answer : Bool) : Type 0 where
 
 -- ---- questions
 
--- R are the rows of a question among the triples of a graph, distinct and ascending.
+-- R are the rows of a question among the triples of a graph, distinct and ascending: they are their own ordered set.
 pub record RowsOf (G : Triple → Type 0) (q : List ℕ) (R : List (List ℕ)) : Type 0 where
-  pub ascend : AscendingRows R
+  pub ascend : ordered R ≡ R
   pub exactly : (row : List ℕ) → List·Memᴰ row R ↔ IsAnswer G (atoms q) (head q) row
 
 -- What a question q gets among the triples of a graph, into an output of len words: "both refuse it by 6 or 7 alike; otherwise each gives all
@@ -87,8 +87,8 @@ pub record Demand3 (s f k u : ℕ) (L : Run Ledger) (T : Run Tables) : Type 0 wh
   -- "Every call has given the ledger's answer";
   pub answers : T .given ≡ L .given
   -- its sets are ascending lists, each triple once;
-  pub statements-ascend : Ascending (L .after .statements)
-  pub facts-ascend : Ascending (L .after .facts)
+  pub statements-ascend : isAscending (L .after .statements) ≡ true
+  pub facts-ascend : isAscending (L .after .facts) ≡ true
   -- "kept facts its facts with all that follow,
   pub kept : List Triple
   pub kept-follow : FactsFrom (graphOf (L .after)) kept

@@ -7,10 +7,10 @@ use lib.ListN.{length}
 use lib.Dec.{leb, ltb}
 use Rattle.spec.specs.declared.Triple.{Triple}
 use Rattle.spec.specs.Terms.{isStatement}
-use Rattle.spec.specs.Order.{equalTriples, choose, insert, remove}
+use Rattle.spec.specs.Order.{isIn, insert, remove}
 use Rattle.spec.specs.Refusals.{firstNo, tripleQuestions}
 use Rattle.spec.specs.Tables.{mostStatements, mostFacts, mostKept}
-use Rattle.spec.specs.Saturation.{isIn, saturation}
+use Rattle.spec.specs.Saturation.{saturation}
 use Rattle.spec.specs.declared.Answer.{Answer}
 use Rattle.spec.specs.declared.Answer.the-variants.{Applied, Idle, Refused}
 use Rattle.spec.specs.Deliveries.{read, messageQuestions, conclude}
@@ -69,7 +69,7 @@ leaving t L = cond (isStatement t) (ledger (remove t (L .statements)) (L .facts)
 
 -- Whether a triple is in its set.
 unfoldable pub isMember : Triple → Ledger → Bool
-isMember t L = choose (isIn equalTriples t (setOf t L)) true false
+isMember t L = isIn t (setOf t L)
 
 -- Whether the set of a triple is below capacity.
 unfoldable pub isBelow : Capacities → Triple → Ledger → Bool

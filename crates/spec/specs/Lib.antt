@@ -1,6 +1,7 @@
 pub mod Terms
-pub mod Order
+pub mod Lists
 pub mod Rows
+pub mod Order
 pub mod Rules
 pub mod Saturation
 pub mod Refusals
@@ -9,10 +10,12 @@ pub mod Updates
 pub mod Outputs
 pub mod Listings
 pub mod Questions
+pub mod Atoms
 pub mod Alternatives
 pub mod Deliveries
 pub mod Ledger
 pub mod Demand3
 pub mod Runs
 pub mod Exported
+pub mod computed
 pub mod inside

@@ -1,9 +1,10 @@
 -- Lent outputs of questions, alternatives and listings (document 01, "Questions and their rewriting"). Definitions only.
-use Prim.Native.Nat.{ℕ, zero, suc, _-_, _/_}
+use Prim.Native.Nat.{ℕ, zero, suc, _/_}
 use mathlib.Core.Bool.{Bool}
-use mathlib.Core.List.{List, _++_}
+use mathlib.Core.List.{List}
 use lib.ListN.{length, replicate}
 use lib.Dec.{leb}
+use Rattle.spec.specs.Lists.{padded}
 use Rattle.spec.specs.Rows.{flat}
 use Rattle.spec.specs.declared.Reply.{Reply}
 use Rattle.spec.specs.declared.Reply.the-variants.{Rows, Refused}
@@ -14,7 +15,7 @@ areFitting m len R = leb (length R) (len / m)
 
 -- "Lent outputs hold rows alone, with no count word"; "unused words are zero".
 unfoldable pub filled : ℕ → List (List ℕ) → List ℕ
-filled len R = flat R ++ replicate (len - length (flat R)) 0
+filled len R = padded len (flat R)
 
 -- A reply with the words of the output after it.
 pub record Replied : Type 0 where

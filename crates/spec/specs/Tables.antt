@@ -6,6 +6,7 @@ use lib.ListN.{length, getD, take, drop, replicate}
 use lib.Dec.{leb, eqb}
 use Rattle.spec.specs.declared.Triple.{Triple}
 use Rattle.spec.specs.Terms.{triple, isAllowedStatement, isAllowedFact}
+use Rattle.spec.specs.Lists.{all, padded}
 use Rattle.spec.specs.Order.{isAscending}
 use Rattle.spec.specs.Saturation.{Kept, keptRows, keptSupports}
 
@@ -57,13 +58,7 @@ layout len ts = length ts ∷ (flatten ts ++ replicate (len - (length ts * 3 + 1
 
 -- Whether all words are zero.
 unfoldable pub areZero : List ℕ → Bool
-areZero [] = true
-areZero (w ∷ ws) = eqb w 0 && areZero ws
-
--- Whether each element passes a test.
-unfoldable pub all : {A : Type 0} → (A → Bool) → List A → Bool
-all test [] = true
-all test (x ∷ xs) = test x && all test xs
+areZero ws = all (λ w. eqb w 0) ws
 
 -- Whether words are a table with at most most rows, each allowed in it. "A table of rows with no word" is none, nor is one with
 -- "a count above its capacity or a row that is no triple allowed in it".
@@ -94,7 +89,7 @@ isSupportTable facts n us = leb n (length us) && (all (isSupport facts) (take n 
 
 -- The supports of rows, in a table of len places.
 unfoldable pub supportLayout : ℕ → List ℕ → List ℕ
-supportLayout len us = us ++ replicate (len - length us) 0
+supportLayout len us = padded len us
 
 -- Question 1 for an update or a delivery: whether statements, facts, kept facts and supports are well formed together.
 unfoldable pub isStore : List ℕ → List ℕ → List ℕ → List ℕ → Bool

@@ -6,9 +6,10 @@ use lib.ListN.{length}
 use lib.Dec.{leb, ltb}
 use Rattle.spec.specs.declared.Triple.{Triple}
 use Rattle.spec.specs.Terms.{isStatement}
-use Rattle.spec.specs.Order.{equalTriples, choose, insert, remove}
+use Rattle.spec.specs.Order.{isIn, insert, remove}
 use Rattle.spec.specs.Refusals.{firstNo, tripleQuestions}
-use Rattle.spec.specs.Saturation.{isIn, carried, raiseAll, lowerAll, saturation}
+use Rattle.spec.specs.Saturation.{raiseAll, lowerAll, saturation}
+use Rattle.spec.specs.computed.Carried.{carried}
 use Rattle.spec.specs.declared.Answer.{Answer}
 use Rattle.spec.specs.declared.Answer.the-variants.{Applied, Idle, Refused}
 use Rattle.spec.specs.Tables.{Tables, areFormed, Contents, contents, contentsOf, put, statementCapacity, factCapacity, keptCapacity}
@@ -34,7 +35,7 @@ withoutTriple t c =
 
 -- Whether a triple is in its table, the statements or the facts.
 unfoldable pub isThere : Triple → Contents → Bool
-isThere t c = choose (isIn equalTriples t (cond (isStatement t) (c .statements) (c .facts))) true false
+isThere t c = isIn t (cond (isStatement t) (c .statements) (c .facts))
 
 -- Whether the table of a triple is below capacity.
 unfoldable pub isBelowCapacity : Triple → Tables → Bool

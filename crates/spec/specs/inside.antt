@@ -1,3 +1,4 @@
+pub mod Comparison
 pub mod Entailment
 pub mod Counts
 pub mod Laid

@@ -6,8 +6,9 @@ use mathlib.Core.List.{List}
 use lib.ListN.{length, take}
 use Rattle.spec.specs.declared.Triple.{Triple}
 use Rattle.spec.specs.Terms.{isAllowedStatement, isAllowedFact}
-use Rattle.spec.specs.Order.{Ascending}
-use Rattle.spec.specs.Tables.{mostStatements, mostFacts, mostKept, capacity, count, rows, layout, all, isSupport, supportLayout}
+use Rattle.spec.specs.inside.Comparison.{Ascending}
+use Rattle.spec.specs.Tables.{mostStatements, mostFacts, mostKept, capacity, count, rows, layout, isSupport, supportLayout}
+use Rattle.spec.specs.Lists.{all}
 
 -- Words that are the layout of their rows. The count and the room follow from the first.
 pub record Laid (ws : List ℕ) : Type 0 where
