@@ -10,7 +10,7 @@ use lib.Seq.{drop-cons, getD-take, length-take-le}
 use lib.Dec.{leb}
 use borrow.Author.Tests.{le-leb, leb-true}
 use Rattle.spec.proofs.Ascending.{and-left, and-right}
-use Rattle.spec.specs.Tables.{all}
+use Rattle.spec.specs.Lists.{all}
 use Rattle.delivery_entry.specs.inside.Running.{highest}
 
 -- Numbers none of which is above a bound are those whose highest is not.

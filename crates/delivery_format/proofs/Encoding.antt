@@ -10,7 +10,7 @@ use lib.Seq.{drop-drop, drop-at, take-at, getD-drop}
 use lib.Dec.{leb}
 use borrow.Author.Tests.{eq-eqb}
 use Rattle.spec.specs.declared.Triple.{Triple}
-use Rattle.spec.specs.Order.{triple-eq}
+use Rattle.spec.specs.inside.Comparison.{triple-eq}
 use Rattle.spec.specs.Deliveries.{short, word, entryAt, entriesFrom, sectionAt, sectionEnd, sectionStart, Field, fieldAt, fieldEnd, fieldsFrom, fieldsEnd, Message, read, mostBytes, isWhole}
 use Rattle.delivery_format.specs.Encoding.{shortBytes, wordBytes, entryBytes, entriesBytes, sectionBytes, fieldBytes, fieldsBytes, encode}
 

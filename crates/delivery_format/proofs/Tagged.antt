@@ -8,7 +8,7 @@ use lib.ListN.{length, getD, take, drop, length-take, length-drop}
 use lib.Seq.{getD-take, getD-drop}
 use lib.Dec.{eqb, eqb·suc-zero}
 use borrow.Author.Tests.{eqb-true, eq-eqb, ne-eqb}
-use Rattle.spec.specs.Tables.{all}
+use Rattle.spec.specs.Lists.{all}
 use Rattle.delivery_format.specs.declared.Fields.{Fields}
 use Rattle.spec.specs.Deliveries.{short, word, sectionAt, sectionStart, Field, fieldAt, fieldEnd, fieldsFrom, fieldsEnd, numberTag, numberFields, read, isWhole, areSectionsRight, isNumberRight, numberOf}
 use Rattle.delivery_format.specs.inside.Fields.{isRightIn, ExtraFields, FromNumber}

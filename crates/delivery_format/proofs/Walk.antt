@@ -8,7 +8,7 @@ use native.Mathlib.Omega.{arith}
 use lib.ListN.{length}
 use borrow.Author.Tests.{eq-eqb, ne-eqb}
 use Rattle.spec.specs.declared.Triple.{Triple}
-use Rattle.spec.specs.Tables.{all}
+use Rattle.spec.specs.Lists.{all}
 use Rattle.spec.specs.Deliveries.{short, entryAt, entriesFrom, sectionEnd, sectionStart, fieldAt, fieldEnd, fieldsFrom, fieldsEnd, numberTag, numberFields}
 
 -- ---- sections

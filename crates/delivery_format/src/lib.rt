@@ -7,7 +7,7 @@ ghost use mathlib.Core.Path.{_≡_};
 ghost use mathlib.Core.Bool.{true};
 ghost use Prim.Native.Nat.{_+_, _*_, _^_, _≤_, _<_};
 ghost use lib.ListN.{length, getD};
-ghost use Rattle.spec.specs.Tables.{all};
+ghost use Rattle.spec.specs.Lists.{all};
 ghost use Rattle.spec.specs.Deliveries.{short, word, entryAt, entriesFrom, sectionAt, sectionEnd, sectionStart, fieldEnd, fieldsEnd, numberFields, read, isWhole, areSectionsRight, isNumberRight, numberOf};
 ghost use Rattle.delivery_format.specs.inside.Fields.{isRightIn, ExtraFields, FromNumber};
 

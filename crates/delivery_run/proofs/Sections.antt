@@ -7,7 +7,8 @@ use native.Mathlib.Omega.{arith}
 use Rattle.spec.specs.declared.Triple.{Triple}
 use Rattle.spec.specs.Terms.{isStatement}
 use Rattle.spec.proofs.Ascending.{and-left, and-right}
-use Rattle.spec.specs.Tables.{all, Tables, areFormed}
+use Rattle.spec.specs.Tables.{Tables, areFormed}
+use Rattle.spec.specs.Lists.{all}
 use Rattle.spec.specs.Deliveries.{read, isWhole, isFact, areSectionsRight, tally, addition, withdrawal, Progress, progress, runEntries, runMessage}
 use Rattle.spec.specs.declared.Tally.{Tally}
 use Rattle.delivery_entry.specs.inside.Running.{updateOf, keepsFormed}

@@ -7,7 +7,8 @@ use native.Mathlib.Omega.{arith}
 use lib.ListN.{length}
 use Rattle.spec.specs.declared.Triple.{Triple}
 use Rattle.spec.proofs.Ascending.{and-left, and-right}
-use Rattle.spec.specs.Tables.{all, Tables, areFormed}
+use Rattle.spec.specs.Tables.{Tables, areFormed}
+use Rattle.spec.specs.Lists.{all}
 use Rattle.spec.specs.declared.Answer.{Answer}
 use Rattle.spec.specs.declared.Answer.the-variants.{Refused}
 use Rattle.spec.specs.Deliveries.{short, entryAt, entriesFrom, sectionStart, tally, tallied, total, Update, addition, Progress, progress, runEntry, runEntries}

@@ -7,9 +7,12 @@ use Rattle.spec.specs.declared.Triple.{Triple}
 use Rattle.spec.specs.Terms.{variable, triple}
 use Rattle.spec.specs.Refusals.{firstNo, tripleQuestions}
 use Rattle.spec.specs.Order.{remove}
-use Rattle.spec.specs.Saturation.{carried, Kept, support, lookup, lowerAll, saturation}
-use Rattle.spec.specs.Questions.{answers, rewrittenGraph}
-use Rattle.spec.specs.Alternatives.{alternatives}
+use Rattle.spec.specs.Saturation.{Kept, lowerAll, saturation}
+use Rattle.spec.specs.computed.Carried.{carried, support}
+use Rattle.spec.specs.inside.Counts.{lookup}
+use Rattle.spec.specs.Questions.{rewrittenGraph}
+use Rattle.spec.specs.computed.Solutions.{answers}
+use Rattle.spec.specs.computed.Reformulated.{alternatives}
 
 -- What an example says.
 pub data Example : Type 0 where

@@ -8,7 +8,8 @@ use lib.ListN.{length}
 use borrow.Author.Tests.{le-leb}
 use Rattle.spec.specs.declared.Triple.{Triple}
 use Rattle.spec.specs.Terms.{isStatement}
-use Rattle.spec.specs.Order.{Ascending, insert}
+use Rattle.spec.specs.Order.{insert}
+use Rattle.spec.specs.inside.Comparison.{Ascending}
 use Rattle.spec.specs.Refusals.{firstNo, tripleQuestions}
 use Rattle.spec.proofs.Lists.{by-test}
 use Rattle.spec.proofs.Ascending.{insert-asc, insert-old, insert-cases, ascending-ext}

@@ -11,11 +11,11 @@ use lib.ListN.{length, getD, length-map}
 use borrow.Author.Tests.{eqb-true}
 use Rattle.spec.specs.declared.Triple.{Triple}
 use Rattle.spec.specs.Terms.{triple}
-use Rattle.spec.specs.Order.{Ascending, triple-eq}
+use Rattle.spec.specs.inside.Comparison.{Ascending, triple-eq}
 use Rattle.spec.proofs.Lists.{true-not-false, or-cases}
 use Rattle.spec.proofs.Order.{less-ne}
 use Rattle.spec.proofs.Ascending.{and-left, and-right, above-asc, above-member}
-use Rattle.spec.specs.Tables.{all}
+use Rattle.spec.specs.Lists.{all}
 use Rattle.spec.specs.Tables as table
 use Rattle.spec.proofs.TableAll.{all-getD}
 use Rattle.spec.proofs.TableRows.{getD-rows}

@@ -27,7 +27,8 @@ use Rattle.rows_distinct.specs.declared.Collected.{Collected}
 use Rattle.rows_distinct.specs.inside.Collected.{Collects, gathered}
 use Rattle.rows_distinct.specs.inside.Effects.{Within}
 use Rattle.spec.specs.Questions.{isAtom}
-use Rattle.spec.specs.Alternatives.{alternativesFrom, alternatives, reformulate}
+use Rattle.spec.specs.Alternatives.{reformulate}
+use Rattle.spec.specs.computed.Reformulated.{alternativesFrom, alternatives}
 use Rattle.query_alternatives.specs.inside.Putting.{Puts, alternativesBelow, giveAlternatives}
 use Rattle.query_alternatives.proofs.PutLaws.{puts-then, puts-start, puts-more, puts-again}
 

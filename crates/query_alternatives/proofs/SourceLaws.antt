@@ -9,15 +9,19 @@ use lib.Dec.{eqb}
 use borrow.Author.Tests.{eq-eqb, ne-eqb, eqb-false, not-true}
 use Rattle.spec.specs.declared.Triple.{Triple}
 use Rattle.spec.specs.Terms.{type, subClassOf, range, isLiteral, isVocabulary, triple}
-use Rattle.spec.specs.Order.{triple-eq}
+use Rattle.spec.specs.inside.Comparison.{triple-eq}
 use Rattle.spec.proofs.Lists.{flatMap-in, flatMap-out}
 use Rattle.spec.proofs.Ascending.{and-left, and-right}
 use Rattle.spec.specs.Rules.{Reach, stay, step}
 use Rattle.spec.specs.inside.Entailment.{NoVocabulary}
-use Rattle.spec.specs.Saturation.{properties, carried}
+use Rattle.spec.specs.computed.Carried.{properties, carried}
 use Rattle.spec.proofs.Entailment.{not-vocabulary}
-use Rattle.spec.proofs.Carried.{objects-iff, properties-iff, SubjectStart, from-type, from-domain, start-iff, Part, as-property, as-subject, as-object, carried-part}
-use Rattle.spec.specs.Alternatives.{admitsClass, admitsProperty, IsAlternative, as-it-is, by-subclass, by-domain, by-range, by-subproperty, admits, select, alternativesFrom}
+use Rattle.spec.proofs.Reach.{objects-iff}
+use Rattle.spec.proofs.Carried.{properties-iff, SubjectStart, from-type, from-domain, start-iff, Part, as-property, as-subject, as-object, carried-part}
+use Rattle.spec.specs.Alternatives.{IsAlternative, as-it-is, by-subclass, by-domain, by-range, by-subproperty}
+use Rattle.spec.specs.Atoms.{admitsClass, admitsProperty, admits}
+use Rattle.spec.specs.Lists.{select}
+use Rattle.spec.specs.computed.Reformulated.{alternativesFrom}
 use Rattle.spec.proofs.Alternatives.{select-in, select-out, from-sound, from-complete}
 use Rattle.query_alternatives.specs.inside.Putting.{propertyFact, classFact, alternativeBy, admitsTarget, areEnds, qualifies, given}
 

@@ -17,10 +17,10 @@ ghost use Prim.Native.Nat.{ℕ, _+_, _-_, _*_, _≤_, _<_};
 ghost use lib.ListN.{length};
 ghost use Rattle.spec.specs.Terms.{isVocabulary};
 ghost use Rattle.spec.specs.Tables.{count, rowAt, firstRows, rows, isStatementTable};
-ghost use Rattle.spec.specs.Saturation.{carried};
+ghost use Rattle.spec.specs.computed.Carried.{carried};
 ghost use Rattle.rows_distinct.specs.declared.Collected.{Collected};
 ghost use Rattle.rows_distinct.specs.inside.Effects.{Within};
-ghost use Rattle.spec.specs.Alternatives.{alternativesFrom};
+ghost use Rattle.spec.specs.computed.Reformulated.{alternativesFrom};
 ghost use Rattle.query_alternatives.specs.inside.Putting.{Puts, given, alternativesBelow};
 
 // Puts an alternative.

@@ -10,15 +10,16 @@ use lib.ListN.{length, getD, drop, set}
 use lib.Seq.{getD-set-same, getD-set-other}
 use Rattle.spec.specs.declared.Triple.{Triple}
 use Rattle.spec.specs.Terms.{type, subClassOf, subPropertyOf, domain, range, isLiteral}
-use Rattle.spec.specs.Order.{choose}
+use Rattle.spec.specs.inside.Comparison.{choose}
 use Rattle.spec.proofs.Order.{choose-yes, choose-no}
 use Rattle.spec.specs.Tables.{firstRows}
 use Rattle.spec.specs.Rules.{Reach}
 use Rattle.spec.specs.inside.Entailment.{ReachFrom}
-use Rattle.spec.specs.Saturation.{objects, properties, subjectClasses, objectClasses}
+use Rattle.spec.specs.computed.Carried.{objects, properties, subjectClasses, objectClasses}
 use Rattle.rdfs_reach.specs.inside.Marks.{Within, ObjectOf, ReachedFrom, Grown}
 use Rattle.rdfs_derive.specs.inside.Conclusions.{Listed}
-use Rattle.spec.proofs.Carried.{objects-iff, properties-iff, subjectStarts, subject-iff, object-iff}
+use Rattle.spec.proofs.Reach.{objects-iff}
+use Rattle.spec.proofs.Carried.{properties-iff, subjectStarts, subject-iff, object-iff}
 use Rattle.rdfs_reach.proofs.WorkLaws.{within-kept, within-wider}
 
 -- One equivalence after the other.

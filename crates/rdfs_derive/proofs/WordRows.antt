@@ -8,7 +8,8 @@ use lib.ListN.{length, getD, drop, take, length-map, length-take, take-append-dr
 use lib.Seq.{drop-drop}
 use borrow.Author.Tests.{lt-ltb, le-ltb}
 use Rattle.spec.specs.declared.Triple.{Triple}
-use Rattle.spec.specs.Order.{Less, by-subject, by-property, by-object, compareTriples, insert, ascend}
+use Rattle.spec.specs.Order.{insert, ascend}
+use Rattle.spec.specs.inside.Comparison.{Less, by-subject, by-property, by-object, compareTriples}
 use Rattle.spec.proofs.Order.{byOrder-elim}
 use Rattle.spec.specs.Tables.{tripleFrom, firstRows, flatten}
 use Rattle.spec.proofs.TableRows.{tripleFrom-drop, length-flatten, firstRows-flatten}

@@ -12,9 +12,9 @@ ghost use Prim.Native.Nat.{ℕ, _+_, _*_, _<_, _≤_};
 ghost use native.Mathlib.Decide.{ℕ-discrete};
 ghost use lib.ListN.{length, getD, drop, take, replicate};
 ghost use Rattle.spec.specs.Terms.{type, subClassOf, subPropertyOf, domain, range};
-ghost use Rattle.spec.specs.Order.{choose};
+ghost use Rattle.spec.specs.inside.Comparison.{choose};
 ghost use Rattle.spec.specs.Tables.{tripleFrom, rowAt, firstRows, rows, flatten, isStatementTable};
-ghost use Rattle.spec.specs.Saturation.{properties, subjectClasses, objectClasses, carried};
+ghost use Rattle.spec.specs.computed.Carried.{properties, subjectClasses, objectClasses, carried};
 ghost use Rattle.rdfs_reach.specs.inside.Marks.{Statements, Within, unused, Uniform, Unused, Room};
 ghost use Rattle.rdfs_derive.specs.inside.Conclusions.{Listed, Concluded, conclusionAt};
 

@@ -8,7 +8,7 @@ use native.Mathlib.Omega.{arith}
 use lib.ListN.{length, drop}
 use Rattle.spec.specs.declared.Triple.{Triple}
 use Rattle.spec.specs.Terms.{triple}
-use Rattle.spec.specs.Order.{Less, by-subject, by-property, by-object}
+use Rattle.spec.specs.inside.Comparison.{Less, by-subject, by-property, by-object}
 use Rattle.spec.proofs.Order.{of-subject, of-property}
 use Rattle.spec.proofs.Ascending.{isAscending-iff}
 use Rattle.table.specs.declared.Found.the-variants.{At, Gap}

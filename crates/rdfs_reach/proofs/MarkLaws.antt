@@ -12,7 +12,7 @@ use lib.Dec.{eqb}
 use borrow.Author.Tests.{eq-eqb, eqb-true}
 use Rattle.spec.specs.declared.Triple.{Triple}
 use Rattle.spec.specs.Terms.{triple}
-use Rattle.spec.specs.Order.{Less, by-subject, by-property, by-object, triple-eq}
+use Rattle.spec.specs.inside.Comparison.{Less, by-subject, by-property, by-object, triple-eq}
 use Rattle.spec.proofs.Ascending.{isAscending-iff, and-left, and-right}
 use Rattle.spec.specs.Tables.{rowAt, firstRows, rows, count, isStatementTable}
 use Rattle.spec.proofs.TableRows.{length-firstRows, getD-rowAt, length-rows}

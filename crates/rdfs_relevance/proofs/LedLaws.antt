@@ -15,7 +15,7 @@ use Rattle.spec.specs.Terms.{type, isLiteral, triple}
 use Rattle.spec.proofs.Lists.{true-not-false}
 use Rattle.spec.proofs.Order.{choose-no}
 use Rattle.spec.specs.Tables.{count, firstRows, rows}
-use Rattle.spec.specs.Saturation.{properties, subjectClasses, objectClasses}
+use Rattle.spec.specs.computed.Carried.{properties, subjectClasses, objectClasses}
 use Rattle.rdfs_reach.specs.inside.Marks.{Tells, Within}
 use Rattle.rdfs_derive.specs.inside.Conclusions.{Concluded}
 use Rattle.rdfs_relevance.specs.inside.Targets.{example, some, ledTo, Led}

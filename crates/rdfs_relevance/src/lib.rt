@@ -10,7 +10,7 @@ ghost use lib.ListN.{length, getD, replicate};
 ghost use lib.Dec.{eqb};
 ghost use Rattle.spec.specs.declared.Triple.{Triple};
 ghost use Rattle.spec.specs.Tables.{rows, isStatementTable};
-ghost use Rattle.spec.specs.Saturation.{properties, subjectClasses, objectClasses};
+ghost use Rattle.spec.specs.computed.Carried.{properties, subjectClasses, objectClasses};
 ghost use Rattle.rdfs_reach.specs.inside.Marks.{Tells, Within};
 ghost use Rattle.rdfs_relevance.specs.inside.Targets.{example, Led, Remembers};
 

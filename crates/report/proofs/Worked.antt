@@ -6,9 +6,12 @@ use native.Mathlib.Decide.{ℕ-discrete, decLt}
 use Prim.Native.Nat.{ℕ}
 use Rattle.spec.specs.Terms.{isUri, isBlank, isLiteral, isVocabulary, isTriple, isStatement, areSidesAllowed, isAllowedStatement, isAllowedFact}
 use Rattle.spec.specs.Refusals.{firstNo}
-use Rattle.spec.specs.Order.{compareNumbers, compareTriples, equalTriples, choose, byOrder, isAbove, isAscending, insert, remove, ascend}
-use Rattle.spec.specs.Tables.{capacity, firstRows, rows, flatten, layout, areZero, all, isTable, isSupportTable, supportLayout, isStore, contentsOf, keptOf, put}
-use Rattle.spec.specs.Saturation.{isIn, add, addAll, keep, leaves, pull, afterPull, explore, spread, reach, objects, properties, subjectClasses, objectClasses, conclusions, carried, raise, raiseAll, saturation}
+use Rattle.spec.specs.Order.{isAscending, insert, remove, ascend, isIn}
+use Rattle.spec.specs.inside.Comparison.{compareNumbers, compareTriples, equalTriples, choose, byOrder}
+use Rattle.spec.specs.Tables.{capacity, firstRows, rows, flatten, layout, areZero, isTable, isSupportTable, supportLayout, isStore, contentsOf, keptOf, put}
+use Rattle.spec.specs.Lists.{all}
+use Rattle.spec.specs.Saturation.{raise, raiseAll, saturation}
+use Rattle.spec.specs.computed.Carried.{leaves, spread, reach, objects, properties, subjectClasses, objectClasses, conclusions, carried}
 use Rattle.spec.specs.Updates.{withTriple, isThere, isBelowCapacity, isKeptFitting, decide, add as addition}
 use Rattle.spec.specs.Deliveries.{short, word, entriesFrom, sectionEnd, sectionStart, fieldEnd, fieldsFrom, fieldsEnd, numberFields, read, isWhole, areSectionsRight, isNumberRight, numberOf, tallied, runEntry, runEntries, runMessage, conclude, deliver}
 use Rattle.report.specs.Text.{digits, decimal, resultLine, rowsLine, rowLine, rowLines, reportText, refusalText, outcomeText, response}

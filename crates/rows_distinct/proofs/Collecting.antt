@@ -8,7 +8,8 @@ use native.Mathlib.Nat.{zero-mul, add-zero, suc-mul, mul-le-mul-right, le-div-if
 use native.Mathlib.Omega.{arith}
 use lib.ListN.{length, getD, replicate}
 use borrow.Author.Tests.{lt-leb}
-use Rattle.spec.specs.Rows.{less, insertOnce, ordered, AscendingRows as Ascending}
+use Rattle.spec.specs.Rows.{less, insertOnce, ordered}
+use Rattle.spec.specs.inside.Sorting.{AscendingRows as Ascending}
 use Rattle.rows.specs.inside.Rows.{rowAt, rows, tabulate}
 use Rattle.rows.specs.inside.Effects.{HoldsRows}
 use Rattle.rows_sort.specs.inside.Effects.{Sorted}

@@ -8,7 +8,8 @@ use native.Mathlib.Nat.{le-div-iff-mul-le}
 use native.Mathlib.Omega.{arith}
 use lib.ListN.{length, replicate, length-replicate}
 use borrow.Author.Tests.{le-leb, lt-leb, leb-false}
-use Rattle.spec.specs.Rows.{less, ordered, RowsAbove as Above, AscendingRows as Ascending}
+use Rattle.spec.specs.Rows.{less, ordered}
+use Rattle.spec.specs.inside.Sorting.{RowsAbove as Above, AscendingRows as Ascending}
 use Rattle.rows.specs.inside.Rows.{rowAt, rows}
 use Rattle.spec.proofs.RowOrder.{never, less-irrefl, less-trans}
 use Rattle.spec.proofs.OrderedRows.{ordered-iff, ordered-ascends, ascending-ext, above-member}

@@ -7,7 +7,8 @@ use mathlib.Core.List.{List, List·Memᴰ, List·Memᴰ·head, List·Memᴰ·tai
 use native.Mathlib.Omega.{arith}
 use lib.ListN.{getD}
 use borrow.Author.Tests.{not-true, not-false}
-use Rattle.spec.specs.Rows.{less, AscendingRows as Ascending}
+use Rattle.spec.specs.Rows.{less}
+use Rattle.spec.specs.inside.Sorting.{AscendingRows as Ascending}
 use Rattle.rows.specs.inside.Rows.{row, rowAt, tabulate, rows}
 use Rattle.spec.proofs.RowOrder.{never, less-irrefl, less-tri, less-trans}
 use Rattle.spec.proofs.OrderedRows.{above-member}

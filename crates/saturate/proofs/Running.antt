@@ -11,10 +11,10 @@ use lib.Dec.{eqb}
 use borrow.Author.Tests.{lt-ltb, le-ltb, eq-eqb, ne-eqb}
 use Rattle.spec.specs.declared.Triple.{Triple}
 use Rattle.spec.specs.Terms.{isLiteral, triple}
-use Rattle.spec.specs.Order.{Less, by-subject, by-property, by-object, triple-eq}
+use Rattle.spec.specs.inside.Comparison.{Less, by-subject, by-property, by-object, triple-eq}
 use Rattle.spec.proofs.Lists.{true-not-false}
-use Rattle.spec.specs.Saturation.{Kept, lookup}
-use Rattle.spec.specs.inside.Counts.{Counts}
+use Rattle.spec.specs.Saturation.{Kept}
+use Rattle.spec.specs.inside.Counts.{Counts, lookup}
 use Rattle.saturate_schema.specs.inside.Compiled.{subjectAt, objectAt}
 use Rattle.saturate_schema.proofs.Sums.{sumAt-is, sum-zero, sum-term}
 use Rattle.saturate_schema.proofs.Tables.{row-subject}

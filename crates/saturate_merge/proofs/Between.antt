@@ -4,10 +4,10 @@ use mathlib.Core.List.{[], _∷_, _++_}
 use mathlib.Core.Logic.{by-cases}
 use Prim.Native.Nat.{ℕ, _+_, _<_}
 use Rattle.spec.specs.declared.Triple.{Triple}
-use Rattle.spec.specs.Order.{Less, less-irrefl, less, same, more, compareTriples, equalTriples}
+use Rattle.spec.specs.inside.Comparison.{Less, less-irrefl, less, same, more, compareTriples, equalTriples}
 use Rattle.spec.proofs.Order.{less-ne, less-trans, choose-yes, choose-elim}
-use Rattle.spec.specs.Saturation.{Kept, lookup}
-use Rattle.spec.specs.inside.Counts.{KeptAbove, Counts}
+use Rattle.spec.specs.Saturation.{Kept}
+use Rattle.spec.specs.inside.Counts.{KeptAbove, Counts, lookup}
 use Rattle.spec.proofs.Kept.{lookup-nil, lookup-same, lookup-other, kept-ext}
 use Rattle.saturate_merge.specs.inside.Between.{lessThan, Within, within, between}
 

@@ -7,9 +7,9 @@ use native.Mathlib.Omega.{arith}
 use native.Mathlib.Decide.{decLt, ℕ-discrete}
 use Rattle.spec.specs.declared.Triple.{Triple}
 use Rattle.spec.specs.Terms.{triple}
-use Rattle.spec.specs.Order.{Less, by-subject, by-property, by-object, triple-eq}
-use Rattle.spec.specs.Saturation.{Kept, lookup}
-use Rattle.spec.specs.inside.Counts.{Counts}
+use Rattle.spec.specs.inside.Comparison.{Less, by-subject, by-property, by-object, triple-eq}
+use Rattle.spec.specs.Saturation.{Kept}
+use Rattle.spec.specs.inside.Counts.{Counts, lookup}
 use Rattle.saturate_merge.specs.inside.Output.{Output, putOne, putAll}
 use Rattle.saturate_merge.specs.inside.Between.{between}
 use Rattle.saturate_merge.proofs.Output.{put-last}

@@ -8,10 +8,10 @@ use native.Mathlib.Decide.{decLt}
 use lib.ListN.{length, set, drop, length-append}
 use borrow.Author.Tests.{lt-ltb, le-ltb}
 use Rattle.spec.specs.declared.Triple.{Triple}
-use Rattle.spec.specs.Order.{Less, less, same, more, compareTriples, equalTriples}
+use Rattle.spec.specs.inside.Comparison.{Less, less, same, more, compareTriples, equalTriples}
 use Rattle.spec.proofs.Order.{less-trans, choose-elim}
-use Rattle.spec.specs.Saturation.{Kept, lookup, keptRows, keptSupports}
-use Rattle.spec.specs.inside.Counts.{KeptAbove, Counts}
+use Rattle.spec.specs.Saturation.{Kept, keptRows, keptSupports}
+use Rattle.spec.specs.inside.Counts.{KeptAbove, Counts, lookup}
 use Rattle.spec.proofs.Kept.{lookup-nil, lookup-same, lookup-other, kept-ext}
 use Rattle.spec.specs.Tables.{flatten}
 use Rattle.saturate_merge.specs.inside.Output.{Output, output, oneMore, putOne, putAll, setRow}

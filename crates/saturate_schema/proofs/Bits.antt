@@ -8,10 +8,11 @@ use native.Mathlib.Omega.{arith}
 use native.Mathlib.Decide.{ℕ-discrete}
 use Rattle.spec.specs.declared.Triple.{Triple}
 use Rattle.spec.specs.Terms.{isLiteral, triple}
-use Rattle.spec.specs.Order.{triple-eq, equalTriples}
+use Rattle.spec.specs.inside.Comparison.{triple-eq, equalTriples}
 use Rattle.spec.proofs.Order.{of-property, of-object, choose-elim}
 use Rattle.spec.specs.inside.Entailment.{explicit, HoldsBy, NoVocabulary}
-use Rattle.spec.specs.Saturation.{isIn, carried}
+use Rattle.spec.specs.Order.{isIn}
+use Rattle.spec.specs.computed.Carried.{carried}
 use Rattle.spec.proofs.Carried.{carried-iff}
 use Rattle.spec.proofs.Kept.{one, one-yes, one-no}
 use Rattle.spec.proofs.Saturation.{among}

@@ -11,14 +11,15 @@ use lib.Dec.{eqb}
 use borrow.Author.Tests.{eqb-true, eqb-false, eq-eqb, ne-eqb, lt-ltb, le-ltb}
 use Rattle.spec.specs.declared.Triple.{Triple}
 use Rattle.spec.specs.Terms.{isLiteral, triple, isAllowedStatement, isAllowedFact}
-use Rattle.spec.specs.Order.{triple-eq, equalTriples}
+use Rattle.spec.specs.inside.Comparison.{triple-eq, equalTriples}
 use Rattle.spec.proofs.Order.{of-subject, of-property, of-object, choose-no}
 use Rattle.spec.proofs.Lists.{cond-elim}
 use Rattle.spec.specs.Tables.{count, tripleFrom, rowAt, firstRows, rows, mostStatements, mostFacts}
 use Rattle.spec.specs.inside.Laid.{WellFormed}
 use Rattle.spec.proofs.TableRows.{tripleFrom-drop}
 use Rattle.spec.specs.inside.Entailment.{HoldsBy}
-use Rattle.spec.specs.Saturation.{isIn, carried, support}
+use Rattle.spec.specs.Order.{isIn}
+use Rattle.spec.specs.computed.Carried.{carried, support}
 use Rattle.spec.proofs.Entailment.{not-vocabulary}
 use Rattle.spec.proofs.Carried.{carried-part, Part, as-property, as-subject, as-object}
 use Rattle.spec.proofs.Kept.{one, one-yes, one-no}

@@ -8,7 +8,7 @@ use native.Mathlib.Omega.{arith}
 use native.Mathlib.Decide.{ℕ-discrete}
 use Rattle.spec.specs.declared.Triple.{Triple}
 use Rattle.spec.specs.Terms.{isLiteral, triple}
-use Rattle.spec.specs.Order.{triple-eq, choose}
+use Rattle.spec.specs.inside.Comparison.{triple-eq, choose}
 use Rattle.spec.proofs.Order.{of-subject, of-property, of-object, choose-yes, choose-no}
 use Rattle.spec.specs.inside.Entailment.{explicit, rdfs2, rdfs3, rdfs7, rdfs9, HoldsBy, NoVocabulary}
 use Rattle.spec.proofs.Entailment.{not-vocabulary}

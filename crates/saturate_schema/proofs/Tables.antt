@@ -11,7 +11,7 @@ use lib.Dec.{leb}
 use borrow.Author.Tests.{eqb-true, leb-true, eq-eqb, ne-eqb}
 use Rattle.spec.specs.declared.Triple.{Triple}
 use Rattle.spec.specs.Terms.{isUri, isBlank, isLiteral, triple, isResource, isTriple, isStatement, isAllowedStatement, isAllowedFact}
-use Rattle.spec.specs.Order.{triple-eq, Less, by-subject, by-property, by-object}
+use Rattle.spec.specs.inside.Comparison.{triple-eq, Less, by-subject, by-property, by-object}
 use Rattle.spec.proofs.Order.{of-subject, of-property, of-object}
 use Rattle.spec.proofs.Lists.{or-cases, true-not-false}
 use Rattle.spec.proofs.Ascending.{and-left, and-right}

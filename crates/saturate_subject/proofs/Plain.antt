@@ -8,11 +8,11 @@ use native.Mathlib.Decide.{decLt, ℕ-discrete}
 use borrow.Author.Tests.{eq-eqb, ne-eqb}
 use Rattle.spec.specs.declared.Triple.{Triple}
 use Rattle.spec.specs.Terms.{triple}
-use Rattle.spec.specs.Order.{Less, by-subject, by-property, by-object, triple-eq, equalTriples}
+use Rattle.spec.specs.inside.Comparison.{Less, by-subject, by-property, by-object, triple-eq, equalTriples}
 use Rattle.spec.proofs.Order.{less-ne, of-property, of-object}
 use Rattle.spec.specs.Tables.{rowAt}
-use Rattle.spec.specs.Saturation.{Kept, lookup}
-use Rattle.spec.specs.inside.Counts.{KeptAbove, Counts}
+use Rattle.spec.specs.Saturation.{Kept}
+use Rattle.spec.specs.inside.Counts.{KeptAbove, Counts, lookup}
 use Rattle.spec.proofs.Kept.{lookup-nil, lookup-same, lookup-other, kept-ext}
 use Rattle.saturate_schema.specs.inside.Compiled.{subjectAt, propertyAt, objectAt}
 use Rattle.saturate_schema.proofs.Tables.{row-subject, row-property, row-object}

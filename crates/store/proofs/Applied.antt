@@ -8,11 +8,13 @@ use native.Mathlib.Omega.{arith}
 use lib.ListN.{length}
 use Rattle.spec.specs.declared.Triple.{Triple}
 use Rattle.spec.specs.Terms.{isStatement, isAllowedStatement, isAllowedFact}
-use Rattle.spec.specs.Order.{equalTriples, Ascending, insert, remove}
+use Rattle.spec.specs.Order.{insert, remove, isIn}
+use Rattle.spec.specs.inside.Comparison.{equalTriples, Ascending}
 use Rattle.spec.proofs.Order.{choose-elim}
 use Rattle.spec.proofs.Ascending.{insert-asc, insert-cases, insert-length, remove-asc, remove-sub, remove-length}
-use Rattle.spec.specs.Saturation.{isIn, carried, Kept, lookup, raiseAll, lowerAll, saturation, keptRows, keptSupports}
-use Rattle.spec.specs.inside.Counts.{Counts}
+use Rattle.spec.specs.Saturation.{Kept, raiseAll, lowerAll, saturation, keptRows, keptSupports}
+use Rattle.spec.specs.computed.Carried.{carried}
+use Rattle.spec.specs.inside.Counts.{Counts, lookup}
 use Rattle.spec.proofs.Entailment.{allowed-no-vocabulary, holds-allowed}
 use Rattle.spec.proofs.Carried.{carried-ascends, carried-iff}
 use Rattle.spec.proofs.Kept.{counts-of, support-of, kept-positive, kept-ascends, lookup-kept}

@@ -7,7 +7,7 @@ use native.Mathlib.Omega.{arith}
 use lib.ListN.{length, take, replicate, length-map}
 use Rattle.spec.specs.declared.Triple.{Triple}
 use Rattle.spec.specs.Terms.{isAllowedStatement, isAllowedFact}
-use Rattle.spec.specs.Order.{Ascending}
+use Rattle.spec.specs.inside.Comparison.{Ascending}
 use Rattle.spec.specs.Tables.{mostStatements, mostFacts, mostKept, count, rows, supportLayout, isSupport, isStore, Tables, tables, areFormed, Contents, contents, keptOf, contentsOf, put, statementCapacity, factCapacity, keptCapacity}
 use Rattle.spec.specs.inside.Laid.{FormedStore}
 use Rattle.spec.proofs.TableRows.{length-rows, rows-layout, length-layout, count-layout}

@@ -9,14 +9,15 @@ use lib.ListN.{length, replicate}
 use borrow.Author.Tests.{not-true, ltb-true, leb-true}
 use Rattle.spec.specs.declared.Triple.{Triple}
 use Rattle.spec.specs.Terms.{isTriple, isStatement, areSidesAllowed, isAllowedStatement, isAllowedFact}
-use Rattle.spec.specs.Order.{equalTriples}
+use Rattle.spec.specs.inside.Comparison.{equalTriples}
 use Rattle.spec.specs.Refusals.{firstNo, tripleQuestions}
 use Rattle.spec.proofs.Order.{choose-elim}
 use Rattle.spec.proofs.Lists.{true-not-false, by-test, or-cases}
 use Rattle.spec.specs.Tables.{rows, Tables, tables, areFormed, Contents, contents, contentsOf, keptOf, put, statementCapacity, factCapacity, keptCapacity}
 use Rattle.spec.proofs.TableRows.{rows-layout}
 use Rattle.table.proofs.Store.{layout-empty, empty-isStore}
-use Rattle.spec.specs.Saturation.{isIn, saturation}
+use Rattle.spec.specs.Saturation.{saturation}
+use Rattle.spec.specs.Order.{isIn}
 use Rattle.spec.proofs.Saturation.{raise-saturation, lower-saturation}
 use Rattle.spec.specs.declared.Answer.the-variants.{Applied, Idle, Refused}
 use Rattle.spec.specs.Updates.{withTriple, withoutTriple, isThere, isBelowCapacity, isKeptFitting, additionQuestions, withdrawalQuestions, Outcome, outcome, decide, add, withdraw}

@@ -8,9 +8,12 @@ use native.Mathlib.Decide.{ℕ-discrete, decLt}
 use Rattle.spec.specs.declared.Triple.{Triple}
 use Rattle.spec.specs.Terms.{isUri, isBlank, isLiteral, isVocabulary, triple, isTriple, isStatement, areSidesAllowed, isAllowedStatement, isAllowedFact}
 use Rattle.spec.specs.Refusals.{firstNo}
-use Rattle.spec.specs.Order.{compareNumbers, compareTriples, equalTriples, choose, byOrder, isAbove, isAscending, insert, remove, ascend}
-use Rattle.spec.specs.Tables.{capacity, firstRows, rows, flatten, layout, areZero, all, isTable, isSupportTable, supportLayout, isStore, Tables, tables, areFormed, contentsOf, keptOf, put}
-use Rattle.spec.specs.Saturation.{isIn, add, addAll, keep, leaves, pull, afterPull, explore, spread, reach, objects, properties, subjectClasses, objectClasses, conclusions, carried, oneLess, lower, lowerAll}
+use Rattle.spec.specs.Order.{isAscending, insert, remove, ascend, isIn}
+use Rattle.spec.specs.inside.Comparison.{compareNumbers, compareTriples, equalTriples, choose, byOrder}
+use Rattle.spec.specs.Tables.{capacity, firstRows, rows, flatten, layout, areZero, isTable, isSupportTable, supportLayout, isStore, Tables, tables, areFormed, contentsOf, keptOf, put}
+use Rattle.spec.specs.Lists.{all}
+use Rattle.spec.specs.Saturation.{oneLess, lower, lowerAll}
+use Rattle.spec.specs.computed.Carried.{leaves, spread, reach, objects, properties, subjectClasses, objectClasses, conclusions, carried}
 use Rattle.spec.specs.declared.Answer.the-variants.{Applied}
 use Rattle.spec.specs.Updates.{withoutTriple, isThere, isKeptFitting, decide, withdraw}
 

@@ -11,12 +11,14 @@ use Rattle.spec.specs.declared.Triple.{Triple}
 use Rattle.spec.specs.Terms.{isStatement}
 use Rattle.spec.specs.Refusals.{firstNo}
 use Rattle.spec.proofs.Lists.{true-not-false, by-test}
-use Rattle.spec.specs.Tables.{count, all, isSupport, Tables, areFormed, Contents, contentsOf, put}
+use Rattle.spec.specs.Tables.{count, isSupport, Tables, areFormed, Contents, contentsOf, put}
+use Rattle.spec.specs.Lists.{all}
 use Rattle.spec.proofs.TableRows.{count-layout}
 use Rattle.spec.proofs.TableAll.{all-member, member-all}
 use Rattle.table.proofs.Supports.{length-supportLayout, take-supportLayout, isSupport-between}
 use Rattle.table.proofs.Store.{isStore-formed}
-use Rattle.spec.specs.Saturation.{carried, keptSupports}
+use Rattle.spec.specs.Saturation.{keptSupports}
+use Rattle.spec.specs.computed.Carried.{carried}
 use Rattle.spec.proofs.Carried.{carried-ascends}
 use Rattle.spec.proofs.Kept.{length-keptRows}
 use Rattle.spec.proofs.Saturation.{lowerAll-length}

@@ -10,7 +10,8 @@ use native.Mathlib.Omega.{arith}
 use lib.ListN.{getD, drop}
 use Rattle.spec.specs.declared.Triple.{Triple}
 use Rattle.spec.specs.Terms.{triple}
-use Rattle.spec.specs.Order.{Less, isAscending}
+use Rattle.spec.specs.Order.{isAscending}
+use Rattle.spec.specs.inside.Comparison.{Less}
 use Rattle.spec.proofs.Order.{less-trans}
 use Rattle.spec.proofs.Ascending.{isAscending-iff}
 use Rattle.table.specs.declared.Found.the-variants.{At, Gap}

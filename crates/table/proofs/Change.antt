@@ -9,12 +9,14 @@ use native.Mathlib.Omega.{arith}
 use lib.ListN.{length, length-append, length-drop}
 use lib.Seq.{length-take-le}
 use Rattle.spec.specs.declared.Triple.{Triple}
-use Rattle.spec.specs.Order.{Less, compareTriples, equalTriples, insert, remove}
+use Rattle.spec.specs.Order.{insert, remove}
+use Rattle.spec.specs.inside.Comparison.{Less, compareTriples, equalTriples}
 use Rattle.spec.proofs.Order.{less-ne, byOrder-elim, byOrder-less, byOrder-same, byOrder-more, choose-yes, choose-no}
 use Rattle.spec.proofs.Ascending.{insert-asc, insert-cases, remove-asc, remove-sub, remove-length}
 use Rattle.table.specs.declared.Found.{Found}
 use Rattle.table.specs.declared.Found.the-variants.{At, Gap}
-use Rattle.spec.specs.Tables.{capacity, rows, layout, all}
+use Rattle.spec.specs.Tables.{capacity, rows, layout}
+use Rattle.spec.specs.Lists.{all}
 use Rattle.table.specs.inside.Search.{next, place, insertAt, removeAt}
 use Rattle.spec.specs.inside.Laid.{WellFormed}
 use Rattle.spec.proofs.TableAll.{all-member, member-all}

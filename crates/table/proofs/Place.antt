@@ -7,7 +7,7 @@ use native.Mathlib.Decide.{decLt}
 use native.Mathlib.Omega.{arith}
 use lib.ListN.{length, getD}
 use Rattle.spec.specs.declared.Triple.{Triple}
-use Rattle.spec.specs.Order.{Less, by-object, triple-eq, compareTriples, Above, Ascending}
+use Rattle.spec.specs.inside.Comparison.{Less, by-object, triple-eq, compareTriples, Above, Ascending}
 use Rattle.spec.proofs.Order.{less-trans, less-ne, byOrder-elim, byOrder-less, byOrder-same, byOrder-more}
 use Rattle.spec.proofs.Ascending.{above-asc}
 use Rattle.table.specs.declared.Ordering.{Ordering}

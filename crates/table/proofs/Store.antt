@@ -9,7 +9,8 @@ use lib.ListN.{replicate}
 use Rattle.spec.specs.declared.Triple.{Triple}
 use Rattle.spec.specs.Terms.{isAllowedStatement, isAllowedFact}
 use Rattle.spec.proofs.Ascending.{and-left, and-right}
-use Rattle.spec.specs.Tables.{mostStatements, mostFacts, mostKept, count, layout, flatten, all, isTable, isStatementTable, isFactTable, isKeptTable, isSupportTable, supportLayout, isStore}
+use Rattle.spec.specs.Tables.{mostStatements, mostFacts, mostKept, count, layout, flatten, isTable, isStatementTable, isFactTable, isKeptTable, isSupportTable, supportLayout, isStore}
+use Rattle.spec.specs.Lists.{all}
 use Rattle.spec.specs.inside.Laid.{FormedStore}
 use Rattle.spec.proofs.TableFormed.{isTable-wellFormed, wellFormed-isTable, layout-isTable}
 use Rattle.table.proofs.Supports.{supports-of, supports-is, supportLayout-is}

@@ -9,7 +9,8 @@ use lib.Seq.{take-at, drop-at, getD-take, length-take-le}
 use lib.Dec.{leb}
 use borrow.Author.Tests.{leb-true, le-leb}
 use Rattle.spec.proofs.Ascending.{and-left, and-right}
-use Rattle.spec.specs.Tables.{areZero, all, isSupport, isSupportTable, supportLayout}
+use Rattle.spec.specs.Tables.{areZero, isSupport, isSupportTable, supportLayout}
+use Rattle.spec.specs.Lists.{all}
 use Rattle.spec.specs.inside.Laid.{Supports}
 use Rattle.spec.proofs.TableAll.{all-getD, replicate-of, areZero-replicate}
 

@@ -10,10 +10,12 @@ use lib.Dec.{ltb, eqb}
 use borrow.Author.Tests.{lt-ltb, le-ltb, eq-eqb, ne-eqb}
 use Rattle.spec.specs.declared.Triple.{Triple}
 use Rattle.spec.specs.Terms.{triple}
-use Rattle.spec.specs.Order.{Less, by-subject, by-property, by-object, triple-eq, less-irrefl, isLess, isAbove, isAscending, compareTriples}
+use Rattle.spec.specs.Order.{isLess, isAscending}
+use Rattle.spec.specs.inside.Comparison.{Less, by-subject, by-property, by-object, triple-eq, less-irrefl, compareTriples}
 use Rattle.spec.proofs.Order.{less-asym, byOrder-elim}
 use Rattle.spec.proofs.Ascending.{less-isLess}
-use Rattle.spec.specs.Tables.{tripleFrom, rowAt, firstRows, all}
+use Rattle.spec.specs.Tables.{tripleFrom, rowAt, firstRows}
+use Rattle.spec.specs.Lists.{all}
 use Rattle.spec.proofs.TableRows.{length-firstRows, getD-rowAt}
 use Rattle.spec.proofs.TableAll.{and-false, and-assoc, all-next, all-end}
 use Rattle.table_check.specs.inside.Allowed.{areRowsFrom}

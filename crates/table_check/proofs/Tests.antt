@@ -11,7 +11,8 @@ use lib.Dec.{leb, eqb}
 use borrow.Author.Tests.{le-leb, lt-leb}
 use Rattle.spec.specs.declared.Triple.{Triple}
 use Rattle.spec.specs.Order.{isLess, isAscending}
-use Rattle.spec.specs.Tables.{capacity, count, rowAt, firstRows, areZero, all, isTable, isSupport, isSupportTable}
+use Rattle.spec.specs.Tables.{capacity, count, rowAt, firstRows, areZero, isTable, isSupport, isSupportTable}
+use Rattle.spec.specs.Lists.{all}
 use Rattle.spec.proofs.TableAll.{and-assoc, all-next, all-end, zeros-next}
 use Rattle.table_check.specs.inside.Allowed.{areRowsFrom}
 use Rattle.table_check.proofs.Scan.{next-row}

@@ -8,7 +8,8 @@ ghost use lib.ListN.{length, take, drop};
 ghost use lib.Dec.{leb};
 ghost use Rattle.spec.specs.Terms.{isAllowedStatement, isAllowedFact};
 ghost use Rattle.spec.specs.Order.{isLess};
-ghost use Rattle.spec.specs.Tables.{areZero, all, isTable, isStatementTable, isFactTable, isKeptTable, isSupport, isSupportTable, isStore};
+ghost use Rattle.spec.specs.Tables.{areZero, isTable, isStatementTable, isFactTable, isKeptTable, isSupport, isSupportTable, isStore};
+ghost use Rattle.spec.specs.Lists.{all};
 ghost use Rattle.table_check.specs.inside.Allowed.{allowedIn, areRowsFrom};
 
 // The most rows of each table.

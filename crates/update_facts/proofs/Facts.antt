@@ -8,7 +8,8 @@ use lib.ListN.{length, getD, take, drop}
 use borrow.Author.Tests.{not-true, lt-ltb, le-ltb, le-leb, lt-leb}
 use Rattle.spec.specs.declared.Triple.{Triple}
 use Rattle.spec.specs.Terms.{isTriple, isStatement, isAllowedFact}
-use Rattle.spec.specs.Order.{Ascending, isAscending}
+use Rattle.spec.specs.Order.{isAscending}
+use Rattle.spec.specs.inside.Comparison.{Ascending}
 use Rattle.spec.proofs.Ascending.{and-left, and-right}
 use Rattle.table.specs.declared.Found.{Found}
 use Rattle.table.specs.declared.Found.the-variants.{At, Gap}
@@ -21,7 +22,8 @@ use Rattle.table.proofs.Supports.{support-between}
 use Rattle.table.proofs.Place.{at-member, gap-absent}
 use Rattle.table.proofs.Change.{insertAt-gap, removeAt-at}
 use Rattle.table.proofs.Store.{formed-isStore}
-use Rattle.spec.specs.Saturation.{carried, Kept, raiseAll, lowerAll, keptRows}
+use Rattle.spec.specs.Saturation.{Kept, raiseAll, lowerAll, keptRows}
+use Rattle.spec.specs.computed.Carried.{carried}
 use Rattle.spec.proofs.Carried.{carried-ascends, carried-bound}
 use Rattle.spec.proofs.Saturation.{raiseAll-length, lowerAll-length}
 use Rattle.rdfs_derive.proofs.WordRows.{rows-listed, rows-within}

@@ -3,7 +3,7 @@ use Prim.Native.Nat.{ℕ, zero, suc}
 use mathlib.Core.List.{List, [], _∷_}
 use lib.ListN.{drop}
 use Rattle.spec.specs.declared.Triple.{Triple}
-use Rattle.spec.specs.Order.{Less, Ascending}
+use Rattle.spec.specs.inside.Comparison.{Less, Ascending}
 use Rattle.spec.proofs.Ascending.{above-asc}
 
 -- Each of some rows is less than t.

@@ -4,7 +4,7 @@ use mathlib.Core.Path.{_≡_, refl, ap, _∙_}
 use mathlib.Core.List.{List, [], _∷_, _++_}
 use native.Mathlib.Omega.{arith}
 use Rattle.spec.specs.declared.Triple.{Triple}
-use Rattle.spec.specs.Order.{Less, compareTriples, Above}
+use Rattle.spec.specs.inside.Comparison.{Less, compareTriples, Above}
 use Rattle.spec.proofs.Order.{byOrder-elim, byOrder-less, byOrder-same, byOrder-more}
 use Rattle.spec.proofs.Ascending.{above-weaken}
 use Rattle.spec.specs.Saturation.{Kept, oneLess, lower, lowerAll, keptRows}

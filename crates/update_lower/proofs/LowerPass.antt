@@ -9,7 +9,7 @@ use lib.ListN.{length, getD, take, drop, set, replicate, length-set, take-append
 use lib.Seq.{drop-cons, drop-drop, getD-set-same, take-set-le, take-suc-set, drop-set-lt, set-getD}
 use Rattle.spec.specs.declared.Triple.{Triple}
 use Rattle.spec.specs.Terms.{triple}
-use Rattle.spec.specs.Order.{Less, Above, Ascending}
+use Rattle.spec.specs.inside.Comparison.{Less, Above, Ascending}
 use Rattle.spec.specs.Tables.{count, tripleFrom, rowAt, firstRows, rows, keptOf}
 use Rattle.spec.proofs.TableRows.{length-firstRows, getD-firstRows, length-rows}
 use Rattle.spec.specs.Saturation.{Kept, lowerAll, keptRows}

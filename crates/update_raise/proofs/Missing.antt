@@ -9,7 +9,8 @@ use lib.ListN.{length, take, drop, length-append, take-append-drop, drop-of-leng
 use lib.Seq.{drop-cons}
 use Rattle.spec.specs.declared.Triple.{Triple}
 use Rattle.spec.specs.Terms.{triple}
-use Rattle.spec.specs.Order.{less-irrefl, compareTriples, Above, Ascending, insert}
+use Rattle.spec.specs.Order.{insert}
+use Rattle.spec.specs.inside.Comparison.{less-irrefl, compareTriples, Above, Ascending}
 use Rattle.spec.proofs.Ascending.{above-member, insert-asc, insert-old, insert-cases}
 use Rattle.table.specs.declared.Found.{Found}
 use Rattle.table.specs.declared.Found.the-variants.{At, Gap}

@@ -5,7 +5,7 @@ use mathlib.Core.List.{List, [], _∷_, _++_, append-assoc, append-nil}
 use native.Mathlib.Omega.{arith}
 use lib.ListN.{length, length-append}
 use Rattle.spec.specs.declared.Triple.{Triple}
-use Rattle.spec.specs.Order.{Less, Trichotomy, less, same, more, compareTriples, byOrder, Above, Ascending}
+use Rattle.spec.specs.inside.Comparison.{Less, Trichotomy, less, same, more, compareTriples, byOrder, Above, Ascending}
 use Rattle.spec.proofs.Order.{less-trans, byOrder-less, byOrder-same, byOrder-more}
 use Rattle.spec.proofs.Ascending.{above-asc}
 use Rattle.table.specs.declared.Ordering.{Ordering}

@@ -8,7 +8,7 @@ use lib.ListN.{length, getD, take, drop, set, length-set, length-drop, length-ap
 use lib.Seq.{take-suc, split-at, take-all, take-take, getD-take, drop-at, length-take-le, take-set-le, set-split}
 use Rattle.spec.specs.declared.Triple.{Triple}
 use Rattle.spec.specs.Terms.{triple}
-use Rattle.spec.specs.Order.{Less, Ascending}
+use Rattle.spec.specs.inside.Comparison.{Less, Ascending}
 use Rattle.table.specs.declared.Ordering.the-variants.{Lower, Equal, Higher}
 use Rattle.spec.specs.Tables.{count, tripleFrom, rowAt, firstRows, rows, keptOf}
 use Rattle.spec.proofs.TableRows.{length-firstRows, getD-firstRows, firstRows-snoc, length-rows}

@@ -4,7 +4,7 @@ use mathlib.Core.Path.{_≡_, refl, sym, _∙_}
 use Prim.Native.Nat.{_+_, _*_, _≤_}
 use lib.ListN.{length}
 use borrow.Author.Tests.{not-true, not-false}
-use Rattle.spec.specs.Tables.{all}
+use Rattle.spec.specs.Lists.{all}
 use Rattle.spec.proofs.TableAll.{answered}
 use Rattle.spec.specs.Deliveries.{entriesFrom}
 use Rattle.delivery_format.specs.inside.Fields.{isRightIn}

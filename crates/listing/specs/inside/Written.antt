@@ -3,7 +3,7 @@ use Prim.Native.Nat.{ℕ, _+_, _*_, _≤_, _<_}
 use mathlib.Core.Path.{_≡_}
 use mathlib.Core.List.{List, map}
 use lib.ListN.{getD}
-use Rattle.spec.specs.Order.{Ascending}
+use Rattle.spec.specs.inside.Comparison.{Ascending}
 use Rattle.spec.specs.Tables.{rows}
 use Rattle.spec.specs.Tables as table
 use Rattle.spec.specs.inside.Laid.{Laid}

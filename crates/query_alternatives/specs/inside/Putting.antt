@@ -12,7 +12,10 @@ use Rattle.spec.specs.Outputs.{areFitting, Replied, give}
 use Rattle.rows_distinct.specs.declared.Collected.{Collected}
 use Rattle.rows_distinct.specs.inside.Collected.{Collects}
 use Rattle.rows_distinct.specs.inside.Effects.{Within}
-use Rattle.spec.specs.Alternatives.{admitsClass, admitsProperty, select, alternativesFrom, alternativeRows}
+use Rattle.spec.specs.Alternatives.{alternativeRows}
+use Rattle.spec.specs.Atoms.{admitsClass, admitsProperty}
+use Rattle.spec.specs.Lists.{select}
+use Rattle.spec.specs.computed.Reformulated.{alternativesFrom}
 
 -- The rows of some alternatives were put into an output, in any order, each once or more often.
 pub record Puts (us : List Triple) (out : List ℕ) (c : Collected) (out' : List ℕ) (c' : Collected) : Type 0 where

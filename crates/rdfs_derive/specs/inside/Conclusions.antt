@@ -8,7 +8,7 @@ use lib.ListN.{getD}
 use lib.Dec.{ltb}
 use Rattle.spec.specs.declared.Triple.{Triple}
 use Rattle.spec.specs.Terms.{type, triple}
-use Rattle.spec.specs.Saturation.{properties, subjectClasses, objectClasses}
+use Rattle.spec.specs.computed.Carried.{properties, subjectClasses, objectClasses}
 use Rattle.rdfs_reach.specs.inside.Marks.{Within}
 
 -- The terms of found' from n on, below n', are those of xs, some perhaps more than once. The terms below n are as they were in found.

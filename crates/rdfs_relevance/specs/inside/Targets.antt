@@ -7,7 +7,7 @@ use lib.ListN.{length, getD}
 use lib.Dec.{eqb}
 use Rattle.spec.specs.declared.Triple.{Triple}
 use Rattle.spec.specs.Terms.{type, triple}
-use Rattle.spec.specs.Saturation.{properties, subjectClasses, objectClasses}
+use Rattle.spec.specs.computed.Carried.{properties, subjectClasses, objectClasses}
 use Rattle.rdfs_reach.specs.inside.Marks.{Tells}
 
 -- What can be asked of a word: 1, to which properties it leads as a property; 2, which classes a fact gives its subject that has it as its

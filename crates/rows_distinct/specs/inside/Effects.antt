@@ -5,7 +5,7 @@ use mathlib.Core.Bool.{Bool, true, false}
 use mathlib.Core.List.{List, List·Memᴰ}
 use lib.ListN.{length, getD}
 use Rattle.rows.specs.inside.Rows.{rowAt, rows}
-use Rattle.spec.specs.Rows.{AscendingRows as Ascending}
+use Rattle.spec.specs.inside.Sorting.{AscendingRows as Ascending}
 use Rattle.rows_distinct.specs.declared.Collected.{Collected}
 
 -- The rows that are counted lie within the output.

@@ -7,7 +7,7 @@ use mathlib.Core.List.{List}
 use Prim.Native.Nat.{ℕ, _*_, _^_, _≤_, _<_}
 use lib.ListN.{length, getD}
 use Rattle.spec.specs.Terms.{isLiteral}
-use Rattle.spec.specs.Order.{Less}
+use Rattle.spec.specs.inside.Comparison.{Less}
 use Rattle.spec.specs.Tables.{rowAt}
 use Rattle.saturate_schema.specs.inside.Nodes.{propertyNode, subjectNode}
 use Rattle.saturate_schema.specs.inside.Squares.{at}

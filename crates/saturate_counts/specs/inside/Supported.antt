@@ -6,7 +6,8 @@ use mathlib.Core.List.{List}
 use Prim.Native.Nat.{ℕ, _+_, _^_, _≤_, _<_}
 use lib.ListN.{getD}
 use Rattle.spec.specs.Terms.{isLiteral, triple}
-use Rattle.spec.specs.Saturation.{Kept, lookup}
+use Rattle.spec.specs.Saturation.{Kept}
+use Rattle.spec.specs.inside.Counts.{lookup}
 use Rattle.saturate_schema.specs.inside.Sums.{sumTo}
 use Rattle.saturate_schema.specs.inside.Compiled.{subjectAt, objectAt, explicitAt, subjectAdds, objectAdds, propertyAdds}
 

@@ -2,7 +2,7 @@
 use mathlib.Core.List.{[], _∷_}
 use mathlib.Core.Logic.{Dec·and, Dec·not}
 use Rattle.spec.specs.declared.Triple.{Triple}
-use Rattle.spec.specs.Order.{Less, less, same, more, compareTriples, choose}
+use Rattle.spec.specs.inside.Comparison.{Less, less, same, more, compareTriples, choose}
 use Rattle.spec.proofs.Order.{less-ne, less-asym}
 use Rattle.spec.specs.Saturation.{Kept}
 

@@ -6,7 +6,8 @@ use Prim.Native.Nat.{ℕ, zero, suc, _+_, _-_, _*_, _^_, _≤_, _<_}
 use lib.ListN.{length, getD}
 use lib.Dec.{ltb, eqb}
 use Rattle.spec.specs.Terms.{triple}
-use Rattle.spec.specs.Saturation.{Kept, lookup}
+use Rattle.spec.specs.Saturation.{Kept}
+use Rattle.spec.specs.inside.Counts.{lookup}
 
 -- The objects of n rows of the table f, from row a on.
 unfoldable pub objects : List ℕ → ℕ → ℕ → List ℕ

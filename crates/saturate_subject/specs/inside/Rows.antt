@@ -6,7 +6,8 @@ use Prim.Native.Nat.{ℕ, zero, suc, _+_, _-_, _≤_, _<_}
 use lib.ListN.{getD}
 use Rattle.spec.specs.Terms.{triple}
 use Rattle.spec.specs.Tables.{rowAt}
-use Rattle.spec.specs.Saturation.{Kept, lookup}
+use Rattle.spec.specs.Saturation.{Kept}
+use Rattle.spec.specs.inside.Counts.{lookup}
 use Rattle.saturate_merge.specs.inside.Streams.{often, objects}
 use Rattle.saturate_schema.specs.inside.Nodes.{propertyNode}
 use Rattle.saturate_schema.specs.inside.Compiled.{subjectAt, propertyAt, nodeBit}

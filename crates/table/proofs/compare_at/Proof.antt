@@ -1,6 +1,6 @@
 -- The first words that differ decide the order of two triples.
 use mathlib.Core.Path.{sym}
-use Rattle.spec.specs.Order.{by-subject, by-property}
+use Rattle.spec.specs.inside.Comparison.{by-subject, by-property}
 use Rattle.table.specs.declared.Ordering.the-variants.{Lower, Higher}
 use Rattle.spec.specs.Tables.{rowAt}
 use Rattle.table.proofs.Place.{says-ordering, by-objects}

@@ -3,7 +3,7 @@ use Prim.Native.Nat.{ℕ, suc, _+_}
 use mathlib.Core.List.{List, [], _∷_, _++_}
 use lib.ListN.{take, drop}
 use Rattle.spec.specs.declared.Triple.{Triple}
-use Rattle.spec.specs.Order.{compareTriples, byOrder}
+use Rattle.spec.specs.inside.Comparison.{compareTriples, byOrder}
 use Rattle.table.specs.declared.Ordering.{Ordering}
 use Rattle.table.specs.declared.Ordering.the-variants.{Lower, Equal, Higher}
 use Rattle.table.specs.declared.Found.{Found}

@@ -5,7 +5,8 @@ use mathlib.Core.Path.{_≡_, refl, sym, _∙_}
 use mathlib.Core.Bool.{_&&_}
 use native.Mathlib.Omega.{arith}
 use lib.ListN.{take, drop, getD}
-use Rattle.spec.specs.Tables.{all, isSupport}
+use Rattle.spec.specs.Tables.{isSupport}
+use Rattle.spec.specs.Lists.{all}
 use Rattle.table_check.proofs.Tests.{fold-end, support-fold, support-end}
 use Rattle.table_check.proofs.are_supports.Statement.{statement}
 use Rattle.table_check.proofs.are_supports.Tie as tie

@@ -6,7 +6,8 @@ use lib.ListN.{drop}
 use Rattle.spec.specs.declared.Triple.{Triple}
 use Rattle.spec.specs.Terms.{isAllowedStatement, isAllowedFact}
 use Rattle.spec.specs.Order.{isAscending}
-use Rattle.spec.specs.Tables.{firstRows, all}
+use Rattle.spec.specs.Tables.{firstRows}
+use Rattle.spec.specs.Lists.{all}
 
 -- Which rows may stand in a table: statements, or facts.
 abbrev pub allowedIn : Bool → Triple → Bool

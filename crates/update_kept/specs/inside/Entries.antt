@@ -4,7 +4,7 @@ use mathlib.Core.Path.{_≡_}
 use mathlib.Core.List.{List, zip}
 use lib.ListN.{length, drop, set, replicate}
 use Rattle.spec.specs.declared.Triple.{Triple}
-use Rattle.spec.specs.Order.{Ascending}
+use Rattle.spec.specs.inside.Comparison.{Ascending}
 use Rattle.spec.specs.Tables.{firstRows, rows, layout, supportLayout}
 use Rattle.spec.specs.inside.Laid.{Laid}
 use Rattle.spec.specs.Saturation.{Kept, keptRows, keptSupports}

@@ -3,7 +3,7 @@ use Prim.Native.Nat.{ℕ, _*_, _≤_, _<_}
 use mathlib.Core.Path.{_≡_}
 use mathlib.Core.List.{List, _++_}
 use lib.ListN.{length, take, drop}
-use Rattle.spec.specs.Order.{Less, Ascending}
+use Rattle.spec.specs.inside.Comparison.{Less, Ascending}
 use Rattle.table.specs.declared.Found.{Found}
 use Rattle.table.specs.declared.Found.the-variants.{At, Gap}
 use Rattle.spec.specs.Tables.{count, tripleFrom, rowAt, firstRows, rows}

@@ -4,7 +4,7 @@ use mathlib.Core.Path.{_≡_}
 use mathlib.Core.List.{List}
 use lib.ListN.{length, getD}
 use Rattle.spec.specs.declared.Triple.{Triple}
-use Rattle.spec.specs.Order.{Ascending}
+use Rattle.spec.specs.inside.Comparison.{Ascending}
 use Rattle.table.specs.declared.Ordering.{Ordering}
 use Rattle.table.specs.declared.Ordering.the-variants.{Lower}
 use Rattle.table.specs.declared.Found.{Found}

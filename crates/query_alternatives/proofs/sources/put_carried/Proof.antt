@@ -1,6 +1,6 @@
 -- The rows read are those that the fact carries. Assumes nothing.
 use Rattle.spec.specs.Tables.{rows}
-use Rattle.spec.specs.Saturation.{carried}
+use Rattle.spec.specs.computed.Carried.{carried}
 use Rattle.query_alternatives.proofs.GatherLaws.{carried-rows, carried-fits}
 use borrow.Author.Needs.{needs}
 use Rattle.query_alternatives.proofs.sources.put_carried.Statement.{statement}

@@ -1,8 +1,8 @@
 -- What both facts give are the alternatives with the source. Assumes nothing.
 use Rattle.spec.specs.Tables.{rows}
 use mathlib.Core.List.{flatMap}
-use Rattle.spec.specs.Saturation.{carried}
-use Rattle.spec.specs.Alternatives.{alternativesFrom}
+use Rattle.spec.specs.computed.Carried.{carried}
+use Rattle.spec.specs.computed.Reformulated.{alternativesFrom}
 use Rattle.query_alternatives.specs.inside.Putting.{propertyFact, classFact, given}
 use Rattle.query_alternatives.proofs.PutLaws.{puts-ext, puts-then}
 use Rattle.query_alternatives.proofs.SourceLaws.{carriedAlternatives, source-iff}
