@@ -12,6 +12,7 @@ use Rattle.spec.proofs.TableFormed.{wellFormed-isTable}
 use Rattle.table.proofs.Store.{isStore-formed}
 use Rattle.spec.specs.Rules.{Follows}
 use Rattle.spec.specs.Saturation.{saturation, keptRows, keptSupports}
+use Rattle.spec.proofs.Ascending.{isAscending-iff}
 use Rattle.spec.proofs.Entailment.{allowed-no-vocabulary}
 use Rattle.spec.proofs.Follows.{follows-iff}
 use Rattle.update_kept.proofs.Formed.{keptRows-keptOf}
@@ -126,8 +127,8 @@ history s f k u h i j cs =
     let A = agrees-allowed (storeRun s f k u cs .after) L (R .leaves) in
     record {
       answers = R .gives;
-      statements-ascend = A .statements-ascend;
-      facts-ascend = A .facts-ascend;
+      statements-ascend = isAscending-iff (L .statements) .1 (A .statements-ascend);
+      facts-ascend = isAscending-iff (L .facts) .1 (A .facts-ascend);
       kept = keptRows (saturation (L .statements) (L .facts));
       kept-follow = rows-follow A;
       supports = keptSupports (saturation (L .statements) (L .facts));

@@ -1,17 +1,17 @@
 -- The terms found are those that `conclusions` is made of. Assumes nothing.
 use mathlib.Core.Path.{_≡_, refl, sym, ap, _∙_}
-use mathlib.Core.Bool.{true, false}
+use mathlib.Core.Bool.{true, false, cond}
 use mathlib.Core.List.{List, [], _∷_, _++_, List·Memᴰ, List·Memᴰ·head, List·Memᴰ·not-nil, List·Memᴰ·eq-of-singleton, Memᴰ·append-left, Memᴰ·append-right, List·Memᴰ·append-cases}
 use mathlib.Core.Logic.{⊎-elim, by-cases, _↔_}
 use Prim.Native.Nat.{ℕ, _+_, _≤_, _<_}
-use native.Mathlib.Decide.{ℕ-discrete, decLt}
+use native.Mathlib.Decide.{decLt}
 use native.Mathlib.Omega.{arith}
 use lib.ListN.{length, getD, drop, set}
+use lib.Dec.{eqb}
+use borrow.Author.Tests.{eq-eqb, ne-eqb}
 use lib.Seq.{getD-set-same, getD-set-other}
 use Rattle.spec.specs.declared.Triple.{Triple}
 use Rattle.spec.specs.Terms.{type, subClassOf, subPropertyOf, domain, range, isLiteral}
-use Rattle.spec.specs.inside.Comparison.{choose}
-use Rattle.spec.proofs.Order.{choose-yes, choose-no}
 use Rattle.spec.specs.Tables.{firstRows}
 use Rattle.spec.specs.Rules.{Reach}
 use Rattle.spec.specs.inside.Entailment.{ReachFrom}
@@ -86,11 +86,11 @@ listed-properties st m f found found' r l h =
 
 -- ---- the type that a fact gives
 
-pub listed-type : (f : Triple) (found : List ℕ) (n : ℕ) → n < length found → f .property ≡ type → Listed (choose (ℕ-discrete (f .property) type) (f .object ∷ []) []) found n (set found n (f .object)) (n + 1)
+pub listed-type : (f : Triple) (found : List ℕ) (n : ℕ) → n < length found → f .property ≡ type → Listed (cond (eqb (f .property) type) (f .object ∷ []) []) found n (set found n (f .object)) (n + 1)
 listed-type f found n l e = record {
   grows = omega arith;
   kept = λ i c. getD-set-other found n i (f .object) 0 (λ q. omega arith);
-  exact = λ x. rw (choose-yes (ℕ-discrete (f .property) type) (f .object ∷ []) [] e) (one found n (f .object) x l);
+  exact = λ x. rw (eq-eqb (f .property) type e) (one found n (f .object) x l);
 }
 
 -- Nothing appended.
@@ -101,8 +101,8 @@ listed-none xs found n h = record {
   exact = λ x. (λ w. absurd (omega (arith, w .low, w .high)), λ i. absurd (h x i));
 }
 
-pub listed-untyped : (f : Triple) (found : List ℕ) (n : ℕ) → (f .property ≡ type → ⊥) → Listed (choose (ℕ-discrete (f .property) type) (f .object ∷ []) []) found n found n
-listed-untyped f found n d = listed-none _ found n (λ x. rw (choose-no (ℕ-discrete (f .property) type) (f .object ∷ []) [] d) List·Memᴰ·not-nil)
+pub listed-untyped : (f : Triple) (found : List ℕ) (n : ℕ) → (f .property ≡ type → ⊥) → Listed (cond (eqb (f .property) type) (f .object ∷ []) []) found n found n
+listed-untyped f found n d = listed-none _ found n (λ x. rw (ne-eqb (f .property) type d) List·Memᴰ·not-nil)
 
 -- ---- the classes
 
@@ -112,7 +112,7 @@ module _ (st : List ℕ) (m : ℕ) (f : Triple) where
 
   pub listed-subject : (used found found₁ found₂ found₃ used₂ used₃ : List ℕ) (n e d r : ℕ) →
       ((q : ℕ) → Within found 0 n q ↔ List·Memᴰ q (properties (firstRows m (drop 1 st)) f)) →
-      Listed (choose (ℕ-discrete (f .property) type) (f .object ∷ []) []) found n found₁ e →
+      Listed (cond (eqb (f .property) type) (f .object ∷ []) []) found n found₁ e →
       Grown st m domain used found₁ e used₂ found₂ d → ((o : ℕ) → Within found₂ e d o ↔ ObjectOf st m domain (Within found₁ 0 n) o) →
       Grown st m subClassOf used₂ found₂ d used₃ found₃ r → ((b : ℕ) → Within found₃ n r b ↔ ReachedFrom st m subClassOf (Within found₂ n d) b) →
       Listed (subjectClasses (firstRows m (drop 1 st)) f) found n found₃ r

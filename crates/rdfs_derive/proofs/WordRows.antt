@@ -1,49 +1,31 @@
 -- Triples as rows of three words: the ordered set of such rows is the ascending list of the triples. Assumes nothing.
 use mathlib.Core.Path.{_≡_, refl, sym, ap, ap₂, _∙_}
-use mathlib.Core.Bool.{true, false, cond}
+use mathlib.Core.Bool.{cond}
 use mathlib.Core.List.{List, [], _∷_, _++_, map}
 use Prim.Native.Nat.{ℕ, zero, suc, _+_, _*_, _≤_}
 use native.Mathlib.Omega.{arith}
 use lib.ListN.{length, getD, drop, take, length-map, length-take, take-append-drop}
 use lib.Seq.{drop-drop}
-use borrow.Author.Tests.{lt-ltb, le-ltb}
 use Rattle.spec.specs.declared.Triple.{Triple}
-use Rattle.spec.specs.Order.{insert, ascend}
-use Rattle.spec.specs.inside.Comparison.{Less, by-subject, by-property, by-object, compareTriples}
-use Rattle.spec.proofs.Order.{byOrder-elim}
+use Rattle.spec.specs.Order.{isLess, insert, ascend}
+use Rattle.spec.proofs.Tests.{less-isLess, more-isLess, same-isLess, order-elim}
 use Rattle.spec.specs.Tables.{tripleFrom, firstRows, flatten}
 use Rattle.spec.proofs.TableRows.{tripleFrom-drop, length-flatten, firstRows-flatten}
-use Rattle.spec.specs.Rows.{less, insertOnce, ordered, flat, words}
+use Rattle.spec.specs.Rows.{insertOnce, ordered, flat, words}
 use Rattle.rows.specs.inside.Rows.{row, rowAt, tabulate}
 use Rattle.rows.specs.inside.Effects.{HoldsRows}
-use Rattle.spec.proofs.RowOrder.{less-irrefl, less-asym}
 use Rattle.rows.proofs.HeldWords.{flat-rows}
-
--- The orders agree.
-words-less : {t u : Triple} → Less t u → less (words t) (words u) ≡ true
-unfolding less
-words-less {t} {u} (by-subject h) = rw (lt-ltb (t .subject) (u .subject) h)
-words-less {t} {u} (by-property e h) =
-    let a : u .subject ≤ t .subject = omega arith in
-    let b : t .subject ≤ u .subject = omega arith in
-    rw (le-ltb (t .subject) (u .subject) a, le-ltb (u .subject) (t .subject) b, lt-ltb (t .property) (u .property) h)
-words-less {t} {u} (by-object e f h) =
-    let a : u .subject ≤ t .subject = omega arith in
-    let b : t .subject ≤ u .subject = omega arith in
-    let c : u .property ≤ t .property = omega arith in
-    let d : t .property ≤ u .property = omega arith in
-    rw (le-ltb (t .subject) (u .subject) a, le-ltb (u .subject) (t .subject) b, le-ltb (t .property) (u .property) c, le-ltb (u .property) (t .property) d, lt-ltb (t .object) (u .object) h)
 
 insert-words : (t : Triple) (us : List Triple) → insertOnce (words t) (map words us) ≡ map words (insert t us)
 unfolding insertOnce insert
 insert-words t [] = refl
 insert-words t (u ∷ us) =
-    byOrder-elim
-    (λ (r : List Triple). cond (less (words t) (words u)) (words t ∷ words u ∷ map words us) (cond (less (words u) (words t)) (words u ∷ insertOnce (words t) (map words us)) (words u ∷ map words us)) ≡ map words r)
-    (compareTriples t u)
-    (λ h. rw (words-less h))
-    (λ e. let a : less (words t) (words u) ≡ false = rw e (less-irrefl (words u)) in let b : less (words u) (words t) ≡ false = rw e (less-irrefl (words u)) in rw (a, b))
-    (λ h. rw (less-asym (words u) (words t) (words-less h), words-less h) (ap (λ (r : List (List ℕ)). words u ∷ r) (insert-words t us)))
+    order-elim
+    (λ (r : List Triple). cond (isLess t u) (words t ∷ words u ∷ map words us) (cond (isLess u t) (words u ∷ insertOnce (words t) (map words us)) (words u ∷ map words us)) ≡ map words r)
+    t u
+    (λ h. rw (less-isLess h))
+    (λ e. rw (same-isLess e, same-isLess (sym e)))
+    (λ h. rw (more-isLess h, less-isLess h) (ap (λ (r : List (List ℕ)). words u ∷ r) (insert-words t us)))
 
 -- The ordered set of the words is the words of the ascending list.
 pub ordered-words : (ts : List Triple) → ordered (map words ts) ≡ map words (ascend ts)

@@ -5,14 +5,13 @@ use rdfs_reach::no_marks;
 use spec::Term;
 use spec::Triple;
 ghost use mathlib.Core.Path.{_≡_};
-ghost use mathlib.Core.Bool.{true};
+ghost use mathlib.Core.Bool.{true, cond};
 ghost use mathlib.Core.List.{[], _∷_, List·Memᴰ};
 ghost use mathlib.Core.Logic.{_↔_};
 ghost use Prim.Native.Nat.{ℕ, _+_, _*_, _<_, _≤_};
-ghost use native.Mathlib.Decide.{ℕ-discrete};
 ghost use lib.ListN.{length, getD, drop, take, replicate};
+ghost use lib.Dec.{eqb};
 ghost use Rattle.spec.specs.Terms.{type, subClassOf, subPropertyOf, domain, range};
-ghost use Rattle.spec.specs.inside.Comparison.{choose};
 ghost use Rattle.spec.specs.Tables.{tripleFrom, rowAt, firstRows, rows, flatten, isStatementTable};
 ghost use Rattle.spec.specs.computed.Carried.{properties, subjectClasses, objectClasses, carried};
 ghost use Rattle.rdfs_reach.specs.inside.Marks.{Statements, Within, unused, Uniform, Unused, Room};
@@ -55,7 +54,7 @@ fn append_properties(
 // The object of a fact that gives its subject a type, appended at n. The new end.
 fn append_type(fact: Triple, found: &mut [u32], n: usize) -> usize
     requires { ⌜ n < length (now found) ⌝ }
-    ensures { λ r. ⌜ Listed (choose (ℕ-discrete (fact .property) type) (fact .object ∷ []) []) (now (found .entry)) n (now (found .exit)) r ⌝ }
+    ensures { λ r. ⌜ Listed (cond (eqb (fact .property) type) (fact .object ∷ []) []) (now (found .entry)) n (now (found .exit)) r ⌝ }
     ensures { λ r. ⌜ r ≤ n + 1 ⌝ }
 {
     if fact.property == Term::TYPE {

@@ -13,7 +13,6 @@ use borrow.Author.Tests.{ltb-true, ltb-false, eq-eqb, ne-eqb}
 use Rattle.spec.specs.declared.Triple.{Triple}
 use Rattle.spec.specs.Terms.{type, isLiteral, triple}
 use Rattle.spec.proofs.Lists.{true-not-false}
-use Rattle.spec.proofs.Order.{choose-no}
 use Rattle.spec.specs.Tables.{count, firstRows, rows}
 use Rattle.spec.specs.computed.Carried.{properties, subjectClasses, objectClasses}
 use Rattle.rdfs_reach.specs.inside.Marks.{Tells, Within}
@@ -119,9 +118,7 @@ module _ (S : List Triple) (f : Triple) {r : Bool} where
   -- Another gives it what its property leads to.
   pub fact-subject : (x : ℕ) → ¬ (f .property ≡ type) → Tells r (Led S 2 (f .property) x) → Tells r (List·Memᴰ x (subjectClasses S f))
   unfolding ledTo subjectClasses properties
-  fact-subject x n t =
-      rw (choose-no (ℕ-discrete (f .property) type) (f .object ∷ []) [] n)
-      (rw (choose-no {A = List ℕ} (ℕ-discrete (f .property) type) (6 ∷ []) [] n) at t)
+  fact-subject x n t = rw (ne-eqb (f .property) type n) (rw (ne-eqb (f .property) type n) at t)
 
   pub fact-object : (x : ℕ) → isLiteral (f .object) ≡ false → Tells r (Led S 4 (f .property) x) → Tells r (List·Memᴰ x (objectClasses S f))
   unfolding ledTo

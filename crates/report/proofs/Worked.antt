@@ -1,17 +1,15 @@
 -- The worked example of document 01, computed. Assumes nothing.
 use mathlib.Core.Path.{_≡_, refl}
 use mathlib.Core.List.{List, [], _∷_, zip, zipWith}
-use mathlib.Core.Logic.{Dec·and}
-use native.Mathlib.Decide.{ℕ-discrete, decLt}
 use Prim.Native.Nat.{ℕ}
 use Rattle.spec.specs.Terms.{isUri, isBlank, isLiteral, isVocabulary, isTriple, isStatement, areSidesAllowed, isAllowedStatement, isAllowedFact}
 use Rattle.spec.specs.Refusals.{firstNo}
-use Rattle.spec.specs.Order.{isAscending, insert, remove, ascend, isIn}
-use Rattle.spec.specs.inside.Comparison.{compareNumbers, compareTriples, equalTriples, choose, byOrder}
+use Rattle.spec.specs.Order.{isSame, isAscending, insert, remove, ascend}
 use Rattle.spec.specs.Tables.{capacity, firstRows, rows, flatten, layout, areZero, isTable, isSupportTable, supportLayout, isStore, contentsOf, keptOf, put}
-use Rattle.spec.specs.Lists.{all}
+use Rattle.spec.specs.Lists.{all, any, select}
+use Rattle.spec.specs.Rows.{less}
 use Rattle.spec.specs.Saturation.{raise, raiseAll, saturation}
-use Rattle.spec.specs.computed.Carried.{leaves, spread, reach, objects, properties, subjectClasses, objectClasses, conclusions, carried}
+use Rattle.spec.specs.computed.Carried.{leaves, steps, spread, reach, objects, properties, subjectClasses, objectClasses, conclusions, carried}
 use Rattle.spec.specs.Updates.{withTriple, isThere, isBelowCapacity, isKeptFitting, decide, add as addition}
 use Rattle.spec.specs.Deliveries.{short, word, entriesFrom, sectionEnd, sectionStart, fieldEnd, fieldsFrom, fieldsEnd, numberFields, read, isWhole, areSectionsRight, isNumberRight, numberOf, tallied, runEntry, runEntries, runMessage, conclude, deliver}
 use Rattle.report.specs.Text.{digits, decimal, resultLine, rowsLine, rowLine, rowLines, reportText, refusalText, outcomeText, response}
@@ -35,5 +33,5 @@ workedText =
     51 ∷ 32 ∷ 49 ∷ 32 ∷ 49 ∷ 55 ∷ 32 ∷ 49 ∷ 10 ∷ 51 ∷ 51 ∷ 32 ∷ 49 ∷ 32 ∷ 49 ∷ 56 ∷ 32 ∷ 49 ∷ 10 ∷ []
 
 pub worked : response workedDelivery ≡ workedText
-unfolding zip zipWith Dec·and ℕ-discrete decLt isUri isBlank isLiteral isVocabulary isTriple isStatement areSidesAllowed isAllowedStatement isAllowedFact firstNo compareNumbers compareTriples equalTriples choose byOrder isAbove isAscending insert remove ascend capacity firstRows rows flatten layout areZero all isTable isSupportTable supportLayout isStore isIn add addAll keep leaves pull afterPull explore spread reach objects properties subjectClasses objectClasses conclusions carried raise raiseAll saturation contentsOf keptOf put withTriple isThere isBelowCapacity isKeptFitting decide addition short word entriesFrom sectionEnd sectionStart fieldEnd fieldsFrom fieldsEnd numberFields read isWhole areSectionsRight isNumberRight numberOf tallied runEntry runEntries runMessage conclude deliver digits decimal resultLine rowsLine rowLine rowLines reportText refusalText outcomeText response
+unfolding zip zipWith isUri isBlank isLiteral isVocabulary isTriple isStatement areSidesAllowed isAllowedStatement isAllowedFact firstNo any select less isSame isAscending insert remove ascend capacity firstRows rows flatten layout areZero all isTable isSupportTable supportLayout isStore leaves steps spread reach objects properties subjectClasses objectClasses conclusions carried raise raiseAll saturation contentsOf keptOf put withTriple isThere isBelowCapacity isKeptFitting decide addition short word entriesFrom sectionEnd sectionStart fieldEnd fieldsFrom fieldsEnd numberFields read isWhole areSectionsRight isNumberRight numberOf tallied runEntry runEntries runMessage conclude deliver digits decimal resultLine rowsLine rowLine rowLines reportText refusalText outcomeText response
 worked = refl

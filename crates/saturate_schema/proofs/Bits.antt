@@ -9,9 +9,9 @@ use native.Mathlib.Decide.{ℕ-discrete}
 use Rattle.spec.specs.declared.Triple.{Triple}
 use Rattle.spec.specs.Terms.{isLiteral, triple}
 use Rattle.spec.specs.inside.Comparison.{triple-eq, equalTriples}
-use Rattle.spec.proofs.Order.{of-property, of-object, choose-elim}
+use Rattle.spec.proofs.Order.{of-property, of-object}
+use Rattle.spec.proofs.Tests.{isIn-elim}
 use Rattle.spec.specs.inside.Entailment.{explicit, HoldsBy, NoVocabulary}
-use Rattle.spec.specs.Order.{isIn}
 use Rattle.spec.specs.computed.Carried.{carried}
 use Rattle.spec.proofs.Carried.{carried-iff}
 use Rattle.spec.proofs.Kept.{one, one-yes, one-no}
@@ -25,7 +25,7 @@ use Rattle.saturate_schema.proofs.Meaning as meaning
 -- A bit that says whether f carries t is the one that the support counts.
 pub bit-is : (S : List Triple) (f t : Triple) (b : ℕ) → NoVocabulary S → b ≤ 1 → ((b ≡ 1) ↔ HoldsBy S f t) → among t (carried S f) ≡ b
 bit-is S f t b w le h =
-    choose-elim (λ (n : ℕ). n ≡ b) (isIn equalTriples t (carried S f))
+    isIn-elim (λ (n : ℕ). n ≡ b) t (carried S f)
     (λ m. sym (h .1 (carried-iff S f t w .0 m)))
     (λ n. by-cases (ℕ-discrete b 1) (λ e. absurd (n (carried-iff S f t w .1 (h .0 e)))) (λ k. omega arith))
 

@@ -11,19 +11,19 @@ use lib.Dec.{eqb}
 use borrow.Author.Tests.{eqb-true, eqb-false, eq-eqb, ne-eqb, lt-ltb, le-ltb}
 use Rattle.spec.specs.declared.Triple.{Triple}
 use Rattle.spec.specs.Terms.{isLiteral, triple, isAllowedStatement, isAllowedFact}
-use Rattle.spec.specs.inside.Comparison.{triple-eq, equalTriples}
-use Rattle.spec.proofs.Order.{of-subject, of-property, of-object, choose-no}
+use Rattle.spec.specs.inside.Comparison.{triple-eq}
+use Rattle.spec.proofs.Order.{of-subject, of-property, of-object}
+use Rattle.spec.proofs.Tests.{isIn-no}
 use Rattle.spec.proofs.Lists.{cond-elim}
 use Rattle.spec.specs.Tables.{count, tripleFrom, rowAt, firstRows, rows, mostStatements, mostFacts}
 use Rattle.spec.specs.inside.Laid.{WellFormed}
 use Rattle.spec.proofs.TableRows.{tripleFrom-drop}
 use Rattle.spec.specs.inside.Entailment.{HoldsBy}
-use Rattle.spec.specs.Order.{isIn}
 use Rattle.spec.specs.computed.Carried.{carried, support}
 use Rattle.spec.proofs.Entailment.{not-vocabulary}
 use Rattle.spec.proofs.Carried.{carried-part, Part, as-property, as-subject, as-object}
 use Rattle.spec.proofs.Kept.{one, one-yes, one-no}
-use Rattle.spec.proofs.Saturation.{among}
+use Rattle.spec.proofs.Saturation.{among, support-nil, support-cons}
 use Rattle.saturate_schema.specs.inside.Walks.{Edge, Plus}
 use Rattle.saturate_schema.specs.inside.Nodes.{propertyNode, subjectNode, objectNode, edges, none, Columns}
 use Rattle.saturate_schema.specs.inside.Squares.{at, Marks}
@@ -278,12 +278,12 @@ either-le a b l = cond-elim (λ (k : ℕ). k ≤ 1) (eqb a 1) (λ _. omega arith
 
 -- Over the rows of words,
 support-first : (S : List Triple) (t : Triple) (n : ℕ) (ws : List ℕ) → support S (firstRows n ws) t ≡ sumTo (λ y. among t (carried S (tripleFrom ws (y * 3)))) n
-unfolding firstRows sumTo support
-support-first S t zero ws = refl
+unfolding firstRows sumTo
+support-first S t zero ws = support-nil S t
 support-first S t (suc n) ws =
     let e : sumTo (λ y. among t (carried S (tripleFrom (drop 3 ws) (y * 3)))) n ≡ sumTo (λ y. among t (carried S (tripleFrom ws (suc y * 3)))) n =
     sum-ext (λ y. among t (carried S (tripleFrom (drop 3 ws) (y * 3)))) (λ y. among t (carried S (tripleFrom ws (suc y * 3)))) n (λ y l. ap (λ (u : Triple). among t (carried S u)) (tripleFrom-drop 3 ws (y * 3) (suc y * 3) (omega arith))) in
-    omega (arith, support-first S t n (drop 3 ws), sum-first (λ y. among t (carried S (tripleFrom ws (y * 3)))) n)
+    omega (arith, support-cons S (tripleFrom ws 0) (firstRows n (drop 3 ws)) t, support-first S t n (drop 3 ws), sum-first (λ y. among t (carried S (tripleFrom ws (y * 3)))) n)
 
 -- and of a table.
 pub support-sum : (S : List Triple) (f : List ℕ) (t : Triple) → support S (rows f) t ≡ sumTo (λ y. among t (carried S (rowAt f y))) (count f)
@@ -606,7 +606,7 @@ pub absent-support : (S : List Triple) (f : List ℕ) (x p o : ℕ) → ((y : �
     → support S (rows f) (triple x p o) ≡ 0
 absent-support S f x p o a b =
     support-sum S f (triple x p o)
-    ∙ sum-zero (λ y. among (triple x p o) (carried S (rowAt f y))) (count f) (λ y l. choose-no (isIn equalTriples (triple x p o) (carried S (rowAt f y))) 1 0 (λ m. not-part y l (carried-part S (rowAt f y) (triple x p o) .0 m)))
+    ∙ sum-zero (λ y. among (triple x p o) (carried S (rowAt f y))) (count f) (λ y l. rw (isIn-no (triple x p o) (carried S (rowAt f y)) (λ m. not-part y l (carried-part S (rowAt f y) (triple x p o) .0 m))))
   where
     not-part : (y : ℕ) → y < count f → ¬ Part S (rowAt f y) (triple x p o)
     not-part y l (as-property s e q) = a y l (sym (row-subject f y) ∙ sym s)

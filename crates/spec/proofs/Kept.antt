@@ -1,21 +1,23 @@
 -- Laws of kept facts: `lookup`, `raise` and `lower`; the supports fix the list. Assumes nothing.
 use mathlib.Core.Path.{_≡_, refl, sym, ap₂, _∙_}
+use mathlib.Core.Bool.{cond}
 use mathlib.Core.List.{[], _∷_, List·Memᴰ, List·Memᴰ·head, List·Memᴰ·tail, List·Memᴰ·cases-cons, List·Memᴰ·not-nil, Memᴰ·map}
 use mathlib.Core.Logic.{⊎-elim, by-cases, _↔_}
 use Prim.Native.Nat.{ℕ, zero, suc, _+_, _-_, _≤_, _<_}
 use native.Mathlib.Omega.{arith}
 use lib.ListN.{length, length-map}
 use Rattle.spec.specs.declared.Triple.{Triple}
-use Rattle.spec.specs.inside.Comparison.{Less, Trichotomy, less, same, more, compareTriples, equalTriples, choose, Above, Ascending}
-use Rattle.spec.proofs.Order.{less-trans, less-ne, choose-yes, choose-no}
-use Rattle.spec.proofs.Tests.{order-elim}
+use Rattle.spec.specs.Order.{isSame}
+use Rattle.spec.specs.inside.Comparison.{Less, Trichotomy, less, same, more, compareTriples, equalTriples, Above, Ascending}
+use Rattle.spec.proofs.Order.{less-trans, less-ne}
+use Rattle.spec.proofs.Tests.{same-yes, same-no, order-elim}
 use Rattle.spec.proofs.Ascending.{above-member}
 use Rattle.spec.specs.Saturation.{Kept, raise, oneLess, lower, keptRows, keptSupports}
 use Rattle.spec.specs.inside.Counts.{KeptAbove, Counts, lookup}
 
 -- 1 if u is t, else 0.
 pub one : Triple → Triple → ℕ
-one u t = choose (equalTriples u t) 1 0
+one u t = cond (isSame u t) 1 0
 
 -- ---- the clauses as equations
 
@@ -27,22 +29,22 @@ lookup-nil u = refl
 -- The first row has its own support,
 pub lookup-same : (e : Triple × ℕ) (k : Kept) (u : Triple) → u ≡ e .0 → lookup (e ∷ k) u ≡ e .1
 unfolding lookup
-lookup-same e k u q = choose-yes (equalTriples u (e .0)) (e .1) (lookup k u) q
+lookup-same e k u q = same-yes u (e .0) (e .1) (lookup k u) q
 
 -- and any other row the support that the rest gives it.
 pub lookup-other : (e : Triple × ℕ) (k : Kept) (u : Triple) → ¬ (u ≡ e .0) → lookup (e ∷ k) u ≡ lookup k u
 unfolding lookup
-lookup-other e k u q = choose-no (equalTriples u (e .0)) (e .1) (lookup k u) q
+lookup-other e k u q = same-no u (e .0) (e .1) (lookup k u) q
 
 -- `one` is 1 at equal triples,
 pub one-yes : (u t : Triple) → u ≡ t → one u t ≡ 1
 unfolding one
-one-yes u t q = choose-yes (equalTriples u t) 1 0 q
+one-yes u t q = same-yes u t 1 0 q
 
 -- and 0 at others.
 pub one-no : (u t : Triple) → ¬ (u ≡ t) → one u t ≡ 0
 unfolding one
-one-no u t q = choose-no (equalTriples u t) 1 0 q
+one-no u t q = same-no u t 1 0 q
 
 -- ---- order
 

@@ -115,7 +115,7 @@ unfolding saturation
 saturation-cons S f F u = lookup-raiseAll (carried S f) (saturation S F) u (carried-ascends S f) (saturation-counts S F)
 
 -- No fact, no support.
-support-nil : (S : List Triple) (t : Triple) → support S [] t ≡ 0
+pub support-nil : (S : List Triple) (t : Triple) → support S [] t ≡ 0
 unfolding support carriers select
 support-nil S t = refl
 

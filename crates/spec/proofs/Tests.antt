@@ -1,6 +1,6 @@
 -- What the tests of triples decide: which is less, whether they are the same, and whether one is among some. Definitions branch on the tests,
 -- proofs on what they decide. Assumes nothing.
-use mathlib.Core.Path.{_≡_, refl, sym, _∙_}
+use mathlib.Core.Path.{_≡_, sym, _∙_}
 use mathlib.Core.Bool.{true, false, cond}
 use mathlib.Core.Logic.{by-cases, _↔_}
 use mathlib.Core.List.{List, List·Memᴰ}
@@ -12,7 +12,7 @@ use Rattle.spec.specs.Rows.{less, words}
 use Rattle.spec.specs.Order.{isLess, isSame, isIn}
 use Rattle.spec.specs.inside.Comparison.{Less, by-subject, by-property, by-object, Trichotomy, less as is-less, same as is-same, more as is-more, compareTriples, equalTriples}
 use Rattle.spec.proofs.Lists.{true-not-false, cond-elim, by-test, any-in, any-out}
-use Rattle.spec.proofs.Order.{less-ne, less-asym, of-subject, of-property, of-object}
+use Rattle.spec.proofs.Order.{of-subject, of-property, of-object}
 use Rattle.spec.proofs.RowOrder as rows
 
 -- ---- the order

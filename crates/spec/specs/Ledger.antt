@@ -1,7 +1,7 @@
 -- The ledger (document 01, "The ledger"): what a list of calls must have answered and left, without a word of the store.
 -- Definitions only.
 use Prim.Native.Nat.{ℕ, zero, suc, _-_, _/_, min}
-use mathlib.Core.Bool.{Bool, true, false, _||_, not, cond}
+use mathlib.Core.Bool.{Bool, _||_, not, cond}
 use mathlib.Core.List.{List, [], _∷_, _++_}
 use lib.ListN.{length}
 use lib.Dec.{leb, ltb}

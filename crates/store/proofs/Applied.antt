@@ -8,9 +8,9 @@ use native.Mathlib.Omega.{arith}
 use lib.ListN.{length}
 use Rattle.spec.specs.declared.Triple.{Triple}
 use Rattle.spec.specs.Terms.{isStatement, isAllowedStatement, isAllowedFact}
-use Rattle.spec.specs.Order.{insert, remove, isIn}
-use Rattle.spec.specs.inside.Comparison.{equalTriples, Ascending}
-use Rattle.spec.proofs.Order.{choose-elim}
+use Rattle.spec.specs.Order.{insert, remove}
+use Rattle.spec.specs.inside.Comparison.{Ascending}
+use Rattle.spec.proofs.Tests.{same-elim}
 use Rattle.spec.proofs.Ascending.{insert-asc, insert-cases, insert-length, remove-asc, remove-sub, remove-length}
 use Rattle.spec.specs.Saturation.{Kept, raiseAll, lowerAll, saturation, keptRows, keptSupports}
 use Rattle.spec.specs.computed.Carried.{carried}
@@ -18,7 +18,7 @@ use Rattle.spec.specs.inside.Counts.{Counts, lookup}
 use Rattle.spec.proofs.Entailment.{allowed-no-vocabulary, holds-allowed}
 use Rattle.spec.proofs.Carried.{carried-ascends, carried-iff}
 use Rattle.spec.proofs.Kept.{counts-of, support-of, kept-positive, kept-ascends, lookup-kept}
-use Rattle.spec.proofs.Saturation.{among, raiseAll-counts, lookup-raiseAll, lookup-lowerAll, lowerAll-counts, lowerAll-length, saturation-ascends, saturation-allowed, saturation-supports, lower-saturation}
+use Rattle.spec.proofs.Saturation.{among-bound, raiseAll-counts, lookup-raiseAll, lookup-lowerAll, lowerAll-counts, lowerAll-length, saturation-ascends, saturation-allowed, saturation-supports, lower-saturation}
 use Rattle.spec.specs.Tables.{Tables, Contents, contents, statementCapacity, factCapacity, keptCapacity}
 use Rattle.spec.specs.Updates.{withTriple, withoutTriple}
 use Rattle.update_raise.proofs.Missing.{raiseAll-asc, raiseAll-cases, insert-new-length}
@@ -30,16 +30,13 @@ use Rattle.store.proofs.Fitting.{Fitting}
 lookup-bound : (k : Kept) (b : ℕ) → ((n : ℕ) → List·Memᴰ n (keptSupports k) → n ≤ b) → (u : Triple) → lookup k u ≤ b
 unfolding lookup
 lookup-bound [] b h u = omega arith
-lookup-bound (e ∷ k) b h u = choose-elim (λ (n : ℕ). n ≤ b) (equalTriples u (e .0)) (λ _. h (e .1) (List·Memᴰ·head refl)) (λ _. lookup-bound k b (λ n m. h n (List·Memᴰ·tail m)) u)
-
-among-few : (u : Triple) (ts : List Triple) → among u ts ≤ 1
-among-few u ts = choose-elim {A = ℕ} (λ n. n ≤ 1) (isIn equalTriples u ts) {x = 1} {y = 0} (λ _. omega arith) (λ _. omega arith)
+lookup-bound (e ∷ k) b h u = same-elim (λ (n : ℕ). n ≤ b) u (e .0) (λ _. h (e .1) (List·Memᴰ·head refl)) (λ _. lookup-bound k b (λ n m. h n (List·Memᴰ·tail m)) u)
 
 -- Raising ascending rows adds at most 1 to a support.
 raised-supports : (ts : List Triple) (k : Kept) (b : ℕ) → Ascending ts → Counts k → ((n : ℕ) → List·Memᴰ n (keptSupports k) → n ≤ b) → (n : ℕ) → List·Memᴰ n (keptSupports (raiseAll ts k)) → (1 ≤ n) × (n ≤ suc b)
 raised-supports ts k b o a h n m =
     let r = support-of (raiseAll ts k) n (raiseAll-counts ts k a) m in
-    (kept-positive (raiseAll ts k) (raiseAll-counts ts k a) n m, omega (arith, r .supported, lookup-raiseAll ts k (r .row) o a, among-few (r .row) ts, lookup-bound k b h (r .row)))
+    (kept-positive (raiseAll ts k) (raiseAll-counts ts k a) n m, omega (arith, r .supported, lookup-raiseAll ts k (r .row) o a, among-bound (r .row) ts, lookup-bound k b h (r .row)))
 
 -- ---- contents worked out afresh
 

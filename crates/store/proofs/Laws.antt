@@ -9,15 +9,13 @@ use lib.ListN.{length, replicate}
 use borrow.Author.Tests.{not-true, ltb-true, leb-true}
 use Rattle.spec.specs.declared.Triple.{Triple}
 use Rattle.spec.specs.Terms.{isTriple, isStatement, areSidesAllowed, isAllowedStatement, isAllowedFact}
-use Rattle.spec.specs.inside.Comparison.{equalTriples}
 use Rattle.spec.specs.Refusals.{firstNo, tripleQuestions}
-use Rattle.spec.proofs.Order.{choose-elim}
+use Rattle.spec.proofs.Tests.{isIn-iff}
 use Rattle.spec.proofs.Lists.{true-not-false, by-test, or-cases}
 use Rattle.spec.specs.Tables.{rows, Tables, tables, areFormed, Contents, contents, contentsOf, keptOf, put, statementCapacity, factCapacity, keptCapacity}
 use Rattle.spec.proofs.TableRows.{rows-layout}
 use Rattle.table.proofs.Store.{layout-empty, empty-isStore}
 use Rattle.spec.specs.Saturation.{saturation}
-use Rattle.spec.specs.Order.{isIn}
 use Rattle.spec.proofs.Saturation.{raise-saturation, lower-saturation}
 use Rattle.spec.specs.declared.Answer.the-variants.{Applied, Idle, Refused}
 use Rattle.spec.specs.Updates.{withTriple, withoutTriple, isThere, isBelowCapacity, isKeptFitting, additionQuestions, withdrawalQuestions, Outcome, outcome, decide, add, withdraw}
@@ -100,9 +98,7 @@ there-false t c e m = true-not-false (sym (there-yes t c m) ∙ e)
 -- and what is there is.
 pub there-true : (t : Triple) (c : Contents) → isThere t c ≡ true → List·Memᴰ t (cond (isStatement t) (c .statements) (c .facts))
 unfolding isThere
-there-true t c =
-    choose-elim (λ (b : Bool). b ≡ true → List·Memᴰ t (cond (isStatement t) (c .statements) (c .facts))) (isIn equalTriples t (cond (isStatement t) (c .statements) (c .facts)))
-    (λ m _. m) (λ _ e. absurd (true-not-false (sym e)))
+there-true t c = isIn-iff t (cond (isStatement t) (c .statements) (c .facts)) .0
 
 -- The answers to questions 1 to 3.
 record Asked (t : Triple) (T : Tables) : Type 0 where

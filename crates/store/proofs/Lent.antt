@@ -3,17 +3,15 @@
 use mathlib.Core.Path.{_≡_, refl}
 use mathlib.Core.Bool.{true, false}
 use mathlib.Core.List.{[], _∷_, zip, zipWith}
-use mathlib.Core.Logic.{Dec·and}
-use native.Mathlib.Decide.{ℕ-discrete, decLt}
 use Rattle.spec.specs.declared.Triple.{Triple}
 use Rattle.spec.specs.Terms.{isUri, isBlank, isLiteral, isVocabulary, triple, isTriple, isStatement, areSidesAllowed, isAllowedStatement, isAllowedFact}
 use Rattle.spec.specs.Refusals.{firstNo}
-use Rattle.spec.specs.Order.{isAscending, insert, remove, ascend, isIn}
-use Rattle.spec.specs.inside.Comparison.{compareNumbers, compareTriples, equalTriples, choose, byOrder}
+use Rattle.spec.specs.Order.{isSame, isAscending, insert, remove, ascend}
 use Rattle.spec.specs.Tables.{capacity, firstRows, rows, flatten, layout, areZero, isTable, isSupportTable, supportLayout, isStore, Tables, tables, areFormed, contentsOf, keptOf, put}
-use Rattle.spec.specs.Lists.{all}
+use Rattle.spec.specs.Lists.{all, any, select}
+use Rattle.spec.specs.Rows.{less}
 use Rattle.spec.specs.Saturation.{oneLess, lower, lowerAll}
-use Rattle.spec.specs.computed.Carried.{leaves, spread, reach, objects, properties, subjectClasses, objectClasses, conclusions, carried}
+use Rattle.spec.specs.computed.Carried.{leaves, steps, spread, reach, objects, properties, subjectClasses, objectClasses, conclusions, carried}
 use Rattle.spec.specs.declared.Answer.the-variants.{Applied}
 use Rattle.spec.specs.Updates.{withoutTriple, isThere, isKeptFitting, decide, withdraw}
 
@@ -28,5 +26,5 @@ lent = tables (0 ∷ []) (2 ∷ 32 ∷ 19 ∷ 33 ∷ 40 ∷ 19 ∷ 41 ∷ []) (2
 
 -- They are well formed; the withdrawal of the second fact is applied; the first keeps support 2 with one fact left.
 pub withdrawal-can-spoil : (areFormed lent ≡ true) × (withdraw lent second .answer ≡ Applied) × (areFormed (withdraw lent second .after) ≡ false)
-unfolding zip zipWith Dec·and ℕ-discrete decLt isUri isBlank isLiteral isVocabulary isTriple isStatement areSidesAllowed isAllowedStatement isAllowedFact firstNo compareNumbers compareTriples equalTriples choose byOrder isAbove isAscending insert remove ascend capacity firstRows rows flatten layout areZero all isTable isSupportTable supportLayout isStore isIn add addAll keep leaves pull afterPull explore spread reach objects properties subjectClasses objectClasses conclusions carried oneLess lower lowerAll contentsOf keptOf put withoutTriple isThere isKeptFitting decide withdraw
+unfolding zip zipWith isUri isBlank isLiteral isVocabulary isTriple isStatement areSidesAllowed isAllowedStatement isAllowedFact firstNo any select less isSame isAscending insert remove ascend capacity firstRows rows flatten layout areZero all isTable isSupportTable supportLayout isStore leaves steps spread reach objects properties subjectClasses objectClasses conclusions carried oneLess lower lowerAll contentsOf keptOf put withoutTriple isThere isKeptFitting decide withdraw
 withdrawal-can-spoil = (refl, refl, refl)

@@ -10,8 +10,9 @@ use lib.ListN.{length, length-append, length-drop}
 use lib.Seq.{length-take-le}
 use Rattle.spec.specs.declared.Triple.{Triple}
 use Rattle.spec.specs.Order.{insert, remove}
-use Rattle.spec.specs.inside.Comparison.{Less, compareTriples, equalTriples}
-use Rattle.spec.proofs.Order.{less-ne, byOrder-elim, byOrder-less, byOrder-same, byOrder-more, choose-yes, choose-no}
+use Rattle.spec.specs.inside.Comparison.{Less, compareTriples}
+use Rattle.spec.proofs.Order.{less-ne, byOrder-elim}
+use Rattle.spec.proofs.Tests.{order-less, order-same, order-more, same-yes, same-no}
 use Rattle.spec.proofs.Ascending.{insert-asc, insert-cases, remove-asc, remove-sub, remove-length}
 use Rattle.table.specs.declared.Found.{Found}
 use Rattle.table.specs.declared.Found.the-variants.{At, Gap}
@@ -30,16 +31,16 @@ Inserted x us (Gap i) = insertAt i x us ≡ insert x us
 
 inserted-next : (x u : Triple) (us : List Triple) → Less u x → (f : Found) → Inserted x us f → Inserted x (u ∷ us) (next f)
 unfolding insert insertAt
-inserted-next x u us l (At i) p = rw (byOrder-more (compareTriples x u) (x ∷ u ∷ us) (u ∷ us) (u ∷ insert x us) l) (ap (λ (r : List Triple). u ∷ r) p)
-inserted-next x u us l (Gap i) p = rw (byOrder-more (compareTriples x u) (x ∷ u ∷ us) (u ∷ us) (u ∷ insert x us) l) (ap (λ (r : List Triple). u ∷ r) p)
+inserted-next x u us l (At i) p = rw (order-more x u (x ∷ u ∷ us) (u ∷ us) (u ∷ insert x us) l) (ap (λ (r : List Triple). u ∷ r) p)
+inserted-next x u us l (Gap i) p = rw (order-more x u (x ∷ u ∷ us) (u ∷ us) (u ∷ insert x us) l) (ap (λ (r : List Triple). u ∷ r) p)
 
 inserted : (x : Triple) (us : List Triple) → Inserted x us (place x us)
 unfolding place insert insertAt
 inserted x [] = refl
 inserted x (u ∷ us) =
     byOrder-elim (Inserted x (u ∷ us)) (compareTriples u x) (λ l. inserted-next x u us l (place x us) (inserted x us))
-    (λ e. byOrder-same (compareTriples x u) (x ∷ u ∷ us) (u ∷ us) (u ∷ insert x us) (sym e))
-    (λ l. sym (byOrder-less (compareTriples x u) (x ∷ u ∷ us) (u ∷ us) (u ∷ insert x us) l))
+    (λ e. order-same x u (x ∷ u ∷ us) (u ∷ us) (u ∷ insert x us) (sym e))
+    (λ l. sym (order-less x u (x ∷ u ∷ us) (u ∷ us) (u ∷ insert x us) l))
 
 -- Insertion at the gap is insertion into the set; what is there stays.
 pub insertAt-gap : (x : Triple) (us : List Triple) (i : ℕ) → place x us ≡ Gap i → insertAt i x us ≡ insert x us
@@ -56,7 +57,7 @@ Removed x us (Gap i) = Unit {0}
 removed-next : (x u : Triple) (us : List Triple) → Less u x → (f : Found) → Removed x us f → Removed x (u ∷ us) (next f)
 unfolding remove removeAt
 removed-next x u us l (At i) p =
-    rw (suc-add, choose-no (equalTriples x u) us (u ∷ remove x us) (λ e. less-ne l (sym e))) (ap (λ (r : List Triple). u ∷ r) p)
+    rw (suc-add, same-no x u us (u ∷ remove x us) (λ e. less-ne l (sym e))) (ap (λ (r : List Triple). u ∷ r) p)
 removed-next x u us l (Gap i) p = tt
 
 removed : (x : Triple) (us : List Triple) → Removed x us (place x us)
@@ -64,7 +65,7 @@ unfolding place remove removeAt
 removed x [] = tt
 removed x (u ∷ us) =
     byOrder-elim (Removed x (u ∷ us)) (compareTriples u x) (λ l. removed-next x u us l (place x us) (removed x us))
-    (λ e. sym (choose-yes (equalTriples x u) us (u ∷ remove x us) (sym e))) (λ _. tt)
+    (λ e. sym (same-yes x u us (u ∷ remove x us) (sym e))) (λ _. tt)
 
 -- Removal of the row found is removal from the set; what is absent leaves it as it is.
 pub removeAt-at : (x : Triple) (us : List Triple) (i : ℕ) → place x us ≡ At i → removeAt i us ≡ remove x us
@@ -74,7 +75,7 @@ pub remove-absent : (x : Triple) (us : List Triple) → ¬ List·Memᴰ x us →
 unfolding remove
 remove-absent x [] n = refl
 remove-absent x (u ∷ us) n =
-    rw (choose-no (equalTriples x u) us (u ∷ remove x us) (λ e. n (List·Memᴰ·head e))) (ap (λ (r : List Triple). u ∷ r) (remove-absent x us (λ m. n (List·Memᴰ·tail m))))
+    rw (same-no x u us (u ∷ remove x us) (λ e. n (List·Memᴰ·head e))) (ap (λ (r : List Triple). u ∷ r) (remove-absent x us (λ m. n (List·Memᴰ·tail m))))
 
 -- ---- lengths and tests
 

@@ -1,6 +1,6 @@
 -- The scan of a table's rows, row by row. Assumes nothing.
 use Prim.Native.Nat.{ℕ, zero, suc, _+_, _-_, _*_, _≤_, _<_}
-use mathlib.Core.Path.{_≡_, refl, sym}
+use mathlib.Core.Path.{_≡_, refl, sym, _∙_}
 use mathlib.Core.Bool.{Bool, true, false, _&&_, _||_}
 use mathlib.Core.List.{List, [], _∷_}
 use native.Mathlib.Nat.{add-zero}
@@ -11,9 +11,9 @@ use borrow.Author.Tests.{lt-ltb, le-ltb, eq-eqb, ne-eqb}
 use Rattle.spec.specs.declared.Triple.{Triple}
 use Rattle.spec.specs.Terms.{triple}
 use Rattle.spec.specs.Order.{isLess, isAscending}
-use Rattle.spec.specs.inside.Comparison.{Less, by-subject, by-property, by-object, triple-eq, less-irrefl, compareTriples}
-use Rattle.spec.proofs.Order.{less-asym, byOrder-elim}
-use Rattle.spec.proofs.Ascending.{less-isLess}
+use Rattle.spec.specs.inside.Comparison.{Less, by-subject, by-property, by-object, triple-eq, less-irrefl, Trichotomy, less, same, more, compareTriples}
+use Rattle.spec.proofs.Order.{less-asym}
+use Rattle.spec.proofs.Tests.{less-isLess, more-isLess, same-isLess, isLess-false}
 use Rattle.spec.specs.Tables.{tripleFrom, rowAt, firstRows}
 use Rattle.spec.specs.Lists.{all}
 use Rattle.spec.proofs.TableRows.{length-firstRows, getD-rowAt}
@@ -23,22 +23,19 @@ use Rattle.table_check.specs.inside.Allowed.{areRowsFrom}
 -- ---- a turn, over a list of rows
 
 asc-step : (ts : List Triple) (i : ℕ) (d : Triple) → suc i < length ts → isAscending (drop i ts) ≡ (isLess (getD ts i d) (getD ts (suc i) d) && isAscending (drop (suc i) ts))
-unfolding isAscending isAbove
+unfolding isAscending
 asc-step [] i d h = absurd (omega arith)
 asc-step (t ∷ []) i d h = absurd (omega arith)
 asc-step (t ∷ u ∷ ts) zero d h = refl
 asc-step (t ∷ u ∷ ts) (suc i) d h = asc-step (u ∷ ts) i d (omega arith)
 
 asc-end : (ts : List Triple) (i : ℕ) → length ts ≤ suc i → isAscending (drop i ts) ≡ true
-unfolding isAscending isAbove
+unfolding isAscending
 asc-end [] zero h = refl
 asc-end [] (suc i) h = refl
 asc-end (t ∷ []) zero h = refl
 asc-end (t ∷ u ∷ ts) zero h = absurd (omega arith)
 asc-end (t ∷ ts) (suc i) h = asc-end ts i (omega arith)
-
-not-isLess : (t u : Triple) → ¬ Less t u → isLess t u ≡ false
-not-isLess t u n = byOrder-elim (λ (b : Bool). b ≡ false) (compareTriples t u) (λ l. absurd (n l)) (λ _. refl) (λ _. refl)
 
 and-move : (a b c : Bool) → (a && (b && c)) ≡ (b && (a && c))
 and-move true b c = refl
@@ -90,7 +87,7 @@ module _ (test : Triple → Bool) (ws : List ℕ) (n : ℕ) where
   ascended i p h e l = rw (next-row i p h, e, less-isLess l)
 
   pub not-ascended : (i : ℕ) → 0 < i → i < n → ¬ Less (rowAt ws (i - 1)) (rowAt ws i) → areRowsFrom test ws n i ≡ false
-  not-ascended i p h l = rw (next-row i p h, not-isLess (rowAt ws (i - 1)) (rowAt ws i) l, and-false (test (rowAt ws i)))
+  not-ascended i p h l = rw (next-row i p h, isLess-false (rowAt ws (i - 1)) (rowAt ws i) l, and-false (test (rowAt ws i)))
 
 -- The rows from a on, in two parts: those up to b, k in number, and those from b on.
 in-parts : (test : Triple → Bool) (ws : List ℕ) (k a b n : ℕ) → 0 < a → a + k ≡ b → b ≤ n → areRowsFrom test ws n a ≡ (areRowsFrom test ws b a && areRowsFrom test ws n b)
@@ -157,4 +154,9 @@ tested-same : (x : Triple) → tested x x ≡ false
 tested-same x = rw (le-ltb (x .subject) (x .subject) (omega arith), eq-eqb (x .subject) (x .subject) refl, le-ltb (x .property) (x .property) (omega arith), eq-eqb (x .property) (x .property) refl, le-ltb (x .object) (x .object) (omega arith))
 
 pub tested-isLess : (x y : Triple) → tested x y ≡ isLess x y
-tested-isLess x y = byOrder-elim (λ (b : Bool). tested x y ≡ b) (compareTriples x y) (tested-less x y) (λ e. rw e (tested-same y)) (tested-more x y)
+tested-isLess x y = by (compareTriples x y)
+  where
+    by : Trichotomy x y → tested x y ≡ isLess x y
+    by (less l) = tested-less x y l ∙ sym (less-isLess l)
+    by (same e) = rw e (tested-same y) ∙ sym (same-isLess e)
+    by (more l) = tested-more x y l ∙ sym (more-isLess l)

@@ -4,8 +4,8 @@ use mathlib.Core.Path.{_≡_, refl, ap, _∙_}
 use mathlib.Core.List.{List, [], _∷_, _++_}
 use native.Mathlib.Omega.{arith}
 use Rattle.spec.specs.declared.Triple.{Triple}
-use Rattle.spec.specs.inside.Comparison.{Less, compareTriples, Above}
-use Rattle.spec.proofs.Order.{byOrder-elim, byOrder-less, byOrder-same, byOrder-more}
+use Rattle.spec.specs.inside.Comparison.{Less, Above}
+use Rattle.spec.proofs.Tests.{order-elim, order-less, order-same, order-more}
 use Rattle.spec.proofs.Ascending.{above-weaken}
 use Rattle.spec.specs.Saturation.{Kept, oneLess, lower, lowerAll, keptRows}
 use Rattle.update_kept.proofs.Less.{AllLess}
@@ -13,7 +13,7 @@ use Rattle.update_kept.proofs.Less.{AllLess}
 -- A kept fact below every row stays as it is,
 lower-past : (t : Triple) (e : Triple × ℕ) (k : Kept) → Less (e .0) t → lower t (e ∷ k) ≡ e ∷ lower t k
 unfolding lower
-lower-past t e k h = byOrder-more (compareTriples t (e .0)) _ _ _ h
+lower-past t e k h = order-more t (e .0) _ _ _ h
 
 pub lowerAll-past : (ts : List Triple) (e : Triple × ℕ) (k : Kept) → Above (e .0) ts → lowerAll ts (e ∷ k) ≡ e ∷ lowerAll ts k
 unfolding lowerAll
@@ -42,7 +42,7 @@ above-lower : (v t : Triple) (k : Kept) → Above v (keptRows k) → Above v (ke
 unfolding lower
 above-lower v t [] a = tt
 above-lower v t (e ∷ k) a =
-    byOrder-elim (λ (r : Kept). Above v (keptRows r)) (compareTriples t (e .0)) (λ _. a) (λ _. above-oneLess (e .0) (e .1) k (a .0) (a .1)) (λ _. (a .0, above-lower (e .0) t k (a .1)))
+    order-elim (λ (r : Kept). Above v (keptRows r)) t (e .0) (λ _. a) (λ _. above-oneLess (e .0) (e .1) k (a .0) (a .1)) (λ _. (a .0, above-lower (e .0) t k (a .1)))
 
 above-lowerAll : (v : Triple) (ts : List Triple) (k : Kept) → Above v (keptRows k) → Above v (keptRows (lowerAll ts k))
 unfolding lowerAll
@@ -52,7 +52,7 @@ above-lowerAll v (t ∷ ts) k a = above-lower v t (lowerAll ts k) (above-lowerAl
 lower-missing : (t : Triple) (k : Kept) → Above t (keptRows k) → lower t k ≡ k
 unfolding lower
 lower-missing t [] a = refl
-lower-missing t (e ∷ k) a = byOrder-less (compareTriples t (e .0)) _ _ _ (a .0)
+lower-missing t (e ∷ k) a = order-less t (e .0) _ _ _ (a .0)
 
 -- A row below every kept fact is missing.
 pub lowerAll-missing : (t : Triple) (ts : List Triple) (k : Kept) → Above t (keptRows k) → lowerAll (t ∷ ts) k ≡ lowerAll ts k
@@ -62,7 +62,7 @@ lowerAll-missing t ts k a = lower-missing t (lowerAll ts k) (above-lowerAll t ts
 -- The first kept fact is the first row: it has one support less,
 lower-first : (t : Triple) (n : ℕ) (k : Kept) → lower t ((t, n) ∷ k) ≡ oneLess t n k
 unfolding lower
-lower-first t n k = byOrder-same (compareTriples t t) _ _ _ refl
+lower-first t n k = order-same t t _ _ _ refl
 
 lowerAll-first : (t : Triple) (ts : List Triple) (n : ℕ) (k : Kept) → Above t ts → lowerAll (t ∷ ts) ((t, n) ∷ k) ≡ oneLess t n (lowerAll ts k)
 unfolding lowerAll

@@ -9,8 +9,8 @@ use lib.ListN.{length, take, drop, length-append, take-append-drop, drop-of-leng
 use lib.Seq.{drop-cons}
 use Rattle.spec.specs.declared.Triple.{Triple}
 use Rattle.spec.specs.Terms.{triple}
-use Rattle.spec.specs.Order.{insert}
-use Rattle.spec.specs.inside.Comparison.{less-irrefl, compareTriples, Above, Ascending}
+use Rattle.spec.specs.Order.{isLess, isSame, insert}
+use Rattle.spec.specs.inside.Comparison.{less-irrefl, Above, Ascending}
 use Rattle.spec.proofs.Ascending.{above-member, insert-asc, insert-old, insert-cases}
 use Rattle.table.specs.declared.Found.{Found}
 use Rattle.table.specs.declared.Found.the-variants.{At, Gap}
@@ -24,7 +24,7 @@ use Rattle.spec.proofs.Kept.{length-keptRows}
 use Rattle.update_kept.specs.inside.Entries.{Sought}
 use Rattle.update_kept.proofs.Less.{ascending-drop}
 use Rattle.update_raise.specs.inside.Raising.{absence}
-use Rattle.update_raise.proofs.Raise.{byOrder-map}
+use Rattle.update_raise.proofs.Raise.{tests-map}
 
 -- ---- the rows of kept facts raised
 
@@ -32,7 +32,7 @@ use Rattle.update_raise.proofs.Raise.{byOrder-map}
 pub raise-rows : (t : Triple) (k : Kept) → keptRows (raise t k) ≡ insert t (keptRows k)
 unfolding raise insert
 raise-rows t [] = refl
-raise-rows t (e ∷ k) = byOrder-map keptRows (compareTriples t (e .0)) refl refl (ap (λ (l : List Triple). e .0 ∷ l) (raise-rows t k))
+raise-rows t (e ∷ k) = tests-map keptRows (isLess t (e .0)) (isSame t (e .0)) refl refl (ap (λ (l : List Triple). e .0 ∷ l) (raise-rows t k))
 
 pub raiseAll-asc : (ts : List Triple) (k : Kept) → Ascending (keptRows k) → Ascending (keptRows (raiseAll ts k))
 unfolding raiseAll

@@ -1,12 +1,15 @@
 -- Rows raised from the last to the first, in a list of kept facts that is split where the pass stands. Assumes nothing.
 use Prim.Native.Nat.{ℕ, zero, suc, _+_, _-_, _≤_, _<_}
 use mathlib.Core.Path.{_≡_, refl, sym, ap, _∙_}
+use mathlib.Core.Bool.{Bool, true, false, cond}
 use mathlib.Core.List.{List, [], _∷_, _++_, append-assoc, append-nil}
 use native.Mathlib.Omega.{arith}
 use lib.ListN.{length, length-append}
 use Rattle.spec.specs.declared.Triple.{Triple}
-use Rattle.spec.specs.inside.Comparison.{Less, Trichotomy, less, same, more, compareTriples, byOrder, Above, Ascending}
-use Rattle.spec.proofs.Order.{less-trans, byOrder-less, byOrder-same, byOrder-more}
+use Rattle.spec.specs.inside.Comparison.{Less, Above, Ascending}
+use Rattle.spec.specs.Order.{isLess, isSame}
+use Rattle.spec.proofs.Order.{less-trans}
+use Rattle.spec.proofs.Tests.{order-less, order-same, order-more}
 use Rattle.spec.proofs.Ascending.{above-asc}
 use Rattle.table.specs.declared.Ordering.{Ordering}
 use Rattle.table.specs.declared.Ordering.the-variants.{Lower, Equal, Higher}
@@ -44,38 +47,37 @@ AllBefore ts (e ∷ d) = AllLess ts (e .0)
 
 -- ---- raise in a list of two parts
 
--- A choice by order, of what a function gives.
-pub byOrder-map : {t u : Triple} {A B : Type 0} (f : A → B) (d : Trichotomy t u) {x y z : A} {x' y' z' : B} → f x ≡ x' → f y ≡ y' → f z ≡ z' → f (byOrder d x y z) ≡ byOrder d x' y' z'
-unfolding byOrder
-byOrder-map f (less h) a b c = a
-byOrder-map f (same e) a b c = b
-byOrder-map f (more h) a b c = c
+-- A choice by two tests, of what a function gives.
+pub tests-map : {A B : Type 0} (f : A → B) (p q : Bool) {x y z : A} {x' y' z' : B} → f x ≡ x' → f y ≡ y' → f z ≡ z' → f (cond p x (cond q y z)) ≡ cond p x' (cond q y' z')
+tests-map f true q a b c = a
+tests-map f false true a b c = b
+tests-map f false false a b c = c
 
 -- A row less than the first of the second part is raised in the first part,
 raise-front : (t : Triple) (k d : Kept) → AllBefore (t ∷ []) d → raise t (k ++ d) ≡ raise t k ++ d
 unfolding raise
 raise-front t [] [] h = refl
-raise-front t [] (e ∷ d) h = byOrder-less (compareTriples t (e .0)) _ _ _ (h .0)
+raise-front t [] (e ∷ d) h = order-less t (e .0) _ _ _ (h .0)
 raise-front t (e ∷ k) d h =
     rw (raise-front t k d h)
-    (sym (byOrder-map (λ (r : Kept). r ++ d) (compareTriples t (e .0)) {x = (t, 1) ∷ e ∷ k} {y = (e .0, suc (e .1)) ∷ k} {z = e ∷ raise t k} refl refl refl))
+    (sym (tests-map (λ (r : Kept). r ++ d) (isLess t (e .0)) (isSame t (e .0)) {x = (t, 1) ∷ e ∷ k} {y = (e .0, suc (e .1)) ∷ k} {z = e ∷ raise t k} refl refl refl))
 
 -- and one that the first part is less than, in the second.
 raise-past : (t : Triple) (k d : Kept) → AllLess (keptRows k) t → raise t (k ++ d) ≡ k ++ raise t d
 unfolding raise
 raise-past t [] d h = refl
-raise-past t (e ∷ k) d h = byOrder-more (compareTriples t (e .0)) _ _ _ (h .0) ∙ ap (λ (r : Kept). e ∷ r) (raise-past t k d (h .1))
+raise-past t (e ∷ k) d h = order-more t (e .0) _ _ _ (h .0) ∙ ap (λ (r : Kept). e ∷ r) (raise-past t k d (h .1))
 
 -- The first kept fact is raised,
 raise-first : (t : Triple) (n : ℕ) (d : Kept) → raise t ((t, n) ∷ d) ≡ (t, suc n) ∷ d
 unfolding raise
-raise-first t n d = byOrder-same (compareTriples t t) _ _ _ refl
+raise-first t n d = order-same t t _ _ _ refl
 
 -- or the row enters before it.
 raise-new : (t : Triple) (d : Kept) → AllBefore (t ∷ []) d → raise t d ≡ (t, 1) ∷ d
 unfolding raise
 raise-new t [] h = refl
-raise-new t (e ∷ d) h = byOrder-less (compareTriples t (e .0)) _ _ _ (h .0)
+raise-new t (e ∷ d) h = order-less t (e .0) _ _ _ (h .0)
 
 raiseAll-snoc : (ts : List Triple) (t : Triple) (k : Kept) → raiseAll (ts ++ (t ∷ [])) k ≡ raiseAll ts (raise t k)
 unfolding raiseAll
