@@ -10,7 +10,7 @@ use borrow.Author.Tests.{eq-eqb, ne-eqb, eqb-false, not-true}
 use Rattle.spec.specs.declared.Triple.{Triple}
 use Rattle.spec.specs.Terms.{type, subClassOf, range, isLiteral, isVocabulary, triple}
 use Rattle.spec.specs.inside.Comparison.{triple-eq}
-use Rattle.spec.proofs.Lists.{flatMap-in, flatMap-out}
+use Rattle.spec.proofs.Lists.{select-in, select-out, flatMap-in, flatMap-out}
 use Rattle.spec.proofs.Ascending.{and-left, and-right}
 use Rattle.spec.specs.Rules.{Reach, stay, step}
 use Rattle.spec.specs.inside.Entailment.{NoVocabulary}
@@ -22,7 +22,7 @@ use Rattle.spec.specs.Alternatives.{IsAlternative, as-it-is, by-subclass, by-do
 use Rattle.spec.specs.Atoms.{admitsClass, admitsProperty, admits}
 use Rattle.spec.specs.Lists.{select}
 use Rattle.spec.specs.computed.Reformulated.{alternativesFrom}
-use Rattle.spec.proofs.Alternatives.{select-in, select-out, from-sound, from-complete}
+use Rattle.spec.proofs.Alternatives.{from-sound, from-complete}
 use Rattle.query_alternatives.specs.inside.Putting.{propertyFact, classFact, alternativeBy, admitsTarget, areEnds, qualifies, given}
 
 -- ---- vocabulary
