@@ -7,9 +7,9 @@ use Prim.Native.Nat.{ℕ}
 use Rattle.spec.specs.Terms.{isUri, isBlank, isLiteral, isVocabulary, isTriple, isStatement, areSidesAllowed, isAllowedStatement, isAllowedFact}
 use Rattle.spec.specs.Refusals.{firstNo}
 use Rattle.spec.specs.Order.{compareNumbers, compareTriples, equalTriples, choose, byOrder, isAbove, isAscending, insert, remove, ascend}
-use Rattle.spec.specs.Tables.{capacity, firstRows, rows, flatten, layout, areZero, all, isTable, isSupportTable, supportLayout, isStore, contentsOf, keptOf, put}
+use Rattle.spec.specs.Tables.{capacity, firstRows, rows, flatten, layout, areZero, all, isTable, isSupportTable, supportLayout, areFormed, contentsOf, keptOf, put}
 use Rattle.spec.specs.Saturation.{isIn, add, addAll, keep, leaves, pull, afterPull, explore, spread, reach, objects, properties, subjectClasses, objectClasses, conclusions, carried, raise, raiseAll, saturation}
-use Rattle.spec.specs.Updates.{withTriple, isThere, isBelowCapacity, isKeptFitting, decide, add as addition}
+use Rattle.spec.specs.Updates.{isMember, changed, applying, isChange, isAdmitted, settle, keptAfter, contentsAfter, isKeptFitting, update}
 use Rattle.spec.specs.Deliveries.{short, word, entriesFrom, sectionEnd, sectionStart, fieldEnd, fieldsFrom, fieldsEnd, numberFields, read, isWhole, areSectionsRight, isNumberRight, numberOf, tallied, runEntry, runEntries, runMessage, conclude, deliver}
 use Rattle.report.specs.Text.{digits, decimal, resultLine, rowsLine, rowLine, rowLines, reportText, refusalText, outcomeText, response}
 
@@ -32,5 +32,5 @@ workedText =
     51 ∷ 32 ∷ 49 ∷ 32 ∷ 49 ∷ 55 ∷ 32 ∷ 49 ∷ 10 ∷ 51 ∷ 51 ∷ 32 ∷ 49 ∷ 32 ∷ 49 ∷ 56 ∷ 32 ∷ 49 ∷ 10 ∷ []
 
 pub worked : response workedDelivery ≡ workedText
-unfolding zip zipWith Dec·and ℕ-discrete decLt isUri isBlank isLiteral isVocabulary isTriple isStatement areSidesAllowed isAllowedStatement isAllowedFact firstNo compareNumbers compareTriples equalTriples choose byOrder isAbove isAscending insert remove ascend capacity firstRows rows flatten layout areZero all isTable isSupportTable supportLayout isStore isIn add addAll keep leaves pull afterPull explore spread reach objects properties subjectClasses objectClasses conclusions carried raise raiseAll saturation contentsOf keptOf put withTriple isThere isBelowCapacity isKeptFitting decide addition short word entriesFrom sectionEnd sectionStart fieldEnd fieldsFrom fieldsEnd numberFields read isWhole areSectionsRight isNumberRight numberOf tallied runEntry runEntries runMessage conclude deliver digits decimal resultLine rowsLine rowLine rowLines reportText refusalText outcomeText response
+unfolding zip zipWith Dec·and ℕ-discrete decLt isUri isBlank isLiteral isVocabulary isTriple isStatement areSidesAllowed isAllowedStatement isAllowedFact firstNo compareNumbers compareTriples equalTriples choose byOrder isAbove isAscending insert remove ascend capacity firstRows rows flatten layout areZero all isTable isSupportTable supportLayout areFormed isIn add addAll keep leaves pull afterPull explore spread reach objects properties subjectClasses objectClasses conclusions carried raise raiseAll saturation contentsOf keptOf put isMember changed applying isChange isAdmitted settle keptAfter contentsAfter isKeptFitting update short word entriesFrom sectionEnd sectionStart fieldEnd fieldsFrom fieldsEnd numberFields read isWhole areSectionsRight isNumberRight numberOf tallied runEntry runEntries runMessage conclude deliver digits decimal resultLine rowsLine rowLine rowLines reportText refusalText outcomeText response
 worked = refl

@@ -13,6 +13,5 @@ pub mod Alternatives
 pub mod Deliveries
 pub mod Ledger
 pub mod Demand3
-pub mod Runs
 pub mod Exported
 pub mod inside

@@ -1,5 +1,5 @@
 -- A store that was lent, and not grown, can be spoiled by the withdrawal of a fact, and by no other update (`add-formed` and
--- `withdraw-statement-formed` of Laws). Assumes nothing.
+-- `statement-formed` of Laws). Assumes nothing.
 use mathlib.Core.Path.{_≡_, refl}
 use mathlib.Core.Bool.{true, false}
 use mathlib.Core.List.{[], _∷_, zip, zipWith}
@@ -9,10 +9,10 @@ use Rattle.spec.specs.declared.Triple.{Triple}
 use Rattle.spec.specs.Terms.{isUri, isBlank, isLiteral, isVocabulary, triple, isTriple, isStatement, areSidesAllowed, isAllowedStatement, isAllowedFact}
 use Rattle.spec.specs.Refusals.{firstNo}
 use Rattle.spec.specs.Order.{compareNumbers, compareTriples, equalTriples, choose, byOrder, isAbove, isAscending, insert, remove, ascend}
-use Rattle.spec.specs.Tables.{capacity, firstRows, rows, flatten, layout, areZero, all, isTable, isSupportTable, supportLayout, isStore, Tables, tables, areFormed, contentsOf, keptOf, put}
+use Rattle.spec.specs.Tables.{capacity, firstRows, rows, flatten, layout, areZero, all, isTable, isSupportTable, supportLayout, Tables, tables, areFormed, contentsOf, keptOf, put}
 use Rattle.spec.specs.Saturation.{isIn, add, addAll, keep, leaves, pull, afterPull, explore, spread, reach, objects, properties, subjectClasses, objectClasses, conclusions, carried, oneLess, lower, lowerAll}
 use Rattle.spec.specs.declared.Answer.the-variants.{Applied}
-use Rattle.spec.specs.Updates.{withoutTriple, isThere, isKeptFitting, decide, withdraw}
+use Rattle.spec.specs.Updates.{isMember, changed, applying, isChange, isAdmitted, settle, keptAfter, contentsAfter, isKeptFitting, update, withdraw}
 
 -- The fact that is withdrawn.
 abbrev pub second : Triple
@@ -24,6 +24,6 @@ abbrev pub lent : Tables
 lent = tables (0 ∷ []) (2 ∷ 32 ∷ 19 ∷ 33 ∷ 40 ∷ 19 ∷ 41 ∷ []) (2 ∷ 32 ∷ 19 ∷ 33 ∷ 40 ∷ 19 ∷ 41 ∷ []) (2 ∷ 1 ∷ [])
 
 -- They are well formed; the withdrawal of the second fact is applied; the first keeps support 2 with one fact left.
-pub withdrawal-can-spoil : (areFormed lent ≡ true) × (withdraw lent second .answer ≡ Applied) × (areFormed (withdraw lent second .after) ≡ false)
-unfolding zip zipWith Dec·and ℕ-discrete decLt isUri isBlank isLiteral isVocabulary isTriple isStatement areSidesAllowed isAllowedStatement isAllowedFact firstNo compareNumbers compareTriples equalTriples choose byOrder isAbove isAscending insert remove ascend capacity firstRows rows flatten layout areZero all isTable isSupportTable supportLayout isStore isIn add addAll keep leaves pull afterPull explore spread reach objects properties subjectClasses objectClasses conclusions carried oneLess lower lowerAll contentsOf keptOf put withoutTriple isThere isKeptFitting decide withdraw
+pub withdrawal-can-spoil : (areFormed lent ≡ true) × (withdraw lent second .0 ≡ Applied) × (areFormed (withdraw lent second .1) ≡ false)
+unfolding zip zipWith Dec·and ℕ-discrete decLt isUri isBlank isLiteral isVocabulary isTriple isStatement areSidesAllowed isAllowedStatement isAllowedFact firstNo compareNumbers compareTriples equalTriples choose byOrder isAbove isAscending insert remove ascend capacity firstRows rows flatten layout areZero all isTable isSupportTable supportLayout areFormed isIn add addAll keep leaves pull afterPull explore spread reach objects properties subjectClasses objectClasses conclusions carried oneLess lower lowerAll contentsOf keptOf put isMember changed applying isChange isAdmitted settle keptAfter contentsAfter isKeptFitting update
 withdrawal-can-spoil = (refl, refl, refl)
