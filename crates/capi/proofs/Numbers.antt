@@ -7,12 +7,12 @@ use Rattle.spec.specs.declared.Reply.the-variants.{Rows, Refused}
 use Rattle.spec.specs.Outputs.{Replied, replied, replyNumber, replyCount}
 use Rattle.spec.specs.declared.Answer.{Answer}
 use Rattle.spec.specs.Tables.{Tables}
-use Rattle.spec.specs.Updates.{Outcome, outcome, answerNumber}
+use Rattle.spec.specs.Updates.{outcome, answerNumber}
 use Rattle.spec.specs.declared.Delivered.{Delivered}
 use Rattle.spec.specs.Exported.{updated, numberedOutcome, received, resultWords, numberedDelivery, listed, numberedReply}
 
 -- An update's number and tables are those of its outcome.
-pub update-numbered : (a : Answer) (n : ℕ) (T : Tables) (o : Outcome) → n ≡ answerNumber a → outcome a T ≡ o → updated n T ≡ numberedOutcome o
+pub update-numbered : (a : Answer) (n : ℕ) (T : Tables) (o : Answer × Tables) → n ≡ answerNumber a → outcome a T ≡ o → updated n T ≡ numberedOutcome o
 update-numbered a n T o e h = rw e (ap numberedOutcome h)
 
 -- A reply's number, count and words are those of what was replied.

@@ -3,13 +3,15 @@ use delivery_section::add_section;
 use delivery_section::run_section;
 use delivery_section::withdrawals::withdraw_facts;
 use delivery_tally::none;
+use spec::Change;
 use spec::Delivered;
 use spec::Tally;
 ghost use mathlib.Core.Path.{_≡_};
 ghost use mathlib.Core.Bool.{true};
 ghost use Rattle.spec.specs.inside.Laid.{FormedStore};
 ghost use Rattle.spec.specs.Tables.{tables};
-ghost use Rattle.spec.specs.Deliveries.{read, isWhole, areSectionsRight, tally, addition, withdrawal, progress, runMessage, delivered, deliver};
+ghost use Rattle.spec.specs.Updates.{update};
+ghost use Rattle.spec.specs.Deliveries.{read, isWhole, areSectionsRight, tally, progress, runMessage, delivered, deliver};
 
 // Runs the four sections of a whole delivery, whose entries are right for them, over a well-formed store: statements withdrawn,
 // facts withdrawn, statements added, facts added.
@@ -23,9 +25,18 @@ fn run_message(
     requires { ⌜ FormedStore (now statements) (now facts) (now kept) (now supports) ⌝ }
     requires { ⌜ isWhole (now bytes) ≡ true ⌝ }
     requires { ⌜ areSectionsRight (read (now bytes)) ≡ true ⌝ }
-    ensures { λ r. ⌜ progress (tables (now (statements .exit)) (now (facts .exit)) (now (kept .exit)) (now (supports .exit))) r ≡ runMessage addition withdrawal (read (now (bytes .entry))) (progress (tables (now (statements .entry)) (now (facts .entry)) (now (kept .entry)) (now (supports .entry))) (tally 0 0 0)) ⌝ }
+    ensures { λ r. ⌜ progress (tables (now (statements .exit)) (now (facts .exit)) (now (kept .exit)) (now (supports .exit))) r ≡ runMessage update (read (now (bytes .entry))) (progress (tables (now (statements .entry)) (now (facts .entry)) (now (kept .entry)) (now (supports .entry))) (tally 0 0 0)) ⌝ }
 {
-    let first = run_section(statements, facts, kept, supports, bytes, 0, false, none());
+    let first = run_section(
+        statements,
+        facts,
+        kept,
+        supports,
+        bytes,
+        0,
+        Change::Withdrawal,
+        none(),
+    );
     let second = withdraw_facts(statements, facts, kept, supports, bytes, 1, first);
     let formed = second.formed;
     let counted = second.counted;

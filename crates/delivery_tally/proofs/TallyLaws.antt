@@ -6,7 +6,8 @@ use native.Mathlib.Omega.{arith}
 use Rattle.spec.specs.declared.Answer.{Answer}
 use Rattle.spec.specs.declared.Answer.the-variants.{Applied, Idle, Refused}
 use Rattle.spec.specs.declared.Tally.{Tally}
-use Rattle.spec.specs.Deliveries.{tally, tallied, total}
+use Rattle.spec.specs.Deliveries.{tally, tallied}
+use Rattle.delivery_tally.specs.inside.Totals.{total}
 
 -- Each answer is one entry more,
 pub tallied-total : (a : Answer) (y : Tally) → total (tallied a y) ≡ suc (total y)

@@ -3,7 +3,8 @@ use spec::Answer;
 use spec::Tally;
 ghost use mathlib.Core.Path.{_≡_};
 ghost use Prim.Native.Nat.{_+_, _^_, _<_};
-ghost use Rattle.spec.specs.Deliveries.{tally, tallied, total};
+ghost use Rattle.spec.specs.Deliveries.{tally, tallied};
+ghost use Rattle.delivery_tally.specs.inside.Totals.{total};
 
 // No entry as yet.
 pub fn none() -> Tally

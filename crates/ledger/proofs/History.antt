@@ -6,7 +6,7 @@ use mathlib.Core.Logic.{_↔_}
 use mathlib.Core.List.{List, List·Memᴰ}
 use lib.ListN.{length, length-replicate}
 use Rattle.spec.specs.declared.Triple.{Triple}
-use Rattle.spec.specs.Tables.{rows, layout, supportLayout, Tables, tables, contentsOf}
+use Rattle.spec.specs.Tables.{rows, layout, supportLayout, Tables, tables, capacitiesOf, Ledger, Contents, contentsOf}
 use Rattle.spec.specs.inside.Laid.{FormedStore}
 use Rattle.spec.proofs.TableFormed.{wellFormed-isTable}
 use Rattle.table.proofs.Store.{isStore-formed}
@@ -20,11 +20,11 @@ use Rattle.store.proofs.Fitting.{formed-fitting, supports-are}
 use Rattle.store.proofs.Laws.{Saturated, empty-sound, empty-contents}
 use Rattle.spec.specs.Questions.{rewrittenGraph, ask, askKept, askRewritten}
 use Rattle.spec.proofs.AnswerLaws.{rewritten-graph, kept-rewritten}
-use Rattle.spec.specs.Ledger.{Call, capacities, Ledger, empty, ledgerEntries}
+use Rattle.spec.specs.Ledger.{Call, empty, ledgerEntries}
 use Rattle.spec.specs.Demand3.{storeEntries, emptyStore, storeRun, ledgerRun, graphOf, Replies, Demand3}
 use Rattle.ledger.proofs.Alike.{RunsAlike, calls-alike}
-use Rattle.ledger.proofs.Agreement.{held, Agrees, entries-agree}
-use Rattle.spec.proofs.LedgerSets.{Allowed, rows-follow, rows-supported, fits-by, entering-allowed, leaving-allowed}
+use Rattle.ledger.proofs.Agreement.{Agrees, entries-agree}
+use Rattle.spec.proofs.LedgerSets.{Allowed, rows-follow, rows-supported, fits-by, applying-allowed}
 use Rattle.spec.proofs.Replying.{asked-replies}
 
 -- ---- the runs
@@ -37,12 +37,12 @@ empty-agrees s f k u h i j = record {
   fact-words = length-replicate f 0;
   kept-words = length-replicate k 0;
   places = length-replicate u 0;
-  is = ap held (sym (empty-contents s f k u h i j));
+  is = ap (λ (c : Contents). c .explicit) (sym (empty-contents s f k u h i j));
 }
 
 -- and so every list of calls gives the same in both, and leaves them agreeing.
 pub runs-alike : (s f k u : ℕ) → 0 < s → 0 < f → 0 < k → (cs : List Call) → RunsAlike (Agrees s f k u) (storeRun s f k u cs) (ledgerRun s f k u cs)
-runs-alike s f k u h i j cs = calls-alike (Agrees s f k u) storeEntries (ledgerEntries (capacities s f k u)) (entries-agree s f k u) cs (emptyStore s f k u) empty (empty-agrees s f k u h i j)
+runs-alike s f k u h i j cs = calls-alike (Agrees s f k u) storeEntries (ledgerEntries (capacitiesOf (emptyStore s f k u))) (entries-agree s f k u) cs (emptyStore s f k u) empty (empty-agrees s f k u h i j)
 
 -- ---- the words
 
@@ -83,9 +83,7 @@ run-words s f k u h i j cs = words-laid s f k u (storeRun s f k u cs .after) (le
 
 -- The sets of a ledger that agrees with tables ascend and hold allowed rows alone.
 agrees-allowed : {s f k u : ℕ} (T : Tables) (L : Ledger) → Agrees s f k u T L → Allowed L
-agrees-allowed T L A =
-    let X = formed-fitting T (A .sound .formed) in
-    rw (A .is) (record { statements-ascend = X .statements-ascend; facts-ascend = X .facts-ascend; statements-allowed = X .statements-allowed; facts-allowed = X .facts-allowed })
+agrees-allowed T L A = rw (A .is) (formed-fitting T (A .sound .formed) .sets)
 
 -- ---- the questions
 
@@ -134,8 +132,7 @@ history s f k u h i j cs =
       supports = keptSupports (saturation (L .statements) (L .facts));
       supports-count = rows-supported A;
       words = run-words s f k u h i j cs;
-      addition-fits = λ t e. fits-by (entering-allowed t L A e) (capacities s f k u);
-      withdrawal-fits = λ t e. fits-by (leaving-allowed t L A) (capacities s f k u);
+      fits = λ d t e. fits-by (applying-allowed d t L A e) (capacitiesOf (emptyStore s f k u));
       kept-way = λ q len. subst (Replies (Follows (graphOf L)) q len) (sym (kept-asks (R .leaves) q len)) (asks-replies (R .leaves) q len);
       rewritten-way = λ q len. subst (Replies (Follows (graphOf L)) q len) (sym (rewritten-asks (R .leaves) q len)) (asks-replies (R .leaves) q len);
     }

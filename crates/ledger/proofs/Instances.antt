@@ -1,11 +1,14 @@
 -- The worked list of calls in the store: its answers and words by demand 3, and a question put after it by both ways. Assumes nothing.
+use Prim.Native.Nat.{ℕ}
 use mathlib.Core.Path.{_≡_, refl, ap, _∙_}
+use mathlib.Core.List.{List, [], _∷_, _++_}
 use native.Mathlib.Omega.{arith}
 use Rattle.spec.specs.Rules.{Follows}
-use Rattle.spec.specs.Tables.{flatten, layout, supportLayout}
-use Rattle.spec.specs.Ledger.{Ledger, Run, run}
+use Rattle.spec.specs.Tables.{flatten, layout, supportLayout, Ledger}
+use Rattle.spec.specs.Ledger.{Run, run}
 use Rattle.spec.specs.Demand3.{storeRun, graphOf, Replies, Demand3}
-use Rattle.spec.proofs.Worked.{compute, workedCalls, workedAnswers, workedLedger, workedTables, worked-ledger, workedQuestion, workedReply, worked-kept, worked-rewritten}
+use Rattle.spec.proofs.Worked.{compute, workedDelivery, brokenDelivery, workedCalls, workedAnswers, workedLedger, workedTables, worked-ledger, workedQuestion, workedReply, worked-kept, worked-rewritten}
+use Rattle.ledger.specs.inside.Runs.{callOf, callsFrom, encoded}
 use Rattle.ledger.proofs.History.{laidOut, run-words, history}
 
 -- The ledger's words, by computation.
@@ -31,3 +34,26 @@ worked-kept-way = rw worked-kept at (worked-claim .kept-way workedQuestion 8)
 
 pub worked-rewritten-way : Replies (Follows (graphOf workedLedger)) workedQuestion 8 workedReply
 worked-rewritten-way = rw worked-rewritten at (worked-claim .rewritten-way workedQuestion 8)
+
+-- ---- the calls as words
+
+-- The same calls, encoded: their words, and the bytes of the two deliveries one after the other.
+abbrev pub workedWords : List ℕ
+workedWords =
+    0 ∷ 16 ∷ 2 ∷ 17
+    ∷ 0 ∷ 32 ∷ 1 ∷ 16
+    ∷ 0 ∷ 32 ∷ 1 ∷ 16
+    ∷ 0 ∷ 16 ∷ 2 ∷ 17
+    ∷ 0 ∷ 0 ∷ 1 ∷ 16
+    ∷ 0 ∷ 16 ∷ 2 ∷ 1
+    ∷ 0 ∷ 17 ∷ 2 ∷ 18
+    ∷ 0 ∷ 33 ∷ 1 ∷ 16
+    ∷ 1 ∷ 40 ∷ 19 ∷ 41
+    ∷ 2 ∷ 0 ∷ 59 ∷ 0
+    ∷ 2 ∷ 59 ∷ 23 ∷ 0
+    ∷ 1 ∷ 32 ∷ 19 ∷ 33
+    ∷ []
+
+pub worked-encoded : encoded workedWords (workedDelivery ++ brokenDelivery) ≡ workedCalls
+unfolding callOf callsFrom
+worked-encoded = refl

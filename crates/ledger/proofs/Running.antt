@@ -10,12 +10,14 @@ use Rattle.spec.specs.Terms.{triple}
 use Rattle.spec.proofs.Lists.{le-or}
 use Rattle.spec.specs.declared.Answer.{Answer}
 use Rattle.spec.specs.Tables.{Tables, tables}
-use Rattle.spec.specs.Updates.{Outcome, outcome, add, withdraw}
+use Rattle.spec.specs.declared.Change.{Change}
+use Rattle.spec.specs.declared.Change.the-variants.{Addition, Withdrawal}
+use Rattle.spec.specs.Updates.{update}
 use Rattle.spec.specs.declared.Delivered.{Delivered}
 use Rattle.spec.specs.Deliveries.{deliver}
 use Rattle.spec.specs.Ledger.{Given, answered, resulted, call, calls}
 use Rattle.spec.specs.Demand3.{storeEntries, emptyStore, storeRun}
-use Rattle.spec.specs.Runs.{callOf, callsFrom, encoded, givenWords, replyWords, wordedCall, Runnable, Ran}
+use Rattle.ledger.specs.inside.Runs.{changeOf, callOf, callsFrom, encoded, givenWords, replyWords, wordedCall, Runnable, Ran}
 use Rattle.ledger.proofs.History.{history}
 
 -- ---- parts of bytes
@@ -50,22 +52,29 @@ part-delivered T T' r xs a b start n e f h = h ∙ ap (deliver T) (part-is xs a 
 
 -- ---- one call
 
--- A call of kind 0 is an addition,
-pub call-added : (bytes : List ℕ) (kind a b c : ℕ) (T T' : Tables) (r : Answer) (ws : List ℕ) → kind ≡ 0 → ws ≡ givenWords (answered r) → outcome r T' ≡ add T (triple a b c) → (ws, T') ≡ wordedCall T (callOf bytes kind a b c)
-unfolding wordedCall callOf call
-call-added bytes kind a b c T T' r ws e w h = rw (e, w) (ap (λ (o : Outcome). (givenWords (answered (o .answer)), o .after)) h)
+-- The update that kind 0 asks for, and kind 1.
+pub addition-of : (kind : ℕ) → kind ≡ 0 → Addition ≡ changeOf kind
+unfolding changeOf
+addition-of kind e = rw e refl
 
--- one of kind 1 a withdrawal,
-pub call-withdrawn : (bytes : List ℕ) (kind a b c : ℕ) (T T' : Tables) (r : Answer) (ws : List ℕ) → kind ≡ 1 → ws ≡ givenWords (answered r) → outcome r T' ≡ withdraw T (triple a b c) → (ws, T') ≡ wordedCall T (callOf bytes kind a b c)
-unfolding wordedCall callOf call
-call-withdrawn bytes kind a b c T T' r ws e w h = rw (e, w) (ap (λ (o : Outcome). (givenWords (answered (o .answer)), o .after)) h)
+pub withdrawal-of : (kind : ℕ) → (kind ≡ 0 → ⊥) → Withdrawal ≡ changeOf kind
+unfolding changeOf
+withdrawal-of zero n = absurd (n refl)
+withdrawal-of (suc kind) n = refl
+
+-- A call of kind 0 or 1 is an update,
+pub call-updated : (bytes : List ℕ) (kind a b c : ℕ) (T T' : Tables) (d : Change) (r : Answer) (ws : List ℕ) → kind ≤ 1 → d ≡ changeOf kind → ws ≡ givenWords (answered r) → (r, T') ≡ update d T (triple a b c) → (ws, T') ≡ wordedCall T (callOf bytes kind a b c)
+unfolding wordedCall callOf call changeOf
+call-updated bytes zero a b c T T' d r ws l e w h = rw w (ap (λ (o : Answer × Tables). (givenWords (answered (o .0)), o .1)) (rw e at h))
+call-updated bytes (suc zero) a b c T T' d r ws l e w h = rw w (ap (λ (o : Answer × Tables). (givenWords (answered (o .0)), o .1)) (rw e at h))
+call-updated bytes (suc (suc kind)) a b c T T' d r ws l e w h = absurd (omega arith)
 
 -- and any other a delivery.
-pub call-delivered : (bytes : List ℕ) (kind a b c : ℕ) (T T' : Tables) (r : Delivered) (ws : List ℕ) → (kind ≡ 0 → ⊥) → (kind ≡ 1 → ⊥) → ws ≡ givenWords (resulted r) → (r, T') ≡ deliver T (take b (drop a bytes)) → (ws, T') ≡ wordedCall T (callOf bytes kind a b c)
+pub call-delivered : (bytes : List ℕ) (kind a b c : ℕ) (T T' : Tables) (r : Delivered) (ws : List ℕ) → 1 < kind → ws ≡ givenWords (resulted r) → (r, T') ≡ deliver T (take b (drop a bytes)) → (ws, T') ≡ wordedCall T (callOf bytes kind a b c)
 unfolding wordedCall callOf call
-call-delivered bytes zero a b c T T' r ws f g w h = absurd (f refl)
-call-delivered bytes (suc zero) a b c T T' r ws f g w h = absurd (g refl)
-call-delivered bytes (suc (suc kind)) a b c T T' r ws f g w h = rw w (ap (λ (o : Delivered × Tables). (givenWords (resulted (o .0)), o .1)) h)
+call-delivered bytes zero a b c T T' r ws l w h = absurd (omega arith)
+call-delivered bytes (suc zero) a b c T T' r ws l w h = absurd (omega arith)
+call-delivered bytes (suc (suc kind)) a b c T T' r ws l w h = rw w (ap (λ (o : Delivered × Tables). (givenWords (resulted (o .0)), o .1)) h)
 
 -- ---- replies
 

@@ -5,12 +5,12 @@ use Prim.Native.Nat.{ℕ}
 use Rattle.spec.specs.Terms.{isUri, isBlank, isLiteral, isVocabulary, isTriple, isStatement, areSidesAllowed, isAllowedStatement, isAllowedFact}
 use Rattle.spec.specs.Refusals.{firstNo}
 use Rattle.spec.specs.Order.{isSame, isAscending, insert, remove, ascend}
-use Rattle.spec.specs.Tables.{capacity, firstRows, rows, flatten, layout, areZero, isTable, isSupportTable, supportLayout, isStore, contentsOf, keptOf, put}
+use Rattle.spec.specs.Tables.{capacity, firstRows, rows, flatten, layout, areZero, isTable, isSupportTable, supportLayout, contentsOf, keptOf, put, areFormed}
 use Rattle.spec.specs.Lists.{all, any, select}
 use Rattle.spec.specs.Rows.{less}
 use Rattle.spec.specs.Saturation.{raise, raiseAll, saturation}
 use Rattle.spec.specs.computed.Carried.{leaves, steps, spread, reach, objects, properties, subjectClasses, objectClasses, conclusions, carried}
-use Rattle.spec.specs.Updates.{withTriple, isThere, isBelowCapacity, isKeptFitting, decide, add as addition}
+use Rattle.spec.specs.Updates.{isKeptFitting, isMember, changed, applying, isChange, isAdmitted, settle, keptAfter, contentsAfter, update}
 use Rattle.spec.specs.Deliveries.{short, word, entriesFrom, sectionEnd, sectionStart, fieldEnd, fieldsFrom, fieldsEnd, numberFields, read, isWhole, areSectionsRight, isNumberRight, numberOf, tallied, runEntry, runEntries, runMessage, conclude, deliver}
 use Rattle.report.specs.Text.{digits, decimal, resultLine, rowsLine, rowLine, rowLines, reportText, refusalText, outcomeText, response}
 
@@ -33,5 +33,5 @@ workedText =
     51 ∷ 32 ∷ 49 ∷ 32 ∷ 49 ∷ 55 ∷ 32 ∷ 49 ∷ 10 ∷ 51 ∷ 51 ∷ 32 ∷ 49 ∷ 32 ∷ 49 ∷ 56 ∷ 32 ∷ 49 ∷ 10 ∷ []
 
 pub worked : response workedDelivery ≡ workedText
-unfolding zip zipWith isUri isBlank isLiteral isVocabulary isTriple isStatement areSidesAllowed isAllowedStatement isAllowedFact firstNo any select less isSame isAscending insert remove ascend capacity firstRows rows flatten layout areZero all isTable isSupportTable supportLayout isStore leaves steps spread reach objects properties subjectClasses objectClasses conclusions carried raise raiseAll saturation contentsOf keptOf put withTriple isThere isBelowCapacity isKeptFitting decide addition short word entriesFrom sectionEnd sectionStart fieldEnd fieldsFrom fieldsEnd numberFields read isWhole areSectionsRight isNumberRight numberOf tallied runEntry runEntries runMessage conclude deliver digits decimal resultLine rowsLine rowLine rowLines reportText refusalText outcomeText response
+unfolding zip zipWith isUri isBlank isLiteral isVocabulary isTriple isStatement areSidesAllowed isAllowedStatement isAllowedFact firstNo any select less isSame isAscending insert remove ascend capacity firstRows rows flatten layout areZero all isTable isSupportTable supportLayout leaves steps spread reach objects properties subjectClasses objectClasses conclusions carried raise raiseAll saturation contentsOf keptOf put isKeptFitting short word entriesFrom sectionEnd sectionStart fieldEnd fieldsFrom fieldsEnd numberFields read isWhole areSectionsRight isNumberRight numberOf tallied runEntry runEntries runMessage conclude deliver digits decimal resultLine rowsLine rowLine rowLines reportText refusalText outcomeText response areFormed isMember changed applying isChange isAdmitted settle keptAfter contentsAfter update
 worked = refl

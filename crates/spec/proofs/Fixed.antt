@@ -9,11 +9,11 @@ use Rattle.spec.specs.declared.Triple.{Triple}
 use Rattle.spec.proofs.Lists.{true-not-false}
 use Rattle.spec.proofs.Ascending.{ascending-ext, isAscending-iff}
 use Rattle.spec.proofs.OrderedRows.{ordered-ext}
-use Rattle.spec.specs.Tables.{layout, supportLayout, Tables, tables}
+use Rattle.spec.specs.Tables.{layout, supportLayout, Tables, tables, Ledger}
 use Rattle.spec.specs.declared.Reply.the-variants.{Rows}
 use Rattle.spec.specs.Outputs.{Replied, replied, filled}
 use Rattle.spec.specs.Questions.{headCount, isQuestion, isHeadBound, askKept, askRewritten}
-use Rattle.spec.specs.Ledger.{Ledger, Run, run}
+use Rattle.spec.specs.Ledger.{Run, run}
 use Rattle.spec.specs.Demand3.{FactsFrom, CarriersOf, Supported, none, row, RowsOf, Replies, refused-6, refused-7, given, refused-8, Demand3}
 
 -- ---- the tables

@@ -9,7 +9,6 @@ use native.Mathlib.Omega.{arith}
 use lib.ListN.{length}
 use Rattle.spec.specs.declared.Triple.{Triple}
 use Rattle.spec.specs.Terms.{isTriple, isStatement, areSidesAllowed, isAllowedStatement, isAllowedFact}
-use Rattle.spec.specs.Order.{insert}
 use Rattle.spec.specs.inside.Comparison.{Ascending}
 use Rattle.spec.specs.Refusals.{firstNo, tripleQuestions}
 use Rattle.spec.proofs.Lists.{by-test}
@@ -22,7 +21,11 @@ use Rattle.spec.proofs.Follows.{follows-fact-iff}
 use Rattle.spec.proofs.Computed.{carriers-are}
 use Rattle.spec.proofs.Kept.{length-keptRows, lookup-entry}
 use Rattle.spec.proofs.Saturation.{saturation-counts, saturation-support, support-is, saturation-kept, saturation-ascends}
-use Rattle.spec.specs.Ledger.{Capacities, Ledger, entering, leaving, isFitting}
+use Rattle.spec.specs.Ledger.{isFitting}
+use Rattle.spec.specs.Tables.{Capacities, Ledger}
+use Rattle.spec.specs.declared.Change.{Change}
+use Rattle.spec.specs.declared.Change.the-variants.{Addition, Withdrawal}
+use Rattle.spec.specs.Updates.{changed, applying}
 use Rattle.spec.specs.Demand3.{graphOf, FactsFrom, CarriersOf, Supported, none, row, FitsBy}
 
 -- Both sets ascend and hold allowed rows alone.
@@ -89,42 +92,32 @@ passed-fact : (t : Triple) → firstNo (tripleQuestions t) ≡ 0 → isStatement
 unfolding isAllowedFact
 passed-fact t e s = let p = passed (isTriple t) (cond (isStatement t) (areSidesAllowed t) true) e in rw (p .0, s) refl
 
--- A test that each row of a set and t pass, each row of the set with t passes.
-insert-passes : (test : Triple → Bool) (t : Triple) (F : List Triple) → test t ≡ true → ((u : Triple) → List·Memᴰ u F → test u ≡ true) → (u : Triple) → List·Memᴰ u (insert t F) → test u ≡ true
-insert-passes test t F e h u m = ⊎-elim (λ (q : u ≡ t). rw q e) (h u) (insert-cases t F m)
+-- A set that ascends does so after an update,
+changed-ascends : (d : Change) (t : Triple) (F : List Triple) → Ascending F → Ascending (changed d t F)
+unfolding changed
+changed-ascends Addition t F a = insert-asc t F a
+changed-ascends Withdrawal t F a = remove-asc t F a
 
--- Such a triple entering keeps the sets allowed,
-pub entering-allowed : (t : Triple) (L : Ledger) → Allowed L → firstNo (tripleQuestions t) ≡ 0 → Allowed (entering t L)
-unfolding entering
-entering-allowed t L A e =
+-- and a test that each of its rows and t pass, each row after it passes.
+changed-passes : (d : Change) (test : Triple → Bool) (t : Triple) (F : List Triple) → test t ≡ true → ((u : Triple) → List·Memᴰ u F → test u ≡ true) → (u : Triple) → List·Memᴰ u (changed d t F) → test u ≡ true
+unfolding changed
+changed-passes Addition test t F e h u m = ⊎-elim (λ (q : u ≡ t). rw q e) (h u) (insert-cases t F m)
+changed-passes Withdrawal test t F e h u m = h u (remove-sub t F m)
+
+-- So an update of such a triple keeps the sets allowed.
+pub applying-allowed : (d : Change) (t : Triple) (L : Ledger) → Allowed L → firstNo (tripleQuestions t) ≡ 0 → Allowed (applying d t L)
+unfolding applying
+applying-allowed d t L A e =
     by-test (isStatement t)
     (λ s. rw s (record {
-      statements-ascend = insert-asc t (L .statements) (A .statements-ascend);
+      statements-ascend = changed-ascends d t (L .statements) (A .statements-ascend);
       facts-ascend = A .facts-ascend;
-      statements-allowed = insert-passes isAllowedStatement t (L .statements) (passed-statement t e s) (A .statements-allowed);
+      statements-allowed = changed-passes d isAllowedStatement t (L .statements) (passed-statement t e s) (A .statements-allowed);
       facts-allowed = A .facts-allowed;
     }))
     (λ s. rw s (record {
       statements-ascend = A .statements-ascend;
-      facts-ascend = insert-asc t (L .facts) (A .facts-ascend);
+      facts-ascend = changed-ascends d t (L .facts) (A .facts-ascend);
       statements-allowed = A .statements-allowed;
-      facts-allowed = insert-passes isAllowedFact t (L .facts) (passed-fact t e s) (A .facts-allowed);
-    }))
-
--- and so does any that leaves.
-pub leaving-allowed : (t : Triple) (L : Ledger) → Allowed L → Allowed (leaving t L)
-unfolding leaving
-leaving-allowed t L A =
-    by-test (isStatement t)
-    (λ s. rw s (record {
-      statements-ascend = remove-asc t (L .statements) (A .statements-ascend);
-      facts-ascend = A .facts-ascend;
-      statements-allowed = λ u m. A .statements-allowed u (remove-sub t (L .statements) m);
-      facts-allowed = A .facts-allowed;
-    }))
-    (λ s. rw s (record {
-      statements-ascend = A .statements-ascend;
-      facts-ascend = remove-asc t (L .facts) (A .facts-ascend);
-      statements-allowed = A .statements-allowed;
-      facts-allowed = λ u m. A .facts-allowed u (remove-sub t (L .facts) m);
+      facts-allowed = changed-passes d isAllowedFact t (L .facts) (passed-fact t e s) (A .facts-allowed);
     }))

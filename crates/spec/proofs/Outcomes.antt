@@ -1,15 +1,18 @@
--- What an addition and a withdrawal come to, by the answers to their questions. Assumes nothing.
+-- What an update comes to, by the answers to its questions. Assumes nothing.
 use Prim.Native.Nat.{ℕ}
 use mathlib.Core.Path.{_≡_, refl, _∙_}
 use mathlib.Core.Bool.{Bool, true, false, cond}
 use mathlib.Core.List.{List, _∷_, _++_, List·Memᴰ}
+use borrow.Author.Tests.{not-false}
 use Rattle.spec.specs.declared.Triple.{Triple}
 use Rattle.spec.specs.Terms.{isTriple, isStatement, areSidesAllowed}
 use Rattle.spec.specs.Refusals.{firstNo, tripleQuestions}
 use Rattle.spec.proofs.Tests.{isIn-iff, isIn-no}
 use Rattle.spec.specs.declared.Answer.the-variants.{Applied, Idle, Refused}
-use Rattle.spec.specs.Tables.{Tables, areFormed, Contents, contentsOf, put}
-use Rattle.spec.specs.Updates.{withTriple, withoutTriple, isThere, isBelowCapacity, isKeptFitting, outcome, decide, add, withdraw}
+use Rattle.spec.specs.declared.Change.{Change}
+use Rattle.spec.specs.declared.Change.the-variants.{Addition, Withdrawal}
+use Rattle.spec.specs.Tables.{Tables, areFormed, Capacities, capacitiesOf, Ledger, contentsOf, put}
+use Rattle.spec.specs.Updates.{setOf, isMember, isChange, isAdmitted, settle, contentsAfter, isKeptFitting, update, outcome}
 
 -- ---- the first "no" of numbered questions
 
@@ -32,75 +35,53 @@ three-passed {T} {t} P qs =
 
 -- ---- questions 1 to 3
 
-pub add-malformed : (T : Tables) (t : Triple) → areFormed T ≡ false → add T t ≡ outcome (Refused 1) T
-unfolding add decide firstNo
-add-malformed T t e = rw e refl
+pub update-malformed : (d : Change) (T : Tables) (t : Triple) → areFormed T ≡ false → update d T t ≡ outcome (Refused 1) T
+unfolding update settle firstNo
+update-malformed d T t e = rw e refl
 
-pub add-no-triple : (T : Tables) (t : Triple) → areFormed T ≡ true → isTriple t ≡ false → add T t ≡ outcome (Refused 2) T
-unfolding add decide firstNo
-add-no-triple T t e f = rw (e, f) refl
+pub update-no-triple : (d : Change) (T : Tables) (t : Triple) → areFormed T ≡ true → isTriple t ≡ false → update d T t ≡ outcome (Refused 2) T
+unfolding update settle firstNo
+update-no-triple d T t e f = rw (e, f) refl
 
-pub add-wrong-sides : (T : Tables) (t : Triple) → areFormed T ≡ true → isTriple t ≡ true → cond (isStatement t) (areSidesAllowed t) true ≡ false → add T t ≡ outcome (Refused 3) T
-unfolding add decide firstNo
-add-wrong-sides T t e f g = rw (e, f, g) refl
+pub update-wrong-sides : (d : Change) (T : Tables) (t : Triple) → areFormed T ≡ true → isTriple t ≡ true → cond (isStatement t) (areSidesAllowed t) true ≡ false → update d T t ≡ outcome (Refused 3) T
+unfolding update settle firstNo
+update-wrong-sides d T t e f g = rw (e, f, g) refl
 
-pub withdraw-malformed : (T : Tables) (t : Triple) → areFormed T ≡ false → withdraw T t ≡ outcome (Refused 1) T
-unfolding withdraw decide firstNo
-withdraw-malformed T t e = rw e refl
+-- ---- questions 4 and 5
 
-pub withdraw-no-triple : (T : Tables) (t : Triple) → areFormed T ≡ true → isTriple t ≡ false → withdraw T t ≡ outcome (Refused 2) T
-unfolding withdraw decide firstNo
-withdraw-no-triple T t e f = rw (e, f) refl
+-- What changes nothing is admitted, whatever the capacities.
+pub idle-admitted : (d : Change) (C : Capacities) (t : Triple) (L : Ledger) → isChange d t L ≡ false → isAdmitted C d t L ≡ true
+unfolding isChange isAdmitted
+idle-admitted Addition C t L e = rw (not-false (isMember t L) e) refl
+idle-admitted Withdrawal C t L e = refl
 
-pub withdraw-wrong-sides : (T : Tables) (t : Triple) → areFormed T ≡ true → isTriple t ≡ true → cond (isStatement t) (areSidesAllowed t) true ≡ false → withdraw T t ≡ outcome (Refused 3) T
-unfolding withdraw decide firstNo
-withdraw-wrong-sides T t e f g = rw (e, f, g) refl
-
--- ---- additions
-
-module _ {T : Tables} {t : Triple} (P : Passes T t) where
-  -- What is there already: idle, whatever the capacities.
-  pub add-idle : isThere t (contentsOf T) ≡ true → add T t ≡ outcome Idle T
-  unfolding add decide firstNo
-  add-idle e = rw (three-passed P, e) refl
+module _ (d : Change) {T : Tables} {t : Triple} (P : Passes T t) where
+  -- What changes nothing is idle.
+  pub update-idle : isChange d t (contentsOf T .explicit) ≡ false → update d T t ≡ outcome Idle T
+  unfolding update settle firstNo
+  update-idle e = rw (three-passed P, idle-admitted d (capacitiesOf T) t (contentsOf T .explicit) e, e) refl
 
   -- A full table.
-  pub add-full : isThere t (contentsOf T) ≡ false → isBelowCapacity t T ≡ false → add T t ≡ outcome (Refused 4) T
-  unfolding add decide firstNo
-  add-full e f = rw (three-passed P, e, f) refl
+  pub update-full : isAdmitted (capacitiesOf T) d t (contentsOf T .explicit) ≡ false → update d T t ≡ outcome (Refused 4) T
+  unfolding update settle firstNo
+  update-full e = rw (three-passed P, e) refl
 
-  -- Kept facts that do not fit.
-  pub add-unfit : isThere t (contentsOf T) ≡ false → isBelowCapacity t T ≡ true → isKeptFitting (withTriple t (contentsOf T)) T ≡ false → add T t ≡ outcome (Refused 5) T
-  unfolding add decide firstNo
-  add-unfit e f g = rw (three-passed P, e, f, g) refl
+  module _ (c : isChange d t (contentsOf T .explicit) ≡ true) (e : isAdmitted (capacitiesOf T) d t (contentsOf T .explicit) ≡ true) where
+    -- Kept facts that do not fit.
+    pub update-unfit : isKeptFitting (contentsAfter d t (contentsOf T)) T ≡ false → update d T t ≡ outcome (Refused 5) T
+    unfolding update settle firstNo
+    update-unfit f = rw (three-passed P, c, e, f) refl
 
-  pub add-applied : isThere t (contentsOf T) ≡ false → isBelowCapacity t T ≡ true → isKeptFitting (withTriple t (contentsOf T)) T ≡ true → add T t ≡ outcome Applied (put (withTriple t (contentsOf T)) T)
-  unfolding add decide firstNo
-  add-applied e f g = rw (three-passed P, e, f, g) refl
+    pub update-applied : isKeptFitting (contentsAfter d t (contentsOf T)) T ≡ true → update d T t ≡ outcome Applied (put (contentsAfter d t (contentsOf T)) T)
+    unfolding update settle firstNo
+    update-applied f = rw (three-passed P, c, e, f) refl
 
--- ---- withdrawals
+-- ---- what is in its set
 
-module _ {T : Tables} {t : Triple} (P : Passes T t) where
-  -- What is absent: idle.
-  pub withdraw-idle : isThere t (contentsOf T) ≡ false → withdraw T t ≡ outcome Idle T
-  unfolding withdraw decide firstNo
-  withdraw-idle e = rw (three-passed P, e) refl
+pub member-yes : (t : Triple) (L : Ledger) → List·Memᴰ t (setOf t L) → isMember t L ≡ true
+unfolding isMember
+member-yes t L m = isIn-iff t (setOf t L) .1 m
 
-  -- Kept facts that do not fit.
-  pub withdraw-unfit : isThere t (contentsOf T) ≡ true → isKeptFitting (withoutTriple t (contentsOf T)) T ≡ false → withdraw T t ≡ outcome (Refused 5) T
-  unfolding withdraw decide firstNo
-  withdraw-unfit e f = rw (three-passed P, e, f) refl
-
-  pub withdraw-applied : isThere t (contentsOf T) ≡ true → isKeptFitting (withoutTriple t (contentsOf T)) T ≡ true → withdraw T t ≡ outcome Applied (put (withoutTriple t (contentsOf T)) T)
-  unfolding withdraw decide firstNo
-  withdraw-applied e f = rw (three-passed P, e, f) refl
-
--- ---- what is there
-
-pub there-yes : (t : Triple) (c : Contents) → List·Memᴰ t (cond (isStatement t) (c .statements) (c .facts)) → isThere t c ≡ true
-unfolding isThere
-there-yes t c m = isIn-iff t (cond (isStatement t) (c .statements) (c .facts)) .1 m
-
-pub there-no : (t : Triple) (c : Contents) → ¬ List·Memᴰ t (cond (isStatement t) (c .statements) (c .facts)) → isThere t c ≡ false
-unfolding isThere
-there-no t c n = isIn-no t (cond (isStatement t) (c .statements) (c .facts)) n
+pub member-no : (t : Triple) (L : Ledger) → ¬ List·Memᴰ t (setOf t L) → isMember t L ≡ false
+unfolding isMember
+member-no t L n = isIn-no t (setOf t L) n

@@ -2,14 +2,14 @@
 -- nothing.
 use Prim.Native.Nat.{ℕ}
 use mathlib.Core.Path.{_≡_, refl}
-use mathlib.Core.List.{List, [], _∷_, _++_, flatMap}
+use mathlib.Core.List.{List, [], _∷_, flatMap}
 use Rattle.spec.specs.Terms.{isUri, isBlank, isLiteral, isVariable, isVocabulary, triple, isTriple, isStatement, areSidesAllowed, isAllowedStatement, isAllowedFact}
 use Rattle.spec.specs.Order.{isSame, isAscending, insert, remove, ascend}
 use Rattle.spec.specs.Rows.{less, insertOnce, ordered, flat}
 use Rattle.spec.specs.Saturation.{raise, raiseAll, saturation}
 use Rattle.spec.specs.computed.Carried.{leaves, steps, spread, reach, objects, properties, subjectClasses, objectClasses, conclusions, carried}
 use Rattle.spec.specs.Refusals.{firstNo}
-use Rattle.spec.specs.Tables.{capacity, firstRows, rows, areZero, isTable, isStore, Tables, tables}
+use Rattle.spec.specs.Tables.{capacity, firstRows, rows, areZero, isTable, Tables, tables, areFormed, Ledger, ledger}
 use Rattle.spec.specs.Lists.{all, any, select}
 use Rattle.spec.specs.declared.Answer.the-variants.{Applied, Idle, Refused}
 use Rattle.spec.specs.declared.Reply.the-variants.{Rows, Refused as NotGiven}
@@ -19,14 +19,15 @@ use Rattle.spec.specs.computed.Solutions.{boundTo, isBound, bind, matchW
 use Rattle.spec.specs.Alternatives.{reformulate}
 use Rattle.spec.specs.computed.Reformulated.{toClasses, toProperties, without, alternativesFrom, alternatives}
 use Rattle.spec.specs.Deliveries.{short, word, entriesFrom, sectionEnd, sectionStart, fieldEnd, fieldsFrom, fieldsEnd, numberFields, read, isWhole, areSectionsRight, isNumberRight, numberOf, tally, tallied, runEntry, runEntries, runMessage, delivered, conclude, deliver}
-use Rattle.spec.specs.Ledger.{Call, Ledger, ledger, entering, leaving, isMember, isBelow, isFitting, settle, enter, remit, receive, Given, answered, resulted, run, call, calls}
+use Rattle.spec.specs.declared.Change.the-variants.{Addition, Withdrawal}
+use Rattle.spec.specs.Updates.{isMember, changed, applying, isChange, isAdmitted, settle}
+use Rattle.spec.specs.Ledger.{Call, lone, delivery, isFitting, ledgerUpdate, receive, Given, answered, resulted, run, call, calls}
 use Rattle.spec.specs.Demand3.{ledgerRun}
-use Rattle.spec.specs.Runs.{callOf, callsFrom, encoded}
 use Rattle.spec.specs.Exported.{listed, numberedReply}
 
 -- The definitions that these need to compute, by one name.
 unfoldable pub compute : Unit {0}
-unfolding flatMap isUri isBlank isLiteral isVariable isVocabulary isTriple isStatement areSidesAllowed isAllowedStatement isAllowedFact firstNo any isSame isAscending insert remove ascend less insertOnce ordered flat leaves steps spread reach objects properties subjectClasses objectClasses conclusions carried raise raiseAll saturation capacity firstRows rows all areZero isTable isStore areFitting filled give atoms head isAtom isLaidOut isQuestion standsInOne isHeadBound boundTo isBound bind matchWord matchTriple solutions answers ask askKept askRewritten select toClasses toProperties without alternativesFrom alternatives reformulate short word entriesFrom sectionEnd sectionStart fieldEnd fieldsFrom fieldsEnd numberFields read isWhole areSectionsRight isNumberRight numberOf tallied runEntry runEntries runMessage conclude deliver entering leaving isMember isBelow isFitting settle enter remit receive call calls
+unfolding flatMap isUri isBlank isLiteral isVariable isVocabulary isTriple isStatement areSidesAllowed isAllowedStatement isAllowedFact firstNo any isSame isAscending insert remove ascend less insertOnce ordered flat leaves steps spread reach objects properties subjectClasses objectClasses conclusions carried raise raiseAll saturation capacity firstRows rows all areZero isTable areFitting filled give atoms head isAtom isLaidOut isQuestion standsInOne isHeadBound boundTo isBound bind matchWord matchTriple solutions answers ask askKept askRewritten select toClasses toProperties without alternativesFrom alternatives reformulate short word entriesFrom sectionEnd sectionStart fieldEnd fieldsFrom fieldsEnd numberFields read isWhole areSectionsRight isNumberRight numberOf tallied runEntry runEntries runMessage conclude deliver isMember isFitting settle receive call calls areFormed changed applying isChange isAdmitted ledgerUpdate
 compute = tt
 
 -- ---- a list of calls
@@ -44,18 +45,18 @@ brokenDelivery = 1 ∷ 0 ∷ 32 ∷ 0 ∷ 0 ∷ 0 ∷ 1 ∷ 0 ∷ 0 ∷ 0 ∷ 16
 -- applied.
 abbrev pub workedCalls : List Call
 workedCalls =
-    Call.addition (triple 16 2 17)
-    ∷ Call.addition (triple 32 1 16)
-    ∷ Call.addition (triple 32 1 16)
-    ∷ Call.addition (triple 16 2 17)
-    ∷ Call.addition (triple 0 1 16)
-    ∷ Call.addition (triple 16 2 1)
-    ∷ Call.addition (triple 17 2 18)
-    ∷ Call.addition (triple 33 1 16)
-    ∷ Call.withdrawal (triple 40 19 41)
-    ∷ Call.delivery workedDelivery
-    ∷ Call.delivery brokenDelivery
-    ∷ Call.withdrawal (triple 32 19 33)
+    lone Addition (triple 16 2 17)
+    ∷ lone Addition (triple 32 1 16)
+    ∷ lone Addition (triple 32 1 16)
+    ∷ lone Addition (triple 16 2 17)
+    ∷ lone Addition (triple 0 1 16)
+    ∷ lone Addition (triple 16 2 1)
+    ∷ lone Addition (triple 17 2 18)
+    ∷ lone Addition (triple 33 1 16)
+    ∷ lone Withdrawal (triple 40 19 41)
+    ∷ delivery workedDelivery
+    ∷ delivery brokenDelivery
+    ∷ lone Withdrawal (triple 32 19 33)
     ∷ []
 
 -- What they give.
@@ -139,26 +140,3 @@ worked-blank = refl
 -- The exported count is the row count, however large.
 pub worked-count : numberedReply (replied (Rows 4294967296) []) ≡ listed 0 4294967296 []
 worked-count = refl
-
--- ---- the calls as words
-
--- The same calls, encoded: their words, and the bytes of the two deliveries one after the other.
-abbrev pub workedWords : List ℕ
-workedWords =
-    0 ∷ 16 ∷ 2 ∷ 17
-    ∷ 0 ∷ 32 ∷ 1 ∷ 16
-    ∷ 0 ∷ 32 ∷ 1 ∷ 16
-    ∷ 0 ∷ 16 ∷ 2 ∷ 17
-    ∷ 0 ∷ 0 ∷ 1 ∷ 16
-    ∷ 0 ∷ 16 ∷ 2 ∷ 1
-    ∷ 0 ∷ 17 ∷ 2 ∷ 18
-    ∷ 0 ∷ 33 ∷ 1 ∷ 16
-    ∷ 1 ∷ 40 ∷ 19 ∷ 41
-    ∷ 2 ∷ 0 ∷ 59 ∷ 0
-    ∷ 2 ∷ 59 ∷ 23 ∷ 0
-    ∷ 1 ∷ 32 ∷ 19 ∷ 33
-    ∷ []
-
-pub worked-encoded : encoded workedWords (workedDelivery ++ brokenDelivery) ≡ workedCalls
-unfolding callOf callsFrom
-worked-encoded = refl

@@ -11,7 +11,9 @@ use Rattle.spec.specs.Lists.{all}
 use Rattle.spec.specs.declared.Answer.{Answer}
 use Rattle.spec.specs.declared.Answer.the-variants.{Applied, Idle, Refused}
 use Rattle.spec.specs.declared.Tally.{Tally}
-use Rattle.spec.specs.Updates.{Outcome, add, withdraw}
+use Rattle.spec.specs.declared.Change.{Change}
+use Rattle.spec.specs.declared.Change.the-variants.{Addition, Withdrawal}
+use Rattle.spec.specs.Updates.{update}
 use Rattle.spec.specs.Refusals.{firstNo}
 use Rattle.spec.specs.declared.Delivered.{Delivered}
 
@@ -148,25 +150,9 @@ tallied Applied y = tally (suc (y .applied)) (y .idle) (y .refused)
 tallied Idle y = tally (y .applied) (suc (y .idle)) (y .refused)
 tallied (Refused n) y = tally (y .applied) (y .idle) (suc (y .refused))
 
--- How many entries were dealt with.
-abbrev pub total : Tally → ℕ
-total y = y .applied + y .idle + y .refused
-
--- What an update does: an answer, and what holds the triples after it. The store's tables are one such holder, the ledger another.
+-- What updates do: an answer, and what holds the triples after it. The store's tables are one such holder, the ledger another.
 abbrev pub Update : Type 0 → Type 0
-Update A = A → Triple → Answer × A
-
--- An outcome as an answer and tables.
-abbrev pub asPair : Outcome → Answer × Tables
-asPair o = (o .answer, o .after)
-
--- A store's addition.
-abbrev pub addition : Update Tables
-addition T t = asPair (add T t)
-
--- A store's withdrawal.
-abbrev pub withdrawal : Update Tables
-withdrawal T t = asPair (withdraw T t)
+Update A = Change → A → Triple → Answer × A
 
 -- Where a delivery stands: what holds the triples, and the tallies.
 pub record Progress (A : Type 0) : Type 0 where
@@ -179,22 +165,21 @@ progress h y = record { holder = h; counted = y }
 
 module _ {A : Type 0} where
   -- One entry "asked 1 to 5 as a lone update would be".
-  unfoldable pub runEntry : Update A → Triple → Progress A → Progress A
+  unfoldable pub runEntry : (A → Triple → Answer × A) → Triple → Progress A → Progress A
   runEntry update t g = let r = update (g .holder) t in progress (r .1) (tallied (r .0) (g .counted))
 
   -- "Entries run in order."
-  unfoldable pub runEntries : Update A → List Triple → Progress A → Progress A
+  unfoldable pub runEntries : (A → Triple → Answer × A) → List Triple → Progress A → Progress A
   runEntries update [] g = g
   runEntries update (t ∷ ts) g = runEntries update ts (runEntry update t g)
 
-module _ {A : Type 0} where
   -- The four sections: statements withdrawn, facts withdrawn, statements added, facts added.
-  unfoldable pub runMessage : Update A → Update A → Message → Progress A → Progress A
-  runMessage addition withdrawal m g =
-      runEntries addition (m .factsAdded)
-      (runEntries addition (m .statementsAdded)
-      (runEntries withdrawal (m .factsWithdrawn)
-      (runEntries withdrawal (m .statementsWithdrawn) g)))
+  unfoldable pub runMessage : Update A → Message → Progress A → Progress A
+  runMessage update m g =
+      runEntries (update Addition) (m .factsAdded)
+      (runEntries (update Addition) (m .statementsAdded)
+      (runEntries (update Withdrawal) (m .factsWithdrawn)
+      (runEntries (update Withdrawal) (m .statementsWithdrawn) g)))
 
 -- "The result is delivery number and tallies": refusal is 0, or the number that refused the whole.
 abbrev pub delivered : ℕ → ℕ → Tally → Delivered
@@ -210,12 +195,12 @@ messageQuestions bs =
 
 -- "The first "no" refuses it whole by that number, delivery number and tallies 0", and what holds the triples stays; else its
 -- entries run.
-unfoldable pub conclude : {A : Type 0} → Update A → Update A → ℕ → Message → A → Delivered × A
-conclude addition withdrawal (suc n) m h = (delivered (suc n) 0 (tally 0 0 0), h)
-conclude addition withdrawal zero m h =
-    let g = runMessage addition withdrawal m (progress h (tally 0 0 0)) in
+unfoldable pub conclude : {A : Type 0} → Update A → ℕ → Message → A → Delivered × A
+conclude update (suc n) m h = (delivered (suc n) 0 (tally 0 0 0), h)
+conclude update zero m h =
+    let g = runMessage update m (progress h (tally 0 0 0)) in
     (delivered 0 (numberOf (numberFields (m .fields))) (g .counted), g .holder)
 
 -- A delivery of bytes to a store: asked 1, 9, 10 and 11.
 unfoldable pub deliver : Tables → List ℕ → Delivered × Tables
-deliver T bs = conclude addition withdrawal (firstNo ((1, areFormed T) ∷ messageQuestions bs)) (read bs) T
+deliver T bs = conclude update (firstNo ((1, areFormed T) ∷ messageQuestions bs)) (read bs) T

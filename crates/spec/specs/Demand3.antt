@@ -9,20 +9,22 @@ use lib.Dec.{leb}
 use Rattle.spec.specs.declared.Triple.{Triple}
 use Rattle.spec.specs.Order.{isAscending}
 use Rattle.spec.specs.Refusals.{firstNo, tripleQuestions}
-use Rattle.spec.specs.Tables.{layout, supportLayout, Tables, tables}
+use Rattle.spec.specs.Tables.{layout, supportLayout, Tables, tables, capacitiesOf, Ledger}
 use Rattle.spec.specs.Rules.{Follows, FollowsAsFact, Carries}
 use Rattle.spec.specs.declared.Reply.the-variants.{Rows, Refused}
 use Rattle.spec.specs.Outputs.{Replied, replied, filled}
-use Rattle.spec.specs.Deliveries.{addition, withdrawal, deliver}
+use Rattle.spec.specs.declared.Change.{Change}
+use Rattle.spec.specs.Updates.{applying, update}
+use Rattle.spec.specs.Deliveries.{deliver}
 use Rattle.spec.specs.Questions.{headCount, atoms, head, isQuestion, isHeadBound, IsAnswer, askKept, askRewritten}
-use Rattle.spec.specs.Ledger.{Call, capacities, Ledger, empty, entering, leaving, isFitting, Run, Entries, calls, ledgerEntries}
+use Rattle.spec.specs.Ledger.{Call, empty, isFitting, Run, Entries, calls, ledgerEntries}
 use Rattle.spec.specs.Rows.{ordered}
 
 -- ---- the two runs
 
 -- The store's entries, by the definitions that their contracts cite.
 abbrev pub storeEntries : Entries Tables
-storeEntries = record { adds = addition; withdraws = withdrawal; delivers = deliver }
+storeEntries = record { updates = update; delivers = deliver }
 
 -- "It starts at an empty store": tables of s, f and k words and u support places, all zero.
 abbrev pub emptyStore : ℕ → ℕ → ℕ → ℕ → Tables
@@ -34,7 +36,7 @@ storeRun s f k u cs = calls storeEntries cs (emptyStore s f k u)
 
 -- What it gives and leaves in the ledger.
 abbrev pub ledgerRun : ℕ → ℕ → ℕ → ℕ → List Call → Run Ledger
-ledgerRun s f k u cs = calls (ledgerEntries (capacities s f k u)) cs empty
+ledgerRun s f k u cs = calls (ledgerEntries (capacitiesOf (emptyStore s f k u))) cs empty
 
 -- ---- the lists that the claim speaks of
 
@@ -98,10 +100,8 @@ pub record Demand3 (s f k u : ℕ) (L : Run Ledger) (T : Run Tables) : Type 0 wh
   -- Order and zeros being as under Tables, this fixes every word."
   pub words : T .after ≡ tables (layout s (L .after .statements)) (layout f (L .after .facts)) (layout k kept) (supportLayout u supports)
   -- Any update that 2 and 3 pass is then asked 5 on what follows after it, whether it is refused or not.
-  pub addition-fits : (t : Triple) → firstNo (tripleQuestions t) ≡ 0
-      → FitsBy (capacities s f k u .kept) (entering t (L .after)) (isFitting (capacities s f k u) (entering t (L .after)))
-  pub withdrawal-fits : (t : Triple) → firstNo (tripleQuestions t) ≡ 0
-      → FitsBy (capacities s f k u .kept) (leaving t (L .after)) (isFitting (capacities s f k u) (leaving t (L .after)))
+  pub fits : (d : Change) (t : Triple) → firstNo (tripleQuestions t) ≡ 0
+      → FitsBy (capacitiesOf (emptyStore s f k u) .kept) (applying d t (L .after)) (isFitting (capacitiesOf (emptyStore s f k u)) (applying d t (L .after)))
   -- "Any question is then put by both ways, into outputs apart from the store."
   pub kept-way : (q : List ℕ) (len : ℕ) → Replies (Follows (graphOf (L .after))) q len (askKept (T .after .statements) (T .after .kept) q len)
   pub rewritten-way : (q : List ℕ) (len : ℕ) → Replies (Follows (graphOf (L .after))) q len (askRewritten (T .after .statements) (T .after .facts) q len)

@@ -15,7 +15,6 @@ pub mod Alternatives
 pub mod Deliveries
 pub mod Ledger
 pub mod Demand3
-pub mod Runs
 pub mod Exported
 pub mod computed
 pub mod inside

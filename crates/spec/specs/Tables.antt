@@ -91,10 +91,6 @@ isSupportTable facts n us = leb n (length us) && (all (isSupport facts) (take n 
 unfoldable pub supportLayout : ℕ → List ℕ → List ℕ
 supportLayout len us = padded len us
 
--- Question 1 for an update or a delivery: whether statements, facts, kept facts and supports are well formed together.
-unfoldable pub isStore : List ℕ → List ℕ → List ℕ → List ℕ → Bool
-isStore S F K U = isStatementTable S && (isFactTable F && (isKeptTable K && isSupportTable (count F) (count K) U))
-
 -- "An update or delivery is lent all four tables": their words.
 pub record Tables : Type 0 where
   pub statements : List ℕ
@@ -106,19 +102,47 @@ pub record Tables : Type 0 where
 abbrev pub tables : List ℕ → List ℕ → List ℕ → List ℕ → Tables
 tables S F K U = record { statements = S; facts = F; kept = K; supports = U }
 
--- Question 1: "are the store tables lent well formed?"
-abbrev pub areFormed : Tables → Bool
-areFormed T = isStore (T .statements) (T .facts) (T .kept) (T .supports)
+-- Question 1 for an update or a delivery: "are the store tables lent well formed?"
+unfoldable pub areFormed : Tables → Bool
+areFormed T =
+    isStatementTable (T .statements)
+    && (isFactTable (T .facts)
+    && (isKeptTable (T .kept)
+    && isSupportTable (count (T .facts)) (count (T .kept)) (T .supports)))
 
--- What tables hold: statements, facts, and kept facts with their supports.
-pub record Contents : Type 0 where
+-- "And the tables' capacities."
+pub record Capacities : Type 0 where
+  pub statements : ℕ
+  pub facts : ℕ
+  pub kept : ℕ
+
+-- The capacities of tables: "(words - 1) / 3 rows rounded down, at most 512 statements, 65,535 facts, 262,143 kept facts, and no more
+-- kept facts than there are support places".
+abbrev pub capacitiesOf : Tables → Capacities
+capacitiesOf T =
+    record {
+      statements = capacity mostStatements (T .statements);
+      facts = capacity mostFacts (T .facts);
+      kept = min (capacity mostKept (T .kept)) (length (T .supports));
+    }
+
+-- What the ledger holds, and what a store holds explicitly: "two sets, statements and facts", each as its ascending list.
+pub record Ledger : Type 0 where
   pub statements : List Triple
   pub facts : List Triple
+
+-- A ledger by its sets.
+abbrev pub ledger : List Triple → List Triple → Ledger
+ledger S F = record { statements = S; facts = F }
+
+-- What tables hold: explicit statements and facts, and kept facts with their supports.
+pub record Contents : Type 0 where
+  pub explicit : Ledger
   pub kept : Kept
 
 -- Contents by their parts.
-abbrev pub contents : List Triple → List Triple → Kept → Contents
-contents S F K = record { statements = S; facts = F; kept = K }
+abbrev pub contents : Ledger → Kept → Contents
+contents L k = record { explicit = L; kept = k }
 
 -- Kept facts with their supports, from the words of both tables.
 unfoldable pub keptOf : List ℕ → List ℕ → Kept
@@ -126,25 +150,13 @@ keptOf K U = zip (rows K) U
 
 -- What tables hold.
 unfoldable pub contentsOf : Tables → Contents
-contentsOf T = contents (rows (T .statements)) (rows (T .facts)) (keptOf (T .kept) (T .supports))
+contentsOf T = contents (ledger (rows (T .statements)) (rows (T .facts))) (keptOf (T .kept) (T .supports))
 
 -- Contents put into tables of the same lengths: "a row count, then rows, then zeros to the end".
 unfoldable pub put : Contents → Tables → Tables
 put c T =
     tables
-    (layout (length (T .statements)) (c .statements))
-    (layout (length (T .facts)) (c .facts))
+    (layout (length (T .statements)) (c .explicit .statements))
+    (layout (length (T .facts)) (c .explicit .facts))
     (layout (length (T .kept)) (keptRows (c .kept)))
     (supportLayout (length (T .supports)) (keptSupports (c .kept)))
-
--- How many statements fit.
-abbrev pub statementCapacity : Tables → ℕ
-statementCapacity T = capacity mostStatements (T .statements)
-
--- How many facts fit.
-abbrev pub factCapacity : Tables → ℕ
-factCapacity T = capacity mostFacts (T .facts)
-
--- How many kept facts fit: "no more kept facts than there are support places".
-abbrev pub keptCapacity : Tables → ℕ
-keptCapacity T = min (capacity mostKept (T .kept)) (length (T .supports))

@@ -1,6 +1,6 @@
--- What an addition and a withdrawal do (document 01, "Tables" and "Questions at the door"). Definitions only.
+-- What an addition and a withdrawal do (document 01, "Tables", "Questions at the door" and "The ledger"). Definitions only.
 use Prim.Native.Nat.{ℕ, zero, suc}
-use mathlib.Core.Bool.{Bool, _||_, not, cond}
+use mathlib.Core.Bool.{Bool, true, _||_, not, cond}
 use mathlib.Core.List.{List, [], _∷_, _++_}
 use lib.ListN.{length}
 use lib.Dec.{leb, ltb}
@@ -8,86 +8,95 @@ use Rattle.spec.specs.declared.Triple.{Triple}
 use Rattle.spec.specs.Terms.{isStatement}
 use Rattle.spec.specs.Order.{isIn, insert, remove}
 use Rattle.spec.specs.Refusals.{firstNo, tripleQuestions}
-use Rattle.spec.specs.Saturation.{raiseAll, lowerAll, saturation}
+use Rattle.spec.specs.Saturation.{Kept, raiseAll, lowerAll, saturation}
 use Rattle.spec.specs.computed.Carried.{carried}
 use Rattle.spec.specs.declared.Answer.{Answer}
 use Rattle.spec.specs.declared.Answer.the-variants.{Applied, Idle, Refused}
-use Rattle.spec.specs.Tables.{Tables, areFormed, Contents, contents, contentsOf, put, statementCapacity, factCapacity, keptCapacity}
+use Rattle.spec.specs.declared.Change.{Change}
+use Rattle.spec.specs.declared.Change.the-variants.{Addition, Withdrawal}
+use Rattle.spec.specs.Tables.{Tables, areFormed, Capacities, capacitiesOf, Ledger, ledger, Contents, contents, contentsOf, put}
 
--- ---- what an applied update makes of the contents
+-- ---- the sets
 
--- "Adding a fact raises the support of all it carries by 1, missing rows entering with 1." "A change of statements makes kept
--- facts and supports those worked out afresh."
-unfoldable pub withTriple : Triple → Contents → Contents
-withTriple t c =
-    cond (isStatement t)
-    (contents (insert t (c .statements)) (c .facts) (saturation (insert t (c .statements)) (c .facts)))
-    (contents (c .statements) (insert t (c .facts)) (raiseAll (carried (c .statements) t) (c .kept)))
+-- The set that a triple belongs to, the statements or the facts.
+abbrev pub setOf : Triple → Ledger → List Triple
+setOf t L = cond (isStatement t) (L .statements) (L .facts)
 
--- "Withdrawing lowers by 1 those present, and a row at 0 goes."
-unfoldable pub withoutTriple : Triple → Contents → Contents
-withoutTriple t c =
-    cond (isStatement t)
-    (contents (remove t (c .statements)) (c .facts) (saturation (remove t (c .statements)) (c .facts)))
-    (contents (c .statements) (remove t (c .facts)) (lowerAll (carried (c .statements) t) (c .kept)))
+-- Whether a triple is in its set.
+unfoldable pub isMember : Triple → Ledger → Bool
+isMember t L = isIn t (setOf t L)
+
+-- A set after an addition or a withdrawal.
+unfoldable pub changed : Change → Triple → List Triple → List Triple
+changed Addition t ts = insert t ts
+changed Withdrawal t ts = remove t ts
+
+-- "Its triple entering or leaving its set": both sets after an update.
+unfoldable pub applying : Change → Triple → Ledger → Ledger
+applying d t L = cond (isStatement t) (ledger (changed d t (L .statements)) (L .facts)) (ledger (L .statements) (changed d t (L .facts)))
 
 -- ---- what is asked
 
--- Whether a triple is in its table, the statements or the facts.
-unfoldable pub isThere : Triple → Contents → Bool
-isThere t c = isIn t (cond (isStatement t) (c .statements) (c .facts))
+-- Whether an update changes anything: "adding what is in its set, or withdrawing what is not, is idle".
+unfoldable pub isChange : Change → Triple → Ledger → Bool
+isChange Addition t L = not (isMember t L)
+isChange Withdrawal t L = isMember t L
 
--- Whether the table of a triple is below capacity.
-unfoldable pub isBelowCapacity : Triple → Tables → Bool
-isBelowCapacity t T =
-    cond (isStatement t)
-    (ltb (length (contentsOf T .statements)) (statementCapacity T))
-    (ltb (length (contentsOf T .facts)) (factCapacity T))
-
--- "Will the kept facts fit?"
-unfoldable pub isKeptFitting : Contents → Tables → Bool
-isKeptFitting c T = leb (length (c .kept)) (keptCapacity T)
-
--- The questions of an addition, 1 to 5. Where the triple is there already, nothing changes, and what is lent fits.
-abbrev pub additionQuestions : Triple → Tables → List (ℕ × Bool)
-additionQuestions t T =
-    (1, areFormed T)
-    ∷ (tripleQuestions t
-    ++ ((4, isThere t (contentsOf T) || isBelowCapacity t T)
-    ∷ (5, isThere t (contentsOf T) || isKeptFitting (withTriple t (contentsOf T)) T)
-    ∷ []))
-
--- The questions of a withdrawal, 1 to 3 and 5. Where the triple is absent, nothing changes.
-abbrev pub withdrawalQuestions : Triple → Tables → List (ℕ × Bool)
-withdrawalQuestions t T =
-    (1, areFormed T)
-    ∷ (tripleQuestions t
-    ++ ((5, not (isThere t (contentsOf T)) || isKeptFitting (withoutTriple t (contentsOf T)) T)
-    ∷ []))
+-- Question 4: "Addition: is it there already, or is its table below capacity?" A withdrawal is not asked.
+unfoldable pub isAdmitted : Capacities → Change → Triple → Ledger → Bool
+isAdmitted C Addition t L = isMember t L || ltb (length (setOf t L)) (cond (isStatement t) (C .statements) (C .facts))
+isAdmitted C Withdrawal t L = true
 
 -- ---- the outcome
 
--- The answer of an update, and the words of the tables after it.
-pub record Outcome : Type 0 where
-  pub answer : Answer
-  pub after : Tables
+-- The first "no" refuses by its number, and what holds the triples stays; else an update that changes nothing is idle and it stays;
+-- "any other update is applied".
+unfoldable pub settle : {A : Type 0} → ℕ → Bool → A → A → Answer × A
+settle (suc n) changes after before = (Refused (suc n), before)
+settle zero changes after before = cond changes (Applied, after) (Idle, before)
 
--- An answer with tables.
-abbrev pub outcome : Answer → Tables → Outcome
-outcome a T = record { answer = a; after = T }
+-- ---- the store
 
--- The first "no" refuses and changes no word; else an update that changes nothing is idle, and any other applied.
-unfoldable pub decide : ℕ → Bool → Contents → Tables → Outcome
-decide (suc n) changes c T = outcome (Refused (suc n)) T
-decide zero changes c T = cond changes (outcome Applied (put c T)) (outcome Idle T)
+-- "Adding a fact raises the support of all it carries by 1, missing rows entering with 1." "Withdrawing lowers by 1 those present,
+-- and a row at 0 goes."
+unfoldable pub keptAfter : Change → List Triple → Kept → Kept
+keptAfter Addition ts k = raiseAll ts k
+keptAfter Withdrawal ts k = lowerAll ts k
+
+-- What an applied update makes of the contents. "A change of statements makes kept facts and supports those worked out afresh."
+unfoldable pub contentsAfter : Change → Triple → Contents → Contents
+contentsAfter d t c =
+    let L = applying d t (c .explicit) in
+    contents L (cond (isStatement t) (saturation (L .statements) (L .facts)) (keptAfter d (carried (c .explicit .statements) t) (c .kept)))
+
+-- "Will the kept facts fit?"
+unfoldable pub isKeptFitting : Contents → Tables → Bool
+isKeptFitting c T = leb (length (c .kept)) (capacitiesOf T .kept)
+
+-- The questions of an update, 1 to 5. Where nothing changes, what is lent fits.
+abbrev pub updateQuestions : Change → Triple → Tables → List (ℕ × Bool)
+updateQuestions d t T =
+    (1, areFormed T)
+    ∷ (tripleQuestions t
+    ++ ((4, isAdmitted (capacitiesOf T) d t (contentsOf T .explicit))
+    ∷ (5, not (isChange d t (contentsOf T .explicit)) || isKeptFitting (contentsAfter d t (contentsOf T)) T)
+    ∷ []))
+
+-- The update of a store: its answer, and the words of the tables after it. A refusal changes no word.
+unfoldable pub update : Change → Tables → Triple → Answer × Tables
+update d T t = settle (firstNo (updateQuestions d t T)) (isChange d t (contentsOf T .explicit)) (put (contentsAfter d t (contentsOf T)) T) T
 
 -- The addition of a triple to a store.
-unfoldable pub add : Tables → Triple → Outcome
-add T t = decide (firstNo (additionQuestions t T)) (not (isThere t (contentsOf T))) (withTriple t (contentsOf T)) T
+abbrev pub add : Tables → Triple → Answer × Tables
+add T t = update Addition T t
 
 -- The withdrawal of a triple from a store.
-unfoldable pub withdraw : Tables → Triple → Outcome
-withdraw T t = decide (firstNo (withdrawalQuestions t T)) (isThere t (contentsOf T)) (withoutTriple t (contentsOf T)) T
+abbrev pub withdraw : Tables → Triple → Answer × Tables
+withdraw T t = update Withdrawal T t
+
+-- An answer with tables.
+abbrev pub outcome : Answer → Tables → Answer × Tables
+outcome a T = (a, T)
 
 -- The number of an answer, as the exported library gives it: 0 applied, 100 idle, or the number that refused.
 abbrev pub answerNumber : Answer → ℕ

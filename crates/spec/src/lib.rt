@@ -173,6 +173,12 @@ impl Triple {
     }
 }
 
+// The two kinds of updates.
+pub enum Change {
+    Addition,
+    Withdrawal,
+}
+
 // The answer of an update.
 pub enum Answer {
     Applied,

@@ -1,26 +1,32 @@
 -- What an applied update makes of contents that fit: contents that fit again. Assumes nothing.
 use Prim.Native.Nat.{ℕ, suc, _≤_, _<_}
 use mathlib.Core.Path.{_≡_, refl}
-use mathlib.Core.Bool.{Bool, true, false}
+use mathlib.Core.Bool.{true, false, cond}
 use mathlib.Core.Logic.{⊎-elim}
 use mathlib.Core.List.{List, [], _∷_, List·Memᴰ, List·Memᴰ·head, List·Memᴰ·tail, List·Memᴰ·eq-of-singleton}
 use native.Mathlib.Omega.{arith}
 use lib.ListN.{length}
+use lib.Dec.{ltb}
+use borrow.Author.Tests.{not-true, ltb-true}
 use Rattle.spec.specs.declared.Triple.{Triple}
-use Rattle.spec.specs.Terms.{isStatement, isAllowedStatement, isAllowedFact}
-use Rattle.spec.specs.Order.{insert, remove}
+use Rattle.spec.specs.Terms.{isStatement, isAllowedFact}
 use Rattle.spec.specs.inside.Comparison.{Ascending}
 use Rattle.spec.proofs.Tests.{same-elim}
-use Rattle.spec.proofs.Ascending.{insert-asc, insert-cases, insert-length, remove-asc, remove-sub, remove-length}
+use Rattle.spec.proofs.Ascending.{insert-length, remove-length}
 use Rattle.spec.specs.Saturation.{Kept, raiseAll, lowerAll, saturation, keptRows, keptSupports}
 use Rattle.spec.specs.computed.Carried.{carried}
 use Rattle.spec.specs.inside.Counts.{Counts, lookup}
+use Rattle.spec.proofs.Lists.{by-test}
 use Rattle.spec.proofs.Entailment.{allowed-no-vocabulary, holds-allowed}
 use Rattle.spec.proofs.Carried.{carried-ascends, carried-iff}
 use Rattle.spec.proofs.Kept.{counts-of, support-of, kept-positive, kept-ascends, lookup-kept}
 use Rattle.spec.proofs.Saturation.{among-bound, raiseAll-counts, lookup-raiseAll, lookup-lowerAll, lowerAll-counts, lowerAll-length, saturation-ascends, saturation-allowed, saturation-supports, lower-saturation}
-use Rattle.spec.specs.Tables.{Tables, Contents, contents, statementCapacity, factCapacity, keptCapacity}
-use Rattle.spec.specs.Updates.{withTriple, withoutTriple}
+use Rattle.spec.specs.Tables.{Tables, Contents, contents, Capacities, capacitiesOf, Ledger}
+use Rattle.spec.specs.Refusals.{firstNo, tripleQuestions}
+use Rattle.spec.specs.declared.Change.{Change}
+use Rattle.spec.specs.declared.Change.the-variants.{Addition, Withdrawal}
+use Rattle.spec.specs.Updates.{setOf, isMember, changed, applying, isChange, isAdmitted, keptAfter, contentsAfter}
+use Rattle.spec.proofs.LedgerSets.{Allowed, applying-allowed}
 use Rattle.update_raise.proofs.Missing.{raiseAll-asc, raiseAll-cases, insert-new-length}
 use Rattle.store.proofs.Fitting.{Fitting}
 
@@ -38,74 +44,90 @@ raised-supports ts k b o a h n m =
     let r = support-of (raiseAll ts k) n (raiseAll-counts ts k a) m in
     (kept-positive (raiseAll ts k) (raiseAll-counts ts k a) n m, omega (arith, r .supported, lookup-raiseAll ts k (r .row) o a, among-bound (r .row) ts, lookup-bound k b h (r .row)))
 
+-- ---- the sets after an update
+
+-- The facts after the update of a fact,
+pub facts-after : (d : Change) (t : Triple) (L : Ledger) → isStatement t ≡ false → applying d t L .facts ≡ changed d t (L .facts)
+unfolding applying
+facts-after d t L s = rw s refl
+
+-- and the statements, which stay.
+pub statements-after : (d : Change) (t : Triple) (L : Ledger) → isStatement t ≡ false → applying d t L .statements ≡ L .statements
+unfolding applying
+statements-after d t L s = rw s refl
+
+-- Sets that fit do so after an update that changes them and that 4 admits.
+pub admitted-fits : (d : Change) (t : Triple) (L : Ledger) (C : Capacities) → isChange d t L ≡ true → isAdmitted C d t L ≡ true
+    → length (L .statements) ≤ C .statements → length (L .facts) ≤ C .facts → (length (applying d t L .statements) ≤ C .statements) × (length (applying d t L .facts) ≤ C .facts)
+unfolding applying changed isChange isAdmitted
+admitted-fits Addition t L C c e h k =
+    let below : ltb (length (setOf t L)) (cond (isStatement t) (C .statements) (C .facts)) ≡ true = rw (not-true (isMember t L) c) at e in
+    by-test (isStatement t)
+    (λ s. rw s (omega (arith, insert-length t (L .statements), ltb-true (length (L .statements)) (C .statements) (rw s at below)), k))
+    (λ s. rw s (h, omega (arith, insert-length t (L .facts), ltb-true (length (L .facts)) (C .facts) (rw s at below))))
+admitted-fits Withdrawal t L C c e h k =
+    by-test (isStatement t)
+    (λ s. rw s (omega (arith, remove-length t (L .statements)), k))
+    (λ s. rw s (h, omega (arith, remove-length t (L .facts))))
+
 -- ---- contents worked out afresh
 
--- Statements and facts that fit, with their saturation.
-pub saturation-fitting : {T : Tables} (S F : List Triple) → Ascending S → Ascending F → ((u : Triple) → List·Memᴰ u S → isAllowedStatement u ≡ true) → ((u : Triple) → List·Memᴰ u F → isAllowedFact u ≡ true)
-    → length S ≤ statementCapacity T → length F ≤ factCapacity T → length (saturation S F) ≤ keptCapacity T → Fitting (contents S F (saturation S F)) T
-saturation-fitting S F a b v w s f k = record {
-  statements-ascend = a;
-  facts-ascend = b;
-  kept-ascend = saturation-ascends S F;
-  statements-allowed = v;
-  facts-allowed = w;
-  kept-allowed = saturation-allowed S F v w;
+-- Sets that fit, with their saturation.
+pub saturation-fitting : {T : Tables} (L : Ledger) → Allowed L → length (L .statements) ≤ capacitiesOf T .statements → length (L .facts) ≤ capacitiesOf T .facts
+    → length (saturation (L .statements) (L .facts)) ≤ capacitiesOf T .kept → Fitting (contents L (saturation (L .statements) (L .facts))) T
+saturation-fitting L A s f k = record {
+  sets = A;
+  kept-ascend = saturation-ascends (L .statements) (L .facts);
+  kept-allowed = saturation-allowed (L .statements) (L .facts) (A .statements-allowed) (A .facts-allowed);
   statements-fit = s;
   facts-fit = f;
   kept-fit = k;
-  supports-between = saturation-supports S F;
+  supports-between = saturation-supports (L .statements) (L .facts);
 }
-
-inserted-allowed : {test : Triple → Bool} (t : Triple) (us : List Triple) → test t ≡ true → ((u : Triple) → List·Memᴰ u us → test u ≡ true) → (u : Triple) → List·Memᴰ u (insert t us) → test u ≡ true
-inserted-allowed t us e h u m = ⊎-elim (λ (q : u ≡ t). rw q e) (h u) (insert-cases t us m)
 
 -- ---- the contents after each update
 
-module _ {c : Contents} {T : Tables} (X : Fitting c T) (t : Triple) where
-  -- A fact enters: its table is below capacity, and the kept facts fit.
-  pub fact-enters : isStatement t ≡ false → isAllowedFact t ≡ true → ¬ List·Memᴰ t (c .facts) → length (c .facts) < factCapacity T → length (withTriple t c .kept) ≤ keptCapacity T → Fitting (withTriple t c) T
-  unfolding withTriple
-  fact-enters s a n h k =
-      let counts = counts-of (c .kept) (X .kept-ascend) (λ m i. let b = X .supports-between m i in omega (arith, b .0)) in
-      let more = insert-new-length t (c .facts) n in
+module _ {c : Contents} {T : Tables} (X : Fitting c T) (t : Triple) (p : firstNo (tripleQuestions t) ≡ 0) where
+  -- A statement enters or goes: 4 admits it, and the kept facts fit.
+  pub statement-changes : (d : Change) → isStatement t ≡ true → isChange d t (c .explicit) ≡ true → isAdmitted (capacitiesOf T) d t (c .explicit) ≡ true
+      → length (contentsAfter d t c .kept) ≤ capacitiesOf T .kept → Fitting (contentsAfter d t c) T
+  unfolding contentsAfter
+  statement-changes d s b e k =
+      let f = admitted-fits d t (c .explicit) (capacitiesOf T) b e (X .statements-fit) (X .facts-fit) in
+      rw s (saturation-fitting (applying d t (c .explicit)) (applying-allowed d t (c .explicit) (X .sets) p) (f .0) (f .1) (rw s at k))
+
+  -- A fact enters.
+  pub fact-enters : isStatement t ≡ false → isAllowedFact t ≡ true → ¬ List·Memᴰ t (c .explicit .facts) → isChange Addition t (c .explicit) ≡ true → isAdmitted (capacitiesOf T) Addition t (c .explicit) ≡ true
+      → length (contentsAfter Addition t c .kept) ≤ capacitiesOf T .kept → Fitting (contentsAfter Addition t c) T
+  unfolding contentsAfter keptAfter changed
+  fact-enters s a n b e k =
+      let S : List Triple = c .explicit .statements in
+      let F : List Triple = c .explicit .facts in
+      let f = admitted-fits Addition t (c .explicit) (capacitiesOf T) b e (X .statements-fit) (X .facts-fit) in
+      let more : length (applying Addition t (c .explicit) .facts) ≡ suc (length F) = rw (facts-after Addition t (c .explicit) s) (insert-new-length t F n) in
+      let counts = counts-of (c .kept) (X .kept-ascend) (λ m i. let u = X .supports-between m i in omega (arith, u .0)) in
       rw s (record {
-        statements-ascend = X .statements-ascend;
-        facts-ascend = insert-asc t (c .facts) (X .facts-ascend);
-        kept-ascend = raiseAll-asc (carried (c .statements) t) (c .kept) (X .kept-ascend);
-        statements-allowed = X .statements-allowed;
-        facts-allowed = inserted-allowed t (c .facts) a (X .facts-allowed);
+        sets = applying-allowed Addition t (c .explicit) (X .sets) p;
+        kept-ascend = raiseAll-asc (carried S t) (c .kept) (X .kept-ascend);
         kept-allowed = λ u m.
             ⊎-elim
-            (λ i. holds-allowed (X .statements-allowed) (λ v j. let q : v ≡ t = List·Memᴰ·eq-of-singleton j in rw q a) (carried-iff (c .statements) t u (allowed-no-vocabulary (c .statements) (X .statements-allowed)) .0 i))
-            (X .kept-allowed u) (raiseAll-cases (carried (c .statements) t) (c .kept) m);
-        statements-fit = X .statements-fit;
-        facts-fit = omega arith;
+            (λ i. holds-allowed (X .sets .statements-allowed) (λ v j. let q : v ≡ t = List·Memᴰ·eq-of-singleton j in rw q a) (carried-iff S t u (allowed-no-vocabulary S (X .sets .statements-allowed)) .0 i))
+            (X .kept-allowed u) (raiseAll-cases (carried S t) (c .kept) m);
+        statements-fit = f .0;
+        facts-fit = f .1;
         kept-fit = rw s at k;
-        supports-between = λ m i. rw more (raised-supports (carried (c .statements) t) (c .kept) (length (c .facts)) (carried-ascends (c .statements) t) counts (λ j d. X .supports-between j d .1) m i);
+        supports-between = λ m i. rw more (raised-supports (carried S t) (c .kept) (length F) (carried-ascends S t) counts (λ j u. X .supports-between j u .1) m i);
       })
 
-  -- A statement enters.
-  pub statement-enters : isStatement t ≡ true → isAllowedStatement t ≡ true → length (c .statements) < statementCapacity T → length (withTriple t c .kept) ≤ keptCapacity T → Fitting (withTriple t c) T
-  unfolding withTriple
-  statement-enters s a h k =
-      rw s (saturation-fitting (insert t (c .statements)) (c .facts) (insert-asc t (c .statements) (X .statements-ascend)) (X .facts-ascend)
-      (inserted-allowed t (c .statements) a (X .statements-allowed)) (X .facts-allowed) (omega (arith, insert-length t (c .statements))) (X .facts-fit) (rw s at k))
-
-  -- A statement goes.
-  pub statement-goes : isStatement t ≡ true → length (withoutTriple t c .kept) ≤ keptCapacity T → Fitting (withoutTriple t c) T
-  unfolding withoutTriple
-  statement-goes s k =
-      rw s (saturation-fitting (remove t (c .statements)) (c .facts) (remove-asc t (c .statements) (X .statements-ascend)) (X .facts-ascend)
-      (λ u m. X .statements-allowed u (remove-sub t (c .statements) m)) (X .facts-allowed) (let h = X .statements-fit in omega (arith, remove-length t (c .statements))) (X .facts-fit) (rw s at k))
-
   -- A fact goes, and the kept facts are the saturation.
-  pub fact-goes : isStatement t ≡ false → c .kept ≡ saturation (c .statements) (c .facts) → List·Memᴰ t (c .facts) → Fitting (withoutTriple t c) T
-  unfolding withoutTriple
-  fact-goes s e m =
-      let is : lowerAll (carried (c .statements) t) (c .kept) ≡ saturation (c .statements) (remove t (c .facts)) = rw e (lower-saturation (c .statements) (c .facts) t m) in
-      let few : length (saturation (c .statements) (remove t (c .facts))) ≤ keptCapacity T = rw (← is) (let h = X .kept-fit in omega (arith, lowerAll-length (carried (c .statements) t) (c .kept))) in
-      rw (s, is) (saturation-fitting (c .statements) (remove t (c .facts)) (X .statements-ascend) (remove-asc t (c .facts) (X .facts-ascend))
-      (X .statements-allowed) (λ u i. X .facts-allowed u (remove-sub t (c .facts) i)) (X .statements-fit) (let h = X .facts-fit in omega (arith, remove-length t (c .facts))) few)
+  pub fact-goes : isStatement t ≡ false → c .kept ≡ saturation (c .explicit .statements) (c .explicit .facts) → List·Memᴰ t (c .explicit .facts) → isChange Withdrawal t (c .explicit) ≡ true → Fitting (contentsAfter Withdrawal t c) T
+  unfolding contentsAfter keptAfter changed isAdmitted
+  fact-goes s e m b =
+      let L : Ledger = applying Withdrawal t (c .explicit) in
+      let f = admitted-fits Withdrawal t (c .explicit) (capacitiesOf T) b refl (X .statements-fit) (X .facts-fit) in
+      let is : lowerAll (carried (c .explicit .statements) t) (c .kept) ≡ saturation (L .statements) (L .facts) = rw (facts-after Withdrawal t (c .explicit) s, statements-after Withdrawal t (c .explicit) s, e) (lower-saturation (c .explicit .statements) (c .explicit .facts) t m) in
+      let few : length (saturation (L .statements) (L .facts)) ≤ capacitiesOf T .kept = rw (← is) (let h = X .kept-fit in omega (arith, lowerAll-length (carried (c .explicit .statements) t) (c .kept))) in
+      rw (s, is) (saturation-fitting L (applying-allowed Withdrawal t (c .explicit) (X .sets) p) (f .0) (f .1) few)
 
 -- ---- a fact goes, whatever the kept facts are
 
@@ -128,23 +150,21 @@ pub fitting-counts : {c : Contents} {T : Tables} → Fitting c T → Counts (c .
 fitting-counts {c} X = counts-of (c .kept) (X .kept-ascend) (λ m i. let b = X .supports-between m i in omega (arith, b .0))
 
 -- What is left fits where no support is above the number of facts left.
-pub fact-leaves : {c : Contents} {T : Tables} → Fitting c T → (t : Triple) → isStatement t ≡ false
-    → ((n : ℕ) → List·Memᴰ n (keptSupports (withoutTriple t c .kept)) → n ≤ length (withoutTriple t c .facts)) → Fitting (withoutTriple t c) T
-unfolding withoutTriple
-fact-leaves {c} {T} X t s h =
-    let ts : List Triple = carried (c .statements) t in
-    let o = carried-ascends (c .statements) t in
+pub fact-leaves : {c : Contents} {T : Tables} → Fitting c T → (t : Triple) → firstNo (tripleQuestions t) ≡ 0 → isStatement t ≡ false → isChange Withdrawal t (c .explicit) ≡ true
+    → ((n : ℕ) → List·Memᴰ n (keptSupports (contentsAfter Withdrawal t c .kept)) → n ≤ length (contentsAfter Withdrawal t c .explicit .facts)) → Fitting (contentsAfter Withdrawal t c) T
+unfolding contentsAfter keptAfter isAdmitted
+fact-leaves {c} {T} X t p s b h =
+    let ts : List Triple = carried (c .explicit .statements) t in
+    let o = carried-ascends (c .explicit .statements) t in
     let a = fitting-counts X in
     let left = lowerAll-counts ts (c .kept) a in
+    let f = admitted-fits Withdrawal t (c .explicit) (capacitiesOf T) b refl (X .statements-fit) (X .facts-fit) in
     rw s (record {
-      statements-ascend = X .statements-ascend;
-      facts-ascend = remove-asc t (c .facts) (X .facts-ascend);
+      sets = applying-allowed Withdrawal t (c .explicit) (X .sets) p;
       kept-ascend = kept-ascends (lowerAll ts (c .kept)) left;
-      statements-allowed = X .statements-allowed;
-      facts-allowed = λ u i. X .facts-allowed u (remove-sub t (c .facts) i);
       kept-allowed = λ u i. X .kept-allowed u (lowered-rows ts (c .kept) o a u i);
-      statements-fit = X .statements-fit;
-      facts-fit = let f = X .facts-fit in omega (arith, remove-length t (c .facts));
+      statements-fit = f .0;
+      facts-fit = f .1;
       kept-fit = let k = X .kept-fit in omega (arith, lowerAll-length ts (c .kept));
       supports-between = λ n i. (kept-positive (lowerAll ts (c .kept)) left n i, (rw s at h) n i);
     })

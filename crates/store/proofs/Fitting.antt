@@ -8,7 +8,7 @@ use lib.ListN.{length, take, replicate, length-map}
 use Rattle.spec.specs.declared.Triple.{Triple}
 use Rattle.spec.specs.Terms.{isAllowedStatement, isAllowedFact}
 use Rattle.spec.specs.inside.Comparison.{Ascending}
-use Rattle.spec.specs.Tables.{mostStatements, mostFacts, mostKept, count, rows, supportLayout, isSupport, isStore, Tables, tables, areFormed, Contents, contents, keptOf, contentsOf, put, statementCapacity, factCapacity, keptCapacity}
+use Rattle.spec.specs.Tables.{mostStatements, mostFacts, mostKept, count, rows, supportLayout, isSupport, Tables, tables, areFormed, Contents, contents, keptOf, contentsOf, put, capacitiesOf}
 use Rattle.spec.specs.inside.Laid.{FormedStore}
 use Rattle.spec.proofs.TableRows.{length-rows, rows-layout, length-layout, count-layout}
 use Rattle.spec.proofs.TableFormed.{capacity-fits, capacity-most, layout-isTable}
@@ -17,6 +17,7 @@ use Rattle.spec.proofs.TableAll.{all-member, member-all}
 use Rattle.table.proofs.Store.{isStore-formed}
 use Rattle.spec.specs.Saturation.{Kept, keptRows, keptSupports}
 use Rattle.spec.proofs.Kept.{length-keptRows}
+use Rattle.spec.proofs.LedgerSets.{Allowed}
 use Rattle.update_kept.proofs.Entries.{keptSupports-entries, keptOf-entries}
 use Rattle.update_kept.proofs.Formed.{kept-tables, keptRows-keptOf, length-keptOf}
 
@@ -32,22 +33,19 @@ pub contentsOf-put : (c : Contents) (T : Tables) → contentsOf (put c T) ≡ c
 unfolding contentsOf put keptOf supportLayout
 contentsOf-put c T =
     let z : List ℕ = replicate (length (T .supports) - length (keptSupports (c .kept))) 0 in
-    simp rows-layout (λ i. contents (c .statements) (c .facts) (zip-kept (c .kept) z i))
+    simp rows-layout (λ i. contents (c .explicit) (zip-kept (c .kept) z i))
 
 -- ---- contents that fit
 
 -- Contents that tables of the lengths of T can hold, well formed.
 pub record Fitting (c : Contents) (T : Tables) : Type 0 where
-  pub statements-ascend : Ascending (c .statements)
-  pub facts-ascend : Ascending (c .facts)
+  pub sets : Allowed (c .explicit)
   pub kept-ascend : Ascending (keptRows (c .kept))
-  pub statements-allowed : (u : Triple) → List·Memᴰ u (c .statements) → isAllowedStatement u ≡ true
-  pub facts-allowed : (u : Triple) → List·Memᴰ u (c .facts) → isAllowedFact u ≡ true
   pub kept-allowed : (u : Triple) → List·Memᴰ u (keptRows (c .kept)) → isAllowedFact u ≡ true
-  pub statements-fit : length (c .statements) ≤ statementCapacity T
-  pub facts-fit : length (c .facts) ≤ factCapacity T
-  pub kept-fit : length (c .kept) ≤ keptCapacity T
-  pub supports-between : (n : ℕ) → List·Memᴰ n (keptSupports (c .kept)) → (1 ≤ n) × (n ≤ length (c .facts))
+  pub statements-fit : length (c .explicit .statements) ≤ capacitiesOf T .statements
+  pub facts-fit : length (c .explicit .facts) ≤ capacitiesOf T .facts
+  pub kept-fit : length (c .kept) ≤ capacitiesOf T .kept
+  pub supports-between : (n : ℕ) → List·Memᴰ n (keptSupports (c .kept)) → (1 ≤ n) × (n ≤ length (c .explicit .facts))
 
 -- Each table of rows has a word.
 pub record Worded (T : Tables) : Type 0 where
@@ -66,32 +64,32 @@ pub length-supports-of : (k : Kept) → length (keptSupports k) ≡ length k
 length-supports-of k = length-map k (λ (e : Triple × ℕ). e .1)
 
 module _ {c : Contents} {T : Tables} (X : Fitting c T) (H : Worded T) where
-  statement-room : length (c .statements) * 3 < length (T .statements)
-  statement-room = capacity-fits mostStatements (T .statements) (length (c .statements)) (H .statement-words) (X .statements-fit)
+  statement-room : length (c .explicit .statements) * 3 < length (T .statements)
+  statement-room = capacity-fits mostStatements (T .statements) (length (c .explicit .statements)) (H .statement-words) (X .statements-fit)
 
-  fact-room : length (c .facts) * 3 < length (T .facts)
-  fact-room = capacity-fits mostFacts (T .facts) (length (c .facts)) (H .fact-words) (X .facts-fit)
+  fact-room : length (c .explicit .facts) * 3 < length (T .facts)
+  fact-room = capacity-fits mostFacts (T .facts) (length (c .explicit .facts)) (H .fact-words) (X .facts-fit)
 
   kept-room : length (keptRows (c .kept)) * 3 < length (T .kept)
   kept-room = capacity-fits mostKept (T .kept) (length (keptRows (c .kept))) (H .kept-words) (rw (length-keptRows (c .kept)) (let h = X .kept-fit in omega arith))
 
   -- Put into the tables they are well formed,
   pub put-formed : areFormed (put c T) ≡ true
-  unfolding isStore put
+  unfolding areFormed put
   put-formed =
-      let s = layout-isTable isAllowedStatement mostStatements (length (T .statements)) (c .statements) statement-room (let h = X .statements-fit in omega (arith, capacity-most mostStatements (T .statements))) (X .statements-ascend) (member-all isAllowedStatement (c .statements) (X .statements-allowed)) in
-      let f = layout-isTable isAllowedFact mostFacts (length (T .facts)) (c .facts) fact-room (let h = X .facts-fit in omega (arith, capacity-most mostFacts (T .facts))) (X .facts-ascend) (member-all isAllowedFact (c .facts) (X .facts-allowed)) in
+      let s = layout-isTable isAllowedStatement mostStatements (length (T .statements)) (c .explicit .statements) statement-room (let h = X .statements-fit in omega (arith, capacity-most mostStatements (T .statements))) (X .sets .statements-ascend) (member-all isAllowedStatement (c .explicit .statements) (X .sets .statements-allowed)) in
+      let f = layout-isTable isAllowedFact mostFacts (length (T .facts)) (c .explicit .facts) fact-room (let h = X .facts-fit in omega (arith, capacity-most mostFacts (T .facts))) (X .sets .facts-ascend) (member-all isAllowedFact (c .explicit .facts) (X .sets .facts-allowed)) in
       let k = layout-isTable isAllowedFact mostKept (length (T .kept)) (keptRows (c .kept)) kept-room (rw (length-keptRows (c .kept)) (let h = X .kept-fit in omega (arith, capacity-most mostKept (T .kept)))) (X .kept-ascend) (member-all isAllowedFact (keptRows (c .kept)) (X .kept-allowed)) in
-      let u = supportLayout-is (length (c .facts)) (length (T .supports)) (length (c .kept)) (keptSupports (c .kept)) (length-supports-of (c .kept)) (let h = X .kept-fit in omega arith)
-      (member-all (isSupport (length (c .facts))) (keptSupports (c .kept)) (λ n m. let b = X .supports-between n m in between-isSupport (length (c .facts)) n (b .0) (b .1))) in
+      let u = supportLayout-is (length (c .explicit .facts)) (length (T .supports)) (length (c .kept)) (keptSupports (c .kept)) (length-supports-of (c .kept)) (let h = X .kept-fit in omega arith)
+      (member-all (isSupport (length (c .explicit .facts))) (keptSupports (c .kept)) (λ n m. let b = X .supports-between n m in between-isSupport (length (c .explicit .facts)) n (b .0) (b .1))) in
       rw (s, f, k) (simp (count-layout, length-keptRows (c .kept)) u)
 
   -- and the tables keep their lengths.
   pub put-lengths : SameLengths (put c T) T
   unfolding put
   put-lengths = record {
-    same-statements = length-layout (length (T .statements)) (c .statements) statement-room;
-    same-facts = length-layout (length (T .facts)) (c .facts) fact-room;
+    same-statements = length-layout (length (T .statements)) (c .explicit .statements) statement-room;
+    same-facts = length-layout (length (T .facts)) (c .explicit .facts) fact-room;
     same-kept = length-layout (length (T .kept)) (keptRows (c .kept)) kept-room;
     same-supports = length-supportLayout (length (T .supports)) (keptSupports (c .kept)) (rw (length-supports-of (c .kept)) (let h = X .kept-fit in omega arith));
   }
@@ -106,11 +104,13 @@ module _ {S F K U : List ℕ} (W : FormedStore S F K U) where
   formed-fits : Fitting (contentsOf (tables S F K U)) (tables S F K U)
   unfolding contentsOf
   formed-fits = record {
-    statements-ascend = W .statements .ascends;
-    facts-ascend = W .facts .ascends;
+    sets = record {
+      statements-ascend = W .statements .ascends;
+      facts-ascend = W .facts .ascends;
+      statements-allowed = λ u m. all-member isAllowedStatement (rows S) (W .statements .each-allowed) m;
+      facts-allowed = λ u m. all-member isAllowedFact (rows F) (W .facts .each-allowed) m;
+    };
     kept-ascend = rw (keptRows-keptOf W) (W .kept .ascends);
-    statements-allowed = λ u m. all-member isAllowedStatement (rows S) (W .statements .each-allowed) m;
-    facts-allowed = λ u m. all-member isAllowedFact (rows F) (W .facts .each-allowed) m;
     kept-allowed = λ u m. all-member isAllowedFact (rows K) (W .kept .each-allowed) (subst (List·Memᴰ u) (keptRows-keptOf W) m);
     statements-fit = W .statements .within;
     facts-fit = W .facts .within;

@@ -1,4 +1,3 @@
-pub mod Statements
 pub mod Passing
 pub mod Fitting
 pub mod Applied

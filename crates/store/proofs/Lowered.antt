@@ -9,7 +9,6 @@ use lib.Dec.{leb}
 use borrow.Author.Tests.{leb-true, le-leb}
 use Rattle.spec.specs.declared.Triple.{Triple}
 use Rattle.spec.specs.Terms.{isStatement}
-use Rattle.spec.specs.Refusals.{firstNo}
 use Rattle.spec.proofs.Lists.{true-not-false, by-test}
 use Rattle.spec.specs.Tables.{count, isSupport, Tables, areFormed, Contents, contentsOf, put}
 use Rattle.spec.specs.Lists.{all}
@@ -22,10 +21,12 @@ use Rattle.spec.specs.computed.Carried.{carried}
 use Rattle.spec.proofs.Carried.{carried-ascends}
 use Rattle.spec.proofs.Kept.{length-keptRows}
 use Rattle.spec.proofs.Saturation.{lowerAll-length}
-use Rattle.spec.specs.Updates.{withoutTriple, isThere, withdrawalQuestions, Outcome, withdraw}
+use Rattle.spec.specs.declared.Answer.{Answer}
+use Rattle.spec.specs.declared.Change.the-variants.{Withdrawal}
+use Rattle.spec.specs.Updates.{isChange, keptAfter, contentsAfter, withdraw}
 use Rattle.store.proofs.Fitting.{Fitting, put-formed, supports-are, length-supports-of, formed-fitting, formed-worded}
 use Rattle.store.proofs.Applied.{lowered-supports, fitting-counts, fact-leaves}
-use Rattle.store.proofs.Laws.{decide-elim}
+use Rattle.store.proofs.Laws.{update-elim, Asked, asked}
 
 -- The supports of the kept facts.
 abbrev pub supportsOf : Tables → List ℕ
@@ -62,9 +63,9 @@ unfolding put
 put-supports c T = rw (count-layout, length-keptRows) (take-supportLayout (length (T .supports)) (length (c .kept)) (keptSupports (c .kept)) (length-supports-of (c .kept)))
 
 -- so is the number of facts,
-put-facts : (c : Contents) (T : Tables) → count (put c T .facts) ≡ length (c .facts)
+put-facts : (c : Contents) (T : Tables) → count (put c T .facts) ≡ length (c .explicit .facts)
 unfolding put
-put-facts c T = count-layout (length (T .facts)) (c .facts)
+put-facts c T = count-layout (length (T .facts)) (c .explicit .facts)
 
 -- and there is a place for each kept fact where there is room.
 put-places : (c : Contents) (T : Tables) → length (c .kept) ≤ length (T .supports) → count (put c T .kept) ≤ length (put c T .supports)
@@ -74,47 +75,46 @@ put-places c T h = rw (count-layout, length-keptRows, length-supportLayout (leng
 -- ---- the contents left
 
 -- No support is above a bound of all.
-left-within : {c : Contents} {T : Tables} → Fitting c T → (t : Triple) → isStatement t ≡ false → (b : ℕ) → ((n : ℕ) → List·Memᴰ n (keptSupports (c .kept)) → n ≤ b) → (n : ℕ) → List·Memᴰ n (keptSupports (withoutTriple t c .kept)) → n ≤ b
-unfolding withoutTriple
-left-within {c} X t s b h = rw s (lowered-supports (carried (c .statements) t) (c .kept) b (carried-ascends (c .statements) t) (fitting-counts X) h)
+left-within : {c : Contents} {T : Tables} → Fitting c T → (t : Triple) → isStatement t ≡ false → (b : ℕ) → ((n : ℕ) → List·Memᴰ n (keptSupports (c .kept)) → n ≤ b) → (n : ℕ) → List·Memᴰ n (keptSupports (contentsAfter Withdrawal t c .kept)) → n ≤ b
+unfolding contentsAfter keptAfter
+left-within {c} X t s b h = rw s (lowered-supports (carried (c .explicit .statements) t) (c .kept) b (carried-ascends (c .explicit .statements) t) (fitting-counts X) h)
 
 -- There are no more of them.
-left-few : {c : Contents} {T : Tables} → Fitting c T → (t : Triple) → isStatement t ≡ false → length (withoutTriple t c .kept) ≤ length (T .supports)
-unfolding withoutTriple
-left-few {c} X t s = rw s (let k = X .kept-fit in omega (arith, lowerAll-length (carried (c .statements) t) (c .kept)))
+left-few : {c : Contents} {T : Tables} → Fitting c T → (t : Triple) → isStatement t ≡ false → length (contentsAfter Withdrawal t c .kept) ≤ length (T .supports)
+unfolding contentsAfter keptAfter
+left-few {c} X t s = rw s (let k = X .kept-fit in omega (arith, lowerAll-length (carried (c .explicit .statements) t) (c .kept)))
 
 -- Put into the tables they are well formed exactly if no support is above the number of facts left.
-left-formed : (T : Tables) (t : Triple) → areFormed T ≡ true → isStatement t ≡ false
-    → areFormed (put (withoutTriple t (contentsOf T)) T) ≡ areSupportsWithin (count (put (withoutTriple t (contentsOf T)) T .facts)) (put (withoutTriple t (contentsOf T)) T)
-left-formed T t e s =
-    let c : Contents = withoutTriple t (contentsOf T) in
+left-formed : (T : Tables) (t : Triple) → areFormed T ≡ true → isStatement t ≡ false → Asked Withdrawal t T → isChange Withdrawal t (contentsOf T .explicit) ≡ true
+    → areFormed (put (contentsAfter Withdrawal t (contentsOf T)) T) ≡ areSupportsWithin (count (put (contentsAfter Withdrawal t (contentsOf T)) T .facts)) (put (contentsAfter Withdrawal t (contentsOf T)) T)
+left-formed T t e s A b =
+    let c : Contents = contentsAfter Withdrawal t (contentsOf T) in
     let T' : Tables = put c T in
     by-test (areSupportsWithin (count (T' .facts)) T')
-    (λ w. put-formed (fact-leaves (formed-fitting T e) t s (λ n m. within-each (length (c .facts)) (keptSupports (c .kept)) (rw (put-facts c T, put-supports c T) at w) n m)) (formed-worded T e) ∙ sym w)
+    (λ w. put-formed (fact-leaves (formed-fitting T e) t (A .passed) s b (λ n m. within-each (length (c .explicit .facts)) (keptSupports (c .kept)) (rw (put-facts c T, put-supports c T) at w) n m)) (formed-worded T e) ∙ sym w)
     (λ w. by-test (areFormed T') (λ f. absurd (true-not-false (sym (formed-within T' f) ∙ w))) (λ f. f ∙ sym w))
 
 -- ---- the withdrawal of a fact from a well-formed store
 
 module _ (T : Tables) (t : Triple) (s : isStatement t ≡ false) (e : areFormed T ≡ true) where
   -- The store is well formed after it exactly if no support is above the number of facts.
-  pub withdraw-fact-formed : areFormed (withdraw T t .after) ≡ areSupportsWithin (count (withdraw T t .after .facts)) (withdraw T t .after)
-  unfolding withdraw
+  pub withdraw-fact-formed : areFormed (withdraw T t .1) ≡ areSupportsWithin (count (withdraw T t .1 .facts)) (withdraw T t .1)
   withdraw-fact-formed =
-      decide-elim (λ (o : Outcome). areFormed (o .after) ≡ areSupportsWithin (count (o .after .facts)) (o .after)) (firstNo (withdrawalQuestions t T)) (isThere t (contentsOf T)) (withoutTriple t (contentsOf T)) T
-      (λ _ _. e ∙ sym (formed-within T e)) (λ _ _. left-formed T t e s) (λ _ _. e ∙ sym (formed-within T e))
+      update-elim (λ (o : Answer × Tables). areFormed (o .1) ≡ areSupportsWithin (count (o .1 .facts)) (o .1)) Withdrawal T t
+      (λ _ _. e ∙ sym (formed-within T e)) (λ q b. left-formed T t e s (asked Withdrawal t T q b) b) (λ _ _. e ∙ sym (formed-within T e))
 
   -- What was a bound of the supports still is one.
-  pub withdraw-fact-within : (b : ℕ) → areSupportsWithin b T ≡ true → areSupportsWithin b (withdraw T t .after) ≡ true
-  unfolding withdraw contentsOf
+  pub withdraw-fact-within : (b : ℕ) → areSupportsWithin b T ≡ true → areSupportsWithin b (withdraw T t .1) ≡ true
+  unfolding contentsOf
   withdraw-fact-within b h =
       let W = isStore-formed (T .statements) (T .facts) (T .kept) (T .supports) e in
+      let c : Contents = contentsAfter Withdrawal t (contentsOf T) in
       let before : (n : ℕ) → List·Memᴰ n (keptSupports (contentsOf T .kept)) → n ≤ b = within-each b (keptSupports (contentsOf T .kept)) (rw (supports-are W) h) in
-      decide-elim (λ (o : Outcome). areSupportsWithin b (o .after) ≡ true) (firstNo (withdrawalQuestions t T)) (isThere t (contentsOf T)) (withoutTriple t (contentsOf T)) T
-      (λ _ _. h) (λ _ _. rw (put-supports (withoutTriple t (contentsOf T)) T) (each-within b (keptSupports (withoutTriple t (contentsOf T) .kept)) (left-within (formed-fitting T e) t s b before))) (λ _ _. h)
+      update-elim (λ (o : Answer × Tables). areSupportsWithin b (o .1) ≡ true) Withdrawal T t
+      (λ _ _. h) (λ _ _. rw (put-supports c T) (each-within b (keptSupports (c .kept)) (left-within (formed-fitting T e) t s b before))) (λ _ _. h)
 
   -- Each kept fact has a place for its support.
-  pub withdraw-fact-places : count (withdraw T t .after .kept) ≤ length (withdraw T t .after .supports)
-  unfolding withdraw
+  pub withdraw-fact-places : count (withdraw T t .1 .kept) ≤ length (withdraw T t .1 .supports)
   withdraw-fact-places =
-      decide-elim (λ (o : Outcome). count (o .after .kept) ≤ length (o .after .supports)) (firstNo (withdrawalQuestions t T)) (isThere t (contentsOf T)) (withoutTriple t (contentsOf T)) T
-      (λ _ _. formed-places T e) (λ _ _. put-places (withoutTriple t (contentsOf T)) T (left-few (formed-fitting T e) t s)) (λ _ _. formed-places T e)
+      update-elim (λ (o : Answer × Tables). count (o .1 .kept) ≤ length (o .1 .supports)) Withdrawal T t
+      (λ _ _. formed-places T e) (λ _ _. put-places (contentsAfter Withdrawal t (contentsOf T)) T (left-few (formed-fitting T e) t s)) (λ _ _. formed-places T e)

@@ -9,14 +9,14 @@ use lib.ListN.{replicate}
 use Rattle.spec.specs.declared.Triple.{Triple}
 use Rattle.spec.specs.Terms.{isAllowedStatement, isAllowedFact}
 use Rattle.spec.proofs.Ascending.{and-left, and-right}
-use Rattle.spec.specs.Tables.{mostStatements, mostFacts, mostKept, count, layout, flatten, isTable, isStatementTable, isFactTable, isKeptTable, isSupportTable, supportLayout, isStore}
+use Rattle.spec.specs.Tables.{mostStatements, mostFacts, mostKept, count, layout, flatten, isTable, isStatementTable, isFactTable, isKeptTable, isSupportTable, supportLayout, tables, areFormed}
 use Rattle.spec.specs.Lists.{all}
 use Rattle.spec.specs.inside.Laid.{FormedStore}
 use Rattle.spec.proofs.TableFormed.{isTable-wellFormed, wellFormed-isTable, layout-isTable}
 use Rattle.table.proofs.Supports.{supports-of, supports-is, supportLayout-is}
 
-pub isStore-formed : (S F K U : List ℕ) → isStore S F K U ≡ true → FormedStore S F K U
-unfolding isStore
+pub isStore-formed : (S F K U : List ℕ) → areFormed (tables S F K U) ≡ true → FormedStore S F K U
+unfolding areFormed
 isStore-formed S F K U e =
     let f = and-right (isStatementTable S) _ e in
     let k = and-right (isFactTable F) _ f in
@@ -27,8 +27,8 @@ isStore-formed S F K U e =
       supports = supports-of (count F) (count K) U (and-right (isKeptTable K) _ k);
     }
 
-pub formed-isStore : {S F K U : List ℕ} → FormedStore S F K U → isStore S F K U ≡ true
-unfolding isStore
+pub formed-isStore : {S F K U : List ℕ} → FormedStore S F K U → areFormed (tables S F K U) ≡ true
+unfolding areFormed
 formed-isStore {S} {F} {K} {U} R = rw (wellFormed-isTable (R .statements), wellFormed-isTable (R .facts), wellFormed-isTable (R .kept)) (supports-is (R .supports))
 
 -- A table of zeros, of one word or more, holds no row.
@@ -50,7 +50,7 @@ empty-count zero = refl
 empty-count (suc n) = refl
 
 -- "An empty store is well formed, its counts 0."
-pub empty-isStore : (s f k u : ℕ) → 0 < s → 0 < f → 0 < k → isStore (replicate s 0) (replicate f 0) (replicate k 0) (replicate u 0) ≡ true
-unfolding isStore
+pub empty-isStore : (s f k u : ℕ) → 0 < s → 0 < f → 0 < k → areFormed (tables (replicate s 0) (replicate f 0) (replicate k 0) (replicate u 0)) ≡ true
+unfolding areFormed
 empty-isStore s f k u h i j =
     rw (empty-isTable isAllowedStatement mostStatements s h, empty-isTable isAllowedFact mostFacts f i, empty-isTable isAllowedFact mostKept k j, empty-count f, empty-count k) (empty-supports 0 u)

@@ -8,7 +8,7 @@ ghost use lib.ListN.{length, take, drop};
 ghost use lib.Dec.{leb};
 ghost use Rattle.spec.specs.Terms.{isAllowedStatement, isAllowedFact};
 ghost use Rattle.spec.specs.Order.{isLess};
-ghost use Rattle.spec.specs.Tables.{areZero, isTable, isStatementTable, isFactTable, isKeptTable, isSupport, isSupportTable, isStore};
+ghost use Rattle.spec.specs.Tables.{areZero, isTable, isStatementTable, isFactTable, isKeptTable, isSupport, isSupportTable, tables, areFormed};
 ghost use Rattle.spec.specs.Lists.{all};
 ghost use Rattle.table_check.specs.inside.Allowed.{allowedIn, areRowsFrom};
 
@@ -221,7 +221,7 @@ pub fn is_support_table(u: &[u16], facts: usize, n: usize) -> bool
 
 // Question 1 for an update or a delivery: whether the four tables are well formed together.
 pub fn is_store(statements: &[u32], facts: &[u32], kept: &[u32], supports: &[u16]) -> bool
-    ensures { λ r. ⌜ r ≡ isStore (now (statements .entry)) (now (facts .entry)) (now (kept .entry)) (now (supports .entry)) ⌝ }
+    ensures { λ r. ⌜ r ≡ areFormed (tables (now (statements .entry)) (now (facts .entry)) (now (kept .entry)) (now (supports .entry))) ⌝ }
 {
     if !is_statement_table(statements) {
         return false;

@@ -11,12 +11,11 @@ use Rattle.spec.specs.Terms.{isTriple, isStatement, isAllowedFact}
 use Rattle.spec.specs.Order.{isAscending}
 use Rattle.spec.specs.inside.Comparison.{Ascending}
 use Rattle.spec.proofs.Ascending.{and-left, and-right}
-use Rattle.table.specs.declared.Found.{Found}
 use Rattle.table.specs.declared.Found.the-variants.{At, Gap}
-use Rattle.spec.specs.Tables.{capacity, mostStatements, mostFacts, mostKept, count, firstRows, rows, flatten, layout, tables, contentsOf, keptOf, put}
+use Rattle.spec.specs.Tables.{capacity, mostStatements, mostFacts, mostKept, count, firstRows, rows, flatten, layout, tables, capacitiesOf, contentsOf, keptOf, put}
 use Rattle.table.specs.inside.Search.{place, insertAt, removeAt}
 use Rattle.spec.specs.inside.Laid.{Spare, FormedStore}
-use Rattle.spec.proofs.TableRows.{length-rows, length-firstRows, firstRows-rows}
+use Rattle.spec.proofs.TableRows.{length-rows, length-firstRows}
 use Rattle.spec.proofs.TableFormed.{capacity-fits, capacity-most, ready, spare}
 use Rattle.table.proofs.Supports.{support-between}
 use Rattle.table.proofs.Place.{at-member, gap-absent}
@@ -28,8 +27,10 @@ use Rattle.spec.proofs.Carried.{carried-ascends, carried-bound}
 use Rattle.spec.proofs.Saturation.{raiseAll-length, lowerAll-length}
 use Rattle.rdfs_derive.proofs.WordRows.{rows-listed, rows-within}
 use Rattle.spec.specs.declared.Answer.the-variants.{Applied, Idle, Refused}
-use Rattle.spec.specs.Updates.{withTriple, withoutTriple, isThere, isBelowCapacity, isKeptFitting, outcome, add, withdraw}
-use Rattle.spec.proofs.Outcomes.{Passes, add-idle, add-full, add-unfit, add-applied, withdraw-idle, withdraw-applied, there-yes, there-no}
+use Rattle.spec.specs.declared.Change.{Change}
+use Rattle.spec.specs.declared.Change.the-variants.{Addition, Withdrawal}
+use Rattle.spec.specs.Updates.{isMember, changed, applying, isChange, isAdmitted, keptAfter, contentsAfter, isKeptFitting, update, add, withdraw, outcome}
+use Rattle.spec.proofs.Outcomes.{Passes, update-idle, update-full, update-unfit, update-applied, member-yes, member-no}
 use Rattle.update_kept.specs.inside.Entries.{Sought, Holding}
 use Rattle.update_kept.proofs.Formed.{kept-tables, keptRows-keptOf, length-keptOf, kept-within}
 use Rattle.update_raise.specs.inside.Raising.{Raisable}
@@ -59,30 +60,46 @@ module _ {S F K U : List ℕ} (W : FormedStore S F K U) (t : Triple) (a : isAllo
   passes = record { formed = formed-isStore W; is-triple = and-left _ _ a; sides = rw no-statement refl }
 
   -- Whether it is there, by what a search found.
-  present : {i : ℕ} → place t (rows F) ≡ At i → isThere t (contentsOf (tables S F K U)) ≡ true
+  present : {i : ℕ} → place t (rows F) ≡ At i → isMember t (contentsOf (tables S F K U) .explicit) ≡ true
   unfolding contentsOf
-  present {i} e = there-yes t (contentsOf (tables S F K U)) (rw no-statement (at-member t (rows F) i e))
+  present {i} e = member-yes t (contentsOf (tables S F K U) .explicit) (rw no-statement (at-member t (rows F) i e))
 
-  missing : {i : ℕ} → place t (rows F) ≡ Gap i → isThere t (contentsOf (tables S F K U)) ≡ false
+  missing : {i : ℕ} → place t (rows F) ≡ Gap i → isMember t (contentsOf (tables S F K U) .explicit) ≡ false
   unfolding contentsOf
-  missing {i} e = there-no t (contentsOf (tables S F K U)) (rw no-statement (gap-absent t (rows F) i (W .facts .ascends) e))
+  missing {i} e = member-no t (contentsOf (tables S F K U) .explicit) (rw no-statement (gap-absent t (rows F) i (W .facts .ascends) e))
 
   -- A fact that is there is not added again, and one that is absent is not withdrawn.
-  pub fact-there : {i : ℕ} → place t (rows F) ≡ At i → outcome Idle (tables S F K U) ≡ add (tables S F K U) t
-  fact-there e = sym (add-idle passes (present e))
+  pub fact-there : {i : ℕ} {d : Change} → d ≡ Addition → place t (rows F) ≡ At i → outcome Idle (tables S F K U) ≡ update d (tables S F K U) t
+  unfolding isChange
+  fact-there q e = rw q (sym (update-idle Addition passes (rw (present e) refl)))
 
-  pub fact-absent : {i : ℕ} → place t (rows F) ≡ Gap i → outcome Idle (tables S F K U) ≡ withdraw (tables S F K U) t
-  fact-absent e = sym (withdraw-idle passes (missing e))
+  pub fact-absent : {i : ℕ} {d : Change} → d ≡ Withdrawal → place t (rows F) ≡ Gap i → outcome Idle (tables S F K U) ≡ update d (tables S F K U) t
+  unfolding isChange
+  fact-absent q e = rw q (sym (update-idle Withdrawal passes (missing e)))
+
+  -- A fact that is not there changes the facts by entering, and one that is there by leaving.
+  enters : {i : ℕ} → place t (rows F) ≡ Gap i → isChange Addition t (contentsOf (tables S F K U) .explicit) ≡ true
+  unfolding isChange
+  enters e = rw (missing e) refl
+
+  leaves : {i : ℕ} → place t (rows F) ≡ At i → isChange Withdrawal t (contentsOf (tables S F K U) .explicit) ≡ true
+  unfolding isChange
+  leaves e = present e
 
   -- The facts are full.
   pub facts-full : {i : ℕ} → place t (rows F) ≡ Gap i → capacity mostFacts F ≤ length (rows F) → outcome (Refused 4) (tables S F K U) ≡ add (tables S F K U) t
-  unfolding isBelowCapacity contentsOf
-  facts-full e h = sym (add-full passes (missing e) (rw no-statement (le-ltb (length (rows F)) (capacity mostFacts F) h)))
+  unfolding isAdmitted contentsOf
+  facts-full e h = sym (update-full Addition passes (rw (missing e, no-statement) (le-ltb (length (rows F)) (capacity mostFacts F) h)))
 
   -- They are not full.
-  below : length (rows F) < capacity mostFacts F → isBelowCapacity t (tables S F K U) ≡ true
-  unfolding isBelowCapacity contentsOf
-  below h = rw no-statement (lt-ltb (length (rows F)) (capacity mostFacts F) h)
+  below : {i : ℕ} → place t (rows F) ≡ Gap i → length (rows F) < capacity mostFacts F → isAdmitted (capacitiesOf (tables S F K U)) Addition t (contentsOf (tables S F K U) .explicit) ≡ true
+  unfolding isAdmitted contentsOf
+  below e h = rw (missing e, no-statement) (lt-ltb (length (rows F)) (capacity mostFacts F) h)
+
+  -- A withdrawal is not asked.
+  unasked : isAdmitted (capacitiesOf (tables S F K U)) Withdrawal t (contentsOf (tables S F K U) .explicit) ≡ true
+  unfolding isAdmitted
+  unasked = refl
 
   -- ---- what it carries, in words
 
@@ -114,9 +131,9 @@ module _ {S F K U : List ℕ} (W : FormedStore S F K U) (t : Triple) (a : isAllo
 
       -- The kept facts do not fit.
       pub kept-unfit : {i : ℕ} → place t (rows F) ≡ Gap i → length (rows F) < capacity mostFacts F → min (capacity mostKept K) (length U) < length (rows K) + m → outcome (Refused 5) (tables S F K U) ≡ add (tables S F K U) t
-      unfolding isKeptFitting withTriple contentsOf
+      unfolding isKeptFitting contentsAfter keptAfter contentsOf
       kept-unfit p h l =
-          sym (add-unfit passes (missing p) (below h)
+          sym (update-unfit Addition passes (enters p) (below p h)
           (rw (no-statement, ← listed) (lt-leb (length (raiseAll (firstRows c rs) (keptOf K U))) (min (capacity mostKept K) (length U)) (omega (arith, raised-length)))))
 
       -- What `raise_all` asks.
@@ -136,9 +153,9 @@ module _ {S F K U : List ℕ} (W : FormedStore S F K U) (t : Triple) (a : isAllo
       pub fact-added : {i : ℕ} {F' K' U' : List ℕ} → place t (rows F) ≡ Gap i → length (rows F) < capacity mostFacts F → length (rows K) + m ≤ min (capacity mostKept K) (length U)
           → F' ≡ layout (length F) (insertAt i t (rows F)) → Holding (raiseAll (firstRows c rs) (keptOf K U)) K U K' U'
           → outcome Applied (tables S F' K' U') ≡ add (tables S F K U) t
-      unfolding isKeptFitting withTriple contentsOf put
+      unfolding isKeptFitting contentsAfter keptAfter applying changed contentsOf put
       fact-added {i} {F'} {K'} {U'} p h l f H =
-          sym (add-applied passes (missing p) (below h)
+          sym (update-applied Addition passes (enters p) (below p h)
           (rw (no-statement, ← listed) (le-leb (length (raiseAll (firstRows c rs) (keptOf K U))) (min (capacity mostKept K) (length U)) (omega (arith, raised-length))))
           ∙ rw (no-statement, ← listed, ← insertAt-gap t (rows F) i p, ← f, ← (H .row-words), ← (H .support-places), ← (W .statements .laid .is-layout)) refl)
 
@@ -146,16 +163,12 @@ module _ {S F K U : List ℕ} (W : FormedStore S F K U) (t : Triple) (a : isAllo
     pub fact-withdrawn : {i : ℕ} {F' K' U' : List ℕ} → place t (rows F) ≡ At i
         → F' ≡ layout (length F) (removeAt i (rows F)) → Holding (lowerAll (firstRows c rs) (keptOf K U)) K U K' U'
         → outcome Applied (tables S F' K' U') ≡ withdraw (tables S F K U) t
-    unfolding isKeptFitting withoutTriple contentsOf put
+    unfolding isKeptFitting contentsAfter keptAfter applying changed contentsOf put
     fact-withdrawn {i} {F'} {K'} {U'} p f H =
-        sym (withdraw-applied passes (present p)
+        sym (update-applied Withdrawal passes (leaves p) unasked
         (rw (no-statement, ← listed) (le-leb (length (lowerAll (firstRows c rs) (keptOf K U))) (min (capacity mostKept K) (length U)) (omega (arith, lowerAll-length (firstRows c rs) (keptOf K U), kept-within W))))
         ∙ rw (no-statement, ← listed, ← removeAt-at t (rows F) i p, ← f, ← (H .row-words), ← (H .support-places), ← (W .statements .laid .is-layout)) refl)
 
   -- What `insert_at` asks.
   pub fact-spare : length (rows F) < capacity mostFacts F → Spare F
   fact-spare h = spare (W .facts) (omega arith) h
-
--- What a search among the facts found.
-pub found-place : (F : List ℕ) (t : Triple) (r f : Found) → r ≡ f → r ≡ place t (firstRows (count F) (drop 1 F)) → place t (rows F) ≡ f
-found-place F t r f e q = rw (← firstRows-rows F (count F) (length-rows F)) (sym q ∙ e)

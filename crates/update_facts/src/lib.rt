@@ -1,5 +1,6 @@
 // Additions and withdrawals of facts, once questions 1 to 3 are passed (document 01, "Tables").
 use spec::Answer;
+use spec::Change;
 use spec::Triple;
 use table::Found;
 use update_kept::kept_capacity;
@@ -9,11 +10,12 @@ use update_raise::raise_all;
 ghost use mathlib.Core.Path.{_≡_};
 ghost use mathlib.Core.Bool.{true};
 ghost use Rattle.spec.specs.Terms.{isAllowedFact};
-ghost use Rattle.table.specs.declared.Found.the-variants.{Gap};
+ghost use Rattle.table.specs.declared.Found.the-variants.{At, Gap};
 ghost use Rattle.spec.specs.Tables.{rows, tables};
 ghost use Rattle.table.specs.inside.Search.{place};
 ghost use Rattle.spec.specs.inside.Laid.{FormedStore};
-ghost use Rattle.spec.specs.Updates.{outcome, add, withdraw};
+ghost use Rattle.spec.specs.declared.Answer.the-variants.{Applied};
+ghost use Rattle.spec.specs.Updates.{outcome, update, add, withdraw};
 
 // Adds a fact that is not there, at the gap where it would stand: refused by 4 or 5 only on a counted excess.
 fn add_new_fact(
@@ -44,46 +46,52 @@ fn add_new_fact(
     Answer::Applied
 }
 
-// Adds a fact, once questions 1 to 3 are passed. What is there already is idle, whatever the capacities.
-pub fn add_fact(
+// Withdraws a fact that is there, at its place. This is always applied: lowering adds no row, so that 5 never refuses.
+fn withdraw_old_fact(
     statements: &[u32],
     facts: &mut [u32],
     kept: &mut [u32],
     supports: &mut [u16],
     fact: Triple,
-) -> Answer
+    at: usize,
+)
     requires { ⌜ FormedStore (now statements) (now facts) (now kept) (now supports) ⌝ }
     requires { ⌜ isAllowedFact fact ≡ true ⌝ }
-    ensures { λ r. ⌜ outcome r (tables (now (statements .entry)) (now (facts .exit)) (now (kept .exit)) (now (supports .exit))) ≡ add (tables (now (statements .entry)) (now (facts .entry)) (now (kept .entry)) (now (supports .entry))) fact ⌝ }
+    requires { ⌜ place fact (rows (now facts)) ≡ At at ⌝ }
+    ensures { λ _. ⌜ outcome Applied (tables (now (statements .entry)) (now (facts .exit)) (now (kept .exit)) (now (supports .exit))) ≡ withdraw (tables (now (statements .entry)) (now (facts .entry)) (now (kept .entry)) (now (supports .entry))) fact ⌝ }
 {
-    let n = facts[0] as usize;
-    match table::find(facts, n, fact) {
-        Found::At(_) => Answer::Idle,
-        Found::Gap(at) => add_new_fact(statements, facts, kept, supports, fact, at),
-    }
+    let mut list = rdfs_derive::no_rows();
+    let c = rdfs_derive::carry(statements, fact, &mut list);
+    table::remove_at(facts, at);
+    lower_all(kept, supports, &list, c);
 }
 
-// Withdraws a fact, once questions 1 to 3 are passed. What is absent is idle; lowering adds no row, so that 5 never refuses.
-pub fn withdraw_fact(
+// Adds or withdraws a fact, once questions 1 to 3 are passed. Adding what is there is idle, whatever the capacities, and so is
+// withdrawing what is absent.
+pub fn update_fact(
     statements: &[u32],
     facts: &mut [u32],
     kept: &mut [u32],
     supports: &mut [u16],
+    change: Change,
     fact: Triple,
 ) -> Answer
     requires { ⌜ FormedStore (now statements) (now facts) (now kept) (now supports) ⌝ }
     requires { ⌜ isAllowedFact fact ≡ true ⌝ }
-    ensures { λ r. ⌜ outcome r (tables (now (statements .entry)) (now (facts .exit)) (now (kept .exit)) (now (supports .exit))) ≡ withdraw (tables (now (statements .entry)) (now (facts .entry)) (now (kept .entry)) (now (supports .entry))) fact ⌝ }
+    ensures { λ r. ⌜ outcome r (tables (now (statements .entry)) (now (facts .exit)) (now (kept .exit)) (now (supports .exit))) ≡ update change (tables (now (statements .entry)) (now (facts .entry)) (now (kept .entry)) (now (supports .entry))) fact ⌝ }
 {
     let n = facts[0] as usize;
     match table::find(facts, n, fact) {
-        Found::Gap(_) => Answer::Idle,
-        Found::At(at) => {
-            let mut list = rdfs_derive::no_rows();
-            let c = rdfs_derive::carry(statements, fact, &mut list);
-            table::remove_at(facts, at);
-            lower_all(kept, supports, &list, c);
-            Answer::Applied
-        }
+        Found::At(at) => match change {
+            Change::Addition => Answer::Idle,
+            Change::Withdrawal => {
+                withdraw_old_fact(statements, facts, kept, supports, fact, at);
+                Answer::Applied
+            }
+        },
+        Found::Gap(at) => match change {
+            Change::Addition => add_new_fact(statements, facts, kept, supports, fact, at),
+            Change::Withdrawal => Answer::Idle,
+        },
     }
 }

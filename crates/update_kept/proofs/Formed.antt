@@ -5,7 +5,7 @@ use mathlib.Core.List.{List, _++_}
 use native.Mathlib.Omega.{arith}
 use lib.ListN.{length, take, drop, replicate}
 use lib.Seq.{drop-at, length-take-le}
-use Rattle.spec.specs.Tables.{count, rows, supportLayout, tables, keptOf, keptCapacity}
+use Rattle.spec.specs.Tables.{count, rows, supportLayout, tables, capacitiesOf, keptOf}
 use Rattle.spec.specs.inside.Laid.{FormedStore}
 use Rattle.spec.proofs.TableRows.{length-rows}
 use Rattle.spec.specs.Saturation.{keptRows}
@@ -39,5 +39,5 @@ module _ {S F K U : List ℕ} (W : FormedStore S F K U) where
   length-keptOf = rw (keptOf-entries K U (length (rows K)) refl) (length-entries (length (rows K)) K U (kept-tables .places))
 
   -- and they fit.
-  pub kept-within : length (keptOf K U) ≤ keptCapacity (tables S F K U)
+  pub kept-within : length (keptOf K U) ≤ capacitiesOf (tables S F K U) .kept
   kept-within = let a = W .kept .within in let b = kept-tables .places in omega (arith, length-keptOf)

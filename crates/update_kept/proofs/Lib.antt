@@ -1,3 +1,4 @@
 pub mod Entries
 pub mod Less
 pub mod Formed
+pub mod Found

@@ -1,12 +1,13 @@
 -- By whether the store is well formed. Assumes nothing.
 use mathlib.Core.Path.{sym, _∙_}
-use mathlib.Core.Bool.{true}
 use borrow.Author.Tests.{not-true, not-false}
 use borrow.Author.Needs.{needs}
 use Rattle.table.proofs.Store.{isStore-formed}
-use Rattle.spec.specs.Deliveries.{addition}
-use Rattle.delivery_entry.specs.inside.Running.{keepsFormed}
-use Rattle.delivery_entry.proofs.Formed.{all-keep, malformed-adds}
+use Rattle.spec.specs.declared.Change.the-variants.{Addition}
+use Rattle.spec.specs.Updates.{update}
+use Rattle.spec.proofs.Outcomes.{update-malformed}
+use Rattle.delivery_section.specs.inside.Running.{keepsFormed}
+use Rattle.delivery_section.proofs.Formed.{all-keep}
 use Rattle.delivery_section.proofs.Runs.{left-first, left-refused}
 use Rattle.delivery_section.proofs.add_section.Statement.{statement}
 use Rattle.delivery_section.proofs.add_section.Tie as tie
@@ -27,7 +28,7 @@ returns c =
     let after-section-start = c .before .before in
     let after-short-at = c .before in
     let after-refused = c in
-    left-refused (after-short-at .short-at .result) (left-first addition (keepsFormed true) (start .args .bytes .now) _ (start .args .k) (after-section-start .section-start .result) (after-short-at .short-at .result) (start .args .counted) (start .pre .1) (all-keep _) (after-section-start .section-start .ensures .0) (after-short-at .short-at .ensures .0)) (malformed-adds _ (sym (start .pre .0) ∙ not-true _ (then1 .if1 .taken))) (after-refused .refused .ensures)
+    left-refused (after-short-at .short-at .result) (left-first (update Addition) (keepsFormed Addition) (start .args .bytes .now) _ (start .args .k) (after-section-start .section-start .result) (after-short-at .short-at .result) (start .args .counted) (start .pre .1) (all-keep _) (after-section-start .section-start .ensures .0) (after-short-at .short-at .ensures .0)) (λ t. update-malformed Addition _ t (sym (start .pre .0) ∙ not-true _ (then1 .if1 .taken))) (after-refused .refused .ensures)
 
 run-section-requires : tie.Need-run-section-requires
 run-section-requires c κs =

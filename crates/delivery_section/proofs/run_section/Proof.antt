@@ -5,19 +5,19 @@ use Rattle.spec.specs.inside.Laid.{FormedStore}
 use Rattle.spec.specs.Tables.{tables}
 use Rattle.store.proofs.Fitting.{SameLengths}
 use Rattle.delivery_format.proofs.Whole.{whole-length}
-use Rattle.delivery_entry.specs.inside.Running.{updateOf, keepsFormed}
-use Rattle.delivery_entry.proofs.Formed.{stays-formed}
+use Rattle.spec.specs.Updates.{update}
+use Rattle.delivery_section.proofs.Formed.{stays-formed}
 use Rattle.spec.specs.Deliveries.{progress, runEntries}
-use Rattle.delivery_section.specs.inside.Running.{section}
+use Rattle.delivery_section.specs.inside.Running.{keepsFormed, section}
 use Rattle.delivery_section.proofs.Runs.{Left, left-first, left-tested, left-next, left-none}
 use Rattle.delivery_section.proofs.run_section.Statement.{statement}
 use Rattle.delivery_section.proofs.run_section.Tie as tie
 
 abbrev Inv-loop : tie.InvT-loop
-Inv-loop statements₀ facts₀ kept₀ supports₀ bytes k adding start at₀ left₀ sum₀ statements facts kept supports at left sum = Left (updateOf adding) (keepsFormed adding) bytes (runEntries (updateOf adding) (section bytes k) (progress (tables statements₀ facts₀ kept₀ supports₀) sum₀)) (tables statements facts kept supports) at left sum × FormedStore statements facts kept supports × SameLengths (tables statements facts kept supports) (tables statements₀ facts₀ kept₀ supports₀)
+Inv-loop statements₀ facts₀ kept₀ supports₀ bytes k change start at₀ left₀ sum₀ statements facts kept supports at left sum = Left (update change) (keepsFormed change) bytes (runEntries (update change) (section bytes k) (progress (tables statements₀ facts₀ kept₀ supports₀) sum₀)) (tables statements facts kept supports) at left sum × FormedStore statements facts kept supports × SameLengths (tables statements facts kept supports) (tables statements₀ facts₀ kept₀ supports₀)
 
 abbrev μ-loop : tie.MeasureT-loop
-μ-loop statements₀ facts₀ kept₀ supports₀ bytes k adding start at₀ left₀ sum₀ statements facts kept supports at left sum = left
+μ-loop statements₀ facts₀ kept₀ supports₀ bytes k change start at₀ left₀ sum₀ statements facts kept supports at left sum = left
 
 section-start-requires : tie.Need-section-start-requires Inv-loop μ-loop
 section-start-requires c κs =
@@ -49,8 +49,8 @@ entry-at-requires c κs =
     let in-loop = c in
     omega (arith, at-loop .loop .inv .0 .inside, in-loop .loop-test .taken)
 
-update-requires : tie.Need-update-requires Inv-loop μ-loop
-update-requires c κs =
+update-formed-requires : tie.Need-update-formed-requires Inv-loop μ-loop
+update-formed-requires c κs =
     let at-loop = c .before .before .before .before .before .before in
     at-loop .loop .inv .1
 
@@ -78,7 +78,7 @@ loop-less c =
     omega (arith, in-loop .loop-test .taken)
 
 loop-again : tie.Need-loop-again Inv-loop μ-loop
-loop-again c = (left-next (c .before .before .before .before .before .before .before .before .before .before .before .before .before .before .before .before .loop .left) (c .before .before .before .before .before .before .before .before .before .before .before .before .before .before .before .before .loop .inv .0) (c .before .before .before .before .before .before .before .before .before .before .before .before .before .before .before .loop-test .taken) (c .before .before .before .before .before .before .before .before .before .before .before .before .before .before .entry-at .result) (c .before .before .before .before .before .before .before .before .before .before .before .before .before .before .entry-at .ensures) (c .before .before .before .before .before .before .before .before .before .update .result) (c .before .before .before .before .before .before .before .before .before .update .ensures) (c .tallied .ensures), stays-formed (c .before .before .before .before .before .before .before .before .before .before .before .before .before .before .before .before .before .before .before .before .before .before .before .before .args .adding) (c .before .before .before .before .before .before .before .before .before .update .result) (c .before .before .before .before .before .before .before .before .before .before .before .before .before .before .entry-at .result) (left-tested (c .before .before .before .before .before .before .before .before .before .before .before .before .before .before .before .before .loop .left) (c .before .before .before .before .before .before .before .before .before .before .before .before .before .before .before .before .loop .inv .0) (c .before .before .before .before .before .before .before .before .before .before .before .before .before .before .before .loop-test .taken) (c .before .before .before .before .before .before .before .before .before .before .before .before .before .before .entry-at .result) (c .before .before .before .before .before .before .before .before .before .before .before .before .before .before .entry-at .ensures)) (c .before .before .before .before .before .before .before .before .before .before .before .before .before .before .before .before .loop .inv .1) (c .before .before .before .before .before .before .before .before .before .update .ensures), record { same-statements = c .before .before .before .before .before .before .before .before .before .update .kept .0 ∙ c .before .before .before .before .before .before .before .before .before .before .before .before .before .before .before .before .loop .inv .2 .same-statements; same-facts = c .before .before .before .before .before .before .before .before .before .update .kept .1 .0 ∙ c .before .before .before .before .before .before .before .before .before .before .before .before .before .before .before .before .loop .inv .2 .same-facts; same-kept = c .before .before .before .before .before .before .before .before .before .update .kept .1 .1 .0 ∙ c .before .before .before .before .before .before .before .before .before .before .before .before .before .before .before .before .loop .inv .2 .same-kept; same-supports = c .before .before .before .before .before .before .before .before .before .update .kept .1 .1 .1 .0 ∙ c .before .before .before .before .before .before .before .before .before .before .before .before .before .before .before .before .loop .inv .2 .same-supports })
+loop-again c = (left-next (c .before .before .before .before .before .before .before .before .before .before .before .before .before .before .before .before .loop .left) (c .before .before .before .before .before .before .before .before .before .before .before .before .before .before .before .before .loop .inv .0) (c .before .before .before .before .before .before .before .before .before .before .before .before .before .before .before .loop-test .taken) (c .before .before .before .before .before .before .before .before .before .before .before .before .before .before .entry-at .result) (c .before .before .before .before .before .before .before .before .before .before .before .before .before .before .entry-at .ensures) (c .before .before .before .before .before .before .before .before .before .update-formed .result) (c .before .before .before .before .before .before .before .before .before .update-formed .ensures) (c .tallied .ensures), stays-formed (c .before .before .before .before .before .before .before .before .before .before .before .before .before .before .before .before .before .before .before .before .before .before .before .before .args .change) (c .before .before .before .before .before .before .before .before .before .update-formed .result) (c .before .before .before .before .before .before .before .before .before .before .before .before .before .before .entry-at .result) (left-tested (c .before .before .before .before .before .before .before .before .before .before .before .before .before .before .before .before .loop .left) (c .before .before .before .before .before .before .before .before .before .before .before .before .before .before .before .before .loop .inv .0) (c .before .before .before .before .before .before .before .before .before .before .before .before .before .before .before .loop-test .taken) (c .before .before .before .before .before .before .before .before .before .before .before .before .before .before .entry-at .result) (c .before .before .before .before .before .before .before .before .before .before .before .before .before .before .entry-at .ensures)) (c .before .before .before .before .before .before .before .before .before .before .before .before .before .before .before .before .loop .inv .1) (c .before .before .before .before .before .before .before .before .before .update-formed .ensures), record { same-statements = c .before .before .before .before .before .before .before .before .before .update-formed .kept .0 ∙ c .before .before .before .before .before .before .before .before .before .before .before .before .before .before .before .before .loop .inv .2 .same-statements; same-facts = c .before .before .before .before .before .before .before .before .before .update-formed .kept .1 .0 ∙ c .before .before .before .before .before .before .before .before .before .before .before .before .before .before .before .before .loop .inv .2 .same-facts; same-kept = c .before .before .before .before .before .before .before .before .before .update-formed .kept .1 .1 .0 ∙ c .before .before .before .before .before .before .before .before .before .before .before .before .before .before .before .before .loop .inv .2 .same-kept; same-supports = c .before .before .before .before .before .before .before .before .before .update-formed .kept .1 .1 .1 .0 ∙ c .before .before .before .before .before .before .before .before .before .before .before .before .before .before .before .before .loop .inv .2 .same-supports })
 
 same-length : tie.Need-same-length Inv-loop μ-loop
 same-length c =
@@ -116,7 +116,7 @@ run-section-spec =
     short-at-requires
     loop-holds
     entry-at-requires
-    update-requires
+    update-formed-requires
     tallied-requires
     add-at-2
     sub-left

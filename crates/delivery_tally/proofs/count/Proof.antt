@@ -40,7 +40,8 @@ use denote.Exit.{yes}
 use Rattle.spec.specs.declared.Answer.{Answer}
 use Rattle.spec.proofs.Answer as E
 use Rattle.spec.proofs.Answer.Laws as E′
-use Rattle.spec.specs.Deliveries.{tallied, total}
+use Rattle.spec.specs.Deliveries.{tallied}
+use Rattle.delivery_tally.specs.inside.Totals.{total}
 use Rattle.spec.specs.declared.Tally.{Tally}
 use Rattle.spec.proofs.Tally as T
 use Rattle.spec.proofs.Tally.Laws as T′

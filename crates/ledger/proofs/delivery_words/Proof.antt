@@ -1,5 +1,5 @@
 -- The words are the fields of the result. Assumes nothing.
-use Rattle.spec.specs.Runs.{givenWords}
+use Rattle.ledger.specs.inside.Runs.{givenWords}
 use mathlib.Core.Path.{refl}
 use Rattle.ledger.proofs.delivery_words.Statement.{statement}
 use Rattle.ledger.proofs.delivery_words.Tie as tie

@@ -1,5 +1,5 @@
 -- The words of each answer. Assumes nothing.
-use Rattle.spec.specs.Runs.{givenWords}
+use Rattle.ledger.specs.inside.Runs.{givenWords}
 use mathlib.Core.Path.{refl}
 use borrow.Author.Needs.{needs}
 use Rattle.ledger.proofs.update_words.Statement.{statement}

@@ -1,9 +1,9 @@
--- By the tests of `isStore`, one by one; a well-formed table has a word for its count.
+-- By the tests of `areFormed`, one by one; a well-formed table has a word for its count.
 use mathlib.Core.Path.{sym, _∙_}
 use native.Mathlib.Omega.{arith}
 use borrow.Author.Tests.{not-true, not-false}
 use Rattle.spec.specs.Terms.{isAllowedFact}
-use Rattle.spec.specs.Tables.{isStore, mostFacts, mostKept}
+use Rattle.spec.specs.Tables.{areFormed, mostFacts, mostKept}
 use Rattle.spec.proofs.TableFormed.{some-word}
 use borrow.Author.Needs.{needs}
 use Rattle.table_check.proofs.is_store.Statement.{statement}
@@ -13,7 +13,7 @@ is-statement-table-requires : tie.Need-is-statement-table-requires
 is-statement-table-requires c κs = search needs
 
 returns : tie.Need-returns
-unfolding isStore
+unfolding areFormed
 returns c =
     let a = c .before in
     let statements = sym (a .is-statement-table .ensures) ∙ not-true _ (c .if1 .taken) in
@@ -23,7 +23,7 @@ is-fact-table-requires : tie.Need-is-fact-table-requires
 is-fact-table-requires c κs = search needs
 
 returns-2 : tie.Need-returns-2
-unfolding isStore
+unfolding areFormed
 returns-2 c =
     let f = c .before in
     let x = f .before in
@@ -36,7 +36,7 @@ is-kept-table-requires : tie.Need-is-kept-table-requires
 is-kept-table-requires c κs = search needs
 
 returns-3 : tie.Need-returns-3
-unfolding isStore
+unfolding areFormed
 returns-3 c =
     let k = c .before in
     let y = k .before in
@@ -74,7 +74,7 @@ is-support-table-requires : tie.Need-is-support-table-requires
 is-support-table-requires c κs = search needs
 
 returns-4 : tie.Need-returns-4
-unfolding isStore
+unfolding areFormed
 returns-4 c =
     let z = c .before .before .before in
     let k = z .before in

@@ -8,17 +8,19 @@ use Rattle.spec.specs.Tables.{count, tables}
 use Rattle.spec.specs.inside.Laid.{FormedStore}
 use Rattle.table.proofs.Store.{isStore-formed, formed-isStore}
 use Rattle.store.proofs.Fitting.{SameLengths}
-use Rattle.spec.specs.Deliveries.{isFact, withdrawal, progress, runEntries}
+use Rattle.spec.specs.declared.Change.the-variants.{Withdrawal}
+use Rattle.spec.specs.Updates.{update}
+use Rattle.spec.proofs.Outcomes.{update-malformed}
+use Rattle.spec.specs.Deliveries.{isFact, progress, runEntries}
 use Rattle.delivery_format.proofs.Whole.{whole-length}
-use Rattle.delivery_entry.specs.inside.Running.{highest}
-use Rattle.delivery_entry.proofs.Formed.{malformed-withdraws, formed-bound}
-use Rattle.delivery_section.specs.inside.Running.{section}
+use Rattle.delivery_section.specs.inside.Running.{highest, section}
+use Rattle.delivery_section.proofs.Formed.{formed-bound}
 use Rattle.delivery_section.proofs.Runs.{Left, left-first, left-tested, left-next, left-none, left-refused}
 use Rattle.delivery_section.proofs.withdrawals.withdraw_facts.Statement.{statement}
 use Rattle.delivery_section.proofs.withdrawals.withdraw_facts.Tie as tie
 
 abbrev Inv-loop : tie.InvT-loop
-Inv-loop statements₀ facts₀ kept₀ supports₀ bytes k start at₀ left₀ sum₀ most₀ statements facts kept supports at left sum most = Left withdrawal isFact bytes (runEntries withdrawal (section bytes k) (progress (tables statements₀ facts₀ kept₀ supports₀) sum₀)) (tables statements facts kept supports) at left sum × FormedStore statements facts kept supports × SameLengths (tables statements facts kept supports) (tables statements₀ facts₀ kept₀ supports₀) × (highest (take (count kept) supports) ≤ most)
+Inv-loop statements₀ facts₀ kept₀ supports₀ bytes k start at₀ left₀ sum₀ most₀ statements facts kept supports at left sum most = Left (update Withdrawal) isFact bytes (runEntries (update Withdrawal) (section bytes k) (progress (tables statements₀ facts₀ kept₀ supports₀) sum₀)) (tables statements facts kept supports) at left sum × FormedStore statements facts kept supports × SameLengths (tables statements facts kept supports) (tables statements₀ facts₀ kept₀ supports₀) × (highest (take (count kept) supports) ≤ most)
 
 abbrev μ-loop : tie.MeasureT-loop
 μ-loop statements₀ facts₀ kept₀ supports₀ bytes k start at₀ left₀ sum₀ most₀ statements facts kept supports at left sum most = left
@@ -116,7 +118,7 @@ same-length-4 c =
     after-withdraw-fact .withdraw-fact .kept .1 .1 .1 .0 ∙ at-loop .loop .inv .2 .same-supports
 
 returns : tie.Need-returns Inv-loop μ-loop
-returns c = (left-refused _ (left-next (c .before .before .before .before .before .before .before .before .before .before .before .before .before .before .before .before .before .before .before .loop .left) (c .before .before .before .before .before .before .before .before .before .before .before .before .before .before .before .before .before .before .before .loop .inv .0) (c .before .before .before .before .before .before .before .before .before .before .before .before .before .before .before .before .before .before .loop-test .taken) (c .before .before .before .before .before .before .before .before .before .before .before .before .before .before .before .before .before .entry-at .result) (c .before .before .before .before .before .before .before .before .before .before .before .before .before .before .before .before .before .entry-at .ensures) (c .before .before .before .before .before .before .before .before .before .before .before .before .withdraw-fact .result .answer) (c .before .before .before .before .before .before .before .before .before .before .before .before .withdraw-fact .ensures .0) (c .before .before .before .tallied .ensures)) (malformed-withdraws _ (sym (c .before .before .before .before .before .before .before .before .before .before .before .before .withdraw-fact .ensures .1 .1) ∙ not-true _ (c .before .if1 .taken))) (c .refused .ensures), sym (sym (c .before .before .before .before .before .before .before .before .before .before .before .before .withdraw-fact .ensures .1 .1) ∙ not-true _ (c .before .if1 .taken)))
+returns c = (left-refused _ (left-next (c .before .before .before .before .before .before .before .before .before .before .before .before .before .before .before .before .before .before .before .loop .left) (c .before .before .before .before .before .before .before .before .before .before .before .before .before .before .before .before .before .before .before .loop .inv .0) (c .before .before .before .before .before .before .before .before .before .before .before .before .before .before .before .before .before .before .loop-test .taken) (c .before .before .before .before .before .before .before .before .before .before .before .before .before .before .before .before .before .entry-at .result) (c .before .before .before .before .before .before .before .before .before .before .before .before .before .before .before .before .before .entry-at .ensures) (c .before .before .before .before .before .before .before .before .before .before .before .before .withdraw-fact .result .answer) (c .before .before .before .before .before .before .before .before .before .before .before .before .withdraw-fact .ensures .0) (c .before .before .before .tallied .ensures)) (λ t. update-malformed Withdrawal _ t (sym (c .before .before .before .before .before .before .before .before .before .before .before .before .withdraw-fact .ensures .1 .1) ∙ not-true _ (c .before .if1 .taken))) (c .refused .ensures), sym (sym (c .before .before .before .before .before .before .before .before .before .before .before .before .withdraw-fact .ensures .1 .1) ∙ not-true _ (c .before .if1 .taken)))
 
 loop-less : tie.Need-loop-less Inv-loop μ-loop
 loop-less c =
