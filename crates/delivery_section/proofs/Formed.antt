@@ -9,7 +9,7 @@ use lib.Dec.{leb}
 use borrow.Author.Tests.{not-true, leb-true, leb-false}
 use Rattle.spec.specs.declared.Triple.{Triple}
 use Rattle.spec.specs.Terms.{isStatement}
-use Rattle.spec.proofs.Lists.{true-not-false, by-test}
+use Rattle.spec.proofs.Lists.{by-test}
 use Rattle.spec.specs.Tables.{count, Tables, tables, areFormed}
 use Rattle.spec.specs.Lists.{all}
 use Rattle.spec.specs.inside.Laid.{FormedStore}

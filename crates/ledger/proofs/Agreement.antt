@@ -13,7 +13,7 @@ use Rattle.spec.specs.inside.Comparison.{Ascending}
 use Rattle.spec.specs.Refusals.{firstNo, tripleQuestions}
 use Rattle.spec.proofs.Lists.{by-test}
 use Rattle.spec.proofs.Ascending.{insert-asc, insert-old, insert-cases, ascending-ext}
-use Rattle.spec.specs.Tables.{capacity, Tables, areFormed, Capacities, capacitiesOf, Ledger, ledger, Contents, contentsOf, put}
+use Rattle.spec.specs.Tables.{capacity, Tables, areFormed, capacitiesOf, Ledger, ledger, Contents, contentsOf, put}
 use Rattle.table.proofs.Change.{remove-absent}
 use Rattle.spec.specs.declared.Answer.{Answer}
 use Rattle.spec.specs.declared.Change.{Change}
@@ -117,7 +117,7 @@ pub record Agrees (s f k u : ℕ) (T : Tables) (L : Ledger) : Type 0 where
 
 module _ (s f k u : ℕ) where
   -- Tables of the same lengths that are grown agree with the ledger of what they hold.
-  agrees-on : {T T' : Tables} {L : Ledger} → Agrees s f k u T L → Sound T' → SameLengths T' T → Agrees s f k u T' ((contentsOf T' .explicit))
+  agrees-on : {T T' : Tables} {L : Ledger} → Agrees s f k u T L → Sound T' → SameLengths T' T → Agrees s f k u T' (contentsOf T' .explicit)
   agrees-on A G E = record {
     sound = G;
     statement-words = E .same-statements ∙ A .statement-words;
@@ -128,7 +128,7 @@ module _ (s f k u : ℕ) where
   }
 
   -- An update whose outcome the ledger gives goes alike.
-  same-outcome : {T T' : Tables} {L : Ledger} {a : Answer} (r : Answer × Ledger) → Agrees s f k u T L → Sound T' → SameLengths T' T → r ≡ (a, (contentsOf T' .explicit)) → Same (Agrees s f k u) (a, T') r
+  same-outcome : {T T' : Tables} {L : Ledger} {a : Answer} (r : Answer × Ledger) → Agrees s f k u T L → Sound T' → SameLengths T' T → r ≡ (a, contentsOf T' .explicit) → Same (Agrees s f k u) (a, T') r
   same-outcome r A G E e = rw e (record { gives = refl; leaves = agrees-on A G E })
 
   -- The capacities are those of the tables.

@@ -8,7 +8,7 @@ use native.Mathlib.Omega.{arith}
 use lib.ListN.{length, replicate}
 use borrow.Author.Tests.{not-true, leb-true}
 use Rattle.spec.specs.declared.Triple.{Triple}
-use Rattle.spec.specs.Terms.{isTriple, isStatement, areSidesAllowed, isAllowedFact}
+use Rattle.spec.specs.Terms.{isTriple, isStatement, areSidesAllowed}
 use Rattle.spec.specs.Refusals.{firstNo, tripleQuestions}
 use Rattle.spec.proofs.Tests.{isIn-iff}
 use Rattle.spec.proofs.Lists.{true-not-false, by-test, or-cases}
