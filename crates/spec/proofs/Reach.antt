@@ -204,7 +204,7 @@ reach-listed c m (step r s) = c _ s refl (reach-listed c m r)
 pub spread-iff : (S : List Triple) (k : ℕ) (xs : List ℕ) (b : ℕ) → List·Memᴰ b (spread S k xs) ↔ ReachFrom S k xs b
 unfolding spread
 spread-iff S k xs b = (
-  λ m. steps-sound k (ReachFrom S k xs) (length S) S xs (λ t j e f. from-step (Memᴰ·cast (triple-eq (triple (t .subject) k (t .object)) t refl (sym e) refl) j) f)
+  λ m. steps-sound k (ReachFrom S k xs) _ S xs (λ t j e f. from-step (Memᴰ·cast (triple-eq (triple (t .subject) k (t .object)) t refl (sym e) refl) j) f)
       (λ c j. record { start = c; listed = j; path = stay }) b m,
   λ f. explore-within k b (length S) S S xs xs (λ u m. m) (λ c m. m)
       (reach-listed (explore-closed k (length S) S xs (le-refl (length S))) (explore-kept k (f .start) (length S) S xs (f .listed)) (f .path)),
