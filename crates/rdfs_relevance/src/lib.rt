@@ -11,7 +11,8 @@ ghost use lib.Dec.{eqb};
 ghost use Rattle.spec.specs.declared.Triple.{Triple};
 ghost use Rattle.spec.specs.Tables.{rows, isStatementTable};
 ghost use Rattle.spec.specs.Saturation.{properties, subjectClasses, objectClasses};
-ghost use Rattle.rdfs_reach.specs.inside.Marks.{Tells, Within};
+ghost use Rattle.table.specs.inside.Bounds.{Tells};
+ghost use Rattle.rdfs_reach.specs.inside.Marks.{Within};
 ghost use Rattle.rdfs_relevance.specs.inside.Targets.{example, Led, Remembers};
 
 // What is asked of a word and a target. Whether the property leads to the property target.
