@@ -1,6 +1,7 @@
 // What is reached by steps of a property: a work list of terms, found, and for each statement a mark once its object is there.
 // The words st hold m statements, ascending, after their count.
 use spec::Triple;
+use table::MOST_STATEMENTS;
 ghost use mathlib.Core.Path.{_≡_};
 ghost use mathlib.Core.Logic.{_↔_};
 ghost use Prim.Native.Nat.{ℕ, _+_, _*_, _<_, _≤_};
@@ -9,10 +10,10 @@ ghost use Rattle.table.specs.inside.Bounds.{Tells};
 ghost use Rattle.rdfs_reach.specs.inside.Marks.{Statements, HasSubject, Begins, Within, Unused, Room, ObjectOf, ReachedFrom, Grown, Extended};
 
 // No marks yet: there is one for each statement of the largest table.
-pub fn no_marks() -> [u8; 512]
+pub fn no_marks() -> [u8; MOST_STATEMENTS]
     ensures { λ r. ⌜ r ≡ replicate 512 0 ⌝ }
 {
-    [0u8; 512]
+    [0u8; MOST_STATEMENTS]
 }
 
 // Whether row j has the subject x and the property k.

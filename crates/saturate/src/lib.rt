@@ -1,8 +1,11 @@
 // The kept facts and their supports, worked out afresh from the statements and the facts. Each statement's subject is compiled into rows of
 // bits that say which classes and properties it leads to; then the rows of each subject are put in order, from its facts and from those of
 // which it is the object. The same run counts the rows and, where they fit, writes them. About linear in facts times columns.
+use saturate_schema::MOST_COLUMNS;
 use saturate_schema::Sizes;
 use spec::Term;
+use table::MOST_FACTS;
+use table::MOST_STATEMENTS;
 ghost use mathlib.Core.Path.{_≡_};
 ghost use mathlib.Core.Bool.{true};
 ghost use Prim.Native.Nat.{ℕ, _*_, _≤_, _<_};
@@ -21,40 +24,46 @@ mod run; // run.rt: the run over the subjects
 
 use run::put_rows;
 
+// How many bits a square has: a row for each statement.
+const SQUARE: usize = MOST_STATEMENTS * MOST_COLUMNS;
+
+// How many places of facts there are, and one more.
+const PLACES: usize = MOST_FACTS + 1;
+
 // A square of bits of 0. Large arrays come as zeros out of functions of their own and are lent to those that fill them: an array that is
 // computed and returned would be copied on the stack.
-fn no_bits() -> [u8; 262144]
+fn no_bits() -> [u8; SQUARE]
     ensures { λ r. ⌜ (length r ≡ 262144) × ((i c : ℕ) → at r i c ≡ 0) ⌝ }
 {
-    [0u8; 262144]
+    [0u8; SQUARE]
 }
 
 // Room for the places of the facts.
-fn no_places() -> [u32; 65536]
+fn no_places() -> [u32; PLACES]
     ensures { λ r. ⌜ length r ≡ 65536 ⌝ }
 {
-    [0u32; 65536]
+    [0u32; PLACES]
 }
 
 // Room for the columns.
-fn no_columns() -> [u64; 512]
+fn no_columns() -> [u64; MOST_COLUMNS]
     ensures { λ r. ⌜ length r ≡ 512 ⌝ }
 {
-    [0u64; 512]
+    [0u64; MOST_COLUMNS]
 }
 
 // Room for the terms of the columns.
-fn no_keys() -> [u32; 512]
+fn no_keys() -> [u32; MOST_COLUMNS]
     ensures { λ r. ⌜ length r ≡ 512 ⌝ }
 {
-    [0u32; 512]
+    [0u32; MOST_COLUMNS]
 }
 
 // Room for what a row gains.
-fn no_gain() -> [u8; 512]
+fn no_gain() -> [u8; MOST_COLUMNS]
     ensures { λ r. ⌜ length r ≡ 512 ⌝ }
 {
-    [0u8; 512]
+    [0u8; MOST_COLUMNS]
 }
 
 // Fills a square of 0: what the statements lead to by subclasses, subproperties and via.
@@ -125,7 +134,7 @@ fn put_all(
     statements: &[u32],
     domains: &[u8],
     ranges: &[u8],
-    keys: &[u32; 512],
+    keys: &[u32; MOST_COLUMNS],
     facts: &[u32],
     ix: &[u32],
     kept: &mut [u32],

@@ -1,9 +1,11 @@
 // The run over the subjects, ascending: the subjects of facts, and the objects that are no literals.
 use saturate_counts::Subject;
 use saturate_merge::lesser;
+use saturate_schema::MOST_COLUMNS;
 use saturate_schema::Sizes;
 use saturate_subject::rows::Task;
 use saturate_subject::rows::subject_rows;
+use table::MOST_STATEMENTS;
 use table::WORDS;
 use table::object_at;
 use table::subject_at;
@@ -94,11 +96,14 @@ fn next_subject(f: &[u32], ix: &[u32], n: usize, i: usize, j: usize) -> u64
     lesser(subject_from(f, n, i), thing_from(f, ix, n, j))
 }
 
-// Room for the ends of the streams of a column: one block of facts for each statement, and one more.
-fn no_ends() -> [usize; 1026]
+// How many ends the streams of a column have: two for a block of facts for each statement, and for one more.
+const ENDS: usize = (MOST_STATEMENTS + 1) * 2;
+
+// Room for these ends.
+fn no_ends() -> [usize; ENDS]
     ensures { λ r. ⌜ length r ≡ 1026 ⌝ }
 {
-    [0usize; 1026]
+    [0usize; ENDS]
 }
 
 // Puts all rows: the whole list of kept facts that has these supports. How many there are, counted up to 2^32.
@@ -106,7 +111,7 @@ pub fn put_rows(
     statements: &[u32],
     domains: &[u8],
     ranges: &[u8],
-    keys: &[u32; 512],
+    keys: &[u32; MOST_COLUMNS],
     f: &[u32],
     ix: &[u32],
     kept: &mut [u32],

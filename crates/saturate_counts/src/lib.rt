@@ -1,4 +1,5 @@
 // What the facts about a thing add to the counts of the columns: the classes that they give it, and the properties that they lead to.
+use saturate_schema::MOST_COLUMNS;
 use saturate_schema::Sizes;
 use spec::Term;
 use table::object_at;
@@ -49,7 +50,7 @@ fn add_row(counts: &mut [u32], square: &[u8], g: usize, end: usize)
 {
     let mut c = 0;
     while c < end {
-        counts[c] = counts[c] + wide(square[g * 512 + c]);
+        counts[c] = counts[c] + wide(square[g * MOST_COLUMNS + c]);
         c += 1;
     }
 }
@@ -63,7 +64,12 @@ fn add_either(counts: &mut [u32], domains: &[u8], ranges: &[u8], g: usize, nc: u
 {
     let mut c = 0;
     while c < end {
-        counts[c] = counts[c] + wide(either_bit(domains[g * 512 + c], ranges[g * 512 + c], c < nc));
+        counts[c] = counts[c]
+            + wide(either_bit(
+                domains[g * MOST_COLUMNS + c],
+                ranges[g * MOST_COLUMNS + c],
+                c < nc,
+            ));
         c += 1;
     }
 }
@@ -187,10 +193,10 @@ fn count_object(
 }
 
 // Counts of 0.
-fn no_counts() -> [u32; 512]
+fn no_counts() -> [u32; MOST_COLUMNS]
     ensures { λ r. ⌜ (length r ≡ 512) × ((c : ℕ) → getD r c 0 ≡ 0) ⌝ }
 {
-    [0u32; 512]
+    [0u32; MOST_COLUMNS]
 }
 
 // The counts of the columns for a thing, from its facts.
@@ -202,7 +208,7 @@ pub fn counts_of(
     f: &[u32],
     ix: &[u32],
     own: Subject,
-) -> [u32; 512]
+) -> [u32; MOST_COLUMNS]
     requires { ⌜ Statements (now statements) (sizes .statements) ⌝ }
     requires { ⌜ Square (now statements) (sizes .statements) (sizes .columns) (now domains) ⌝ }
     requires { ⌜ Square (now statements) (sizes .statements) (sizes .columns) (now ranges) ⌝ }

@@ -2,6 +2,7 @@
 // What a function puts is said of every list K of kept facts whose supports are those that the function sees: it puts a part of K.
 use spec::Term;
 use spec::Triple;
+use table::MOST_STATEMENTS;
 use table::WORDS;
 use table::object_at;
 use table::wide;
@@ -136,7 +137,7 @@ pub fn merge_streams(
 }
 
 // Key r, 2^32 from end on.
-fn key_at(keys: &[u32; 512], r: usize, end: usize) -> u64
+fn key_at(keys: &[u32; MOST_STATEMENTS], r: usize, end: usize) -> u64
     requires { ⌜ end ≤ 512 ⌝ }
     ensures { λ r'. ⌜ r' ≡ keyAt (now (keys .entry)) r end ⌝ }
 {
@@ -148,9 +149,9 @@ fn key_at(keys: &[u32; 512], r: usize, end: usize) -> u64
 pub fn merge_counted(
     f: &[u32],
     own: Own,
-    keys: &[u32; 512],
+    keys: &[u32; MOST_STATEMENTS],
     end: usize,
-    counts: &[u32; 512],
+    counts: &[u32; MOST_STATEMENTS],
     kept: &mut [u32],
     supports: &mut [u16],
     room: usize,

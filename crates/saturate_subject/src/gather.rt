@@ -1,4 +1,5 @@
 // The blocks of facts whose property leads to a column.
+use saturate_schema::MOST_COLUMNS;
 use saturate_schema::Sizes;
 use table::property_at;
 ghost use mathlib.Core.Path.{_≡_};
@@ -22,7 +23,7 @@ fn leads_to(statements: &[u32], sizes: Sizes, domains: &[u8], p: u32, c: usize) 
     let m = sizes.statements;
     let g = saturate_schema::property_group(statements, m, p);
     if g < m {
-        return domains[g * 512 + c] == 1;
+        return domains[g * MOST_COLUMNS + c] == 1;
     }
     false
 }

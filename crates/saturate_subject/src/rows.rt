@@ -6,6 +6,7 @@ use saturate_merge::Own;
 use saturate_merge::merge_counted;
 use saturate_merge::merge_streams;
 use saturate_merge::put;
+use saturate_schema::MOST_COLUMNS;
 use saturate_schema::Sizes;
 use table::property_at;
 use table::wide;
@@ -26,6 +27,9 @@ ghost use Rattle.saturate_counts.specs.inside.Prepared.{Square, Keys, Prepared,
 ghost use Rattle.saturate_index.specs.inside.Index.{objectOf, Index, Once};
 ghost use Rattle.saturate_counts.specs.inside.Supported.{Supported, Small, Range};
 ghost use Rattle.saturate_subject.specs.inside.Rows.{ones, Split, Of, ColumnRows, PropertyRows, Uncounted};
+
+// The least property above rdf:type.
+const AFTER_TYPE: u64 = 2;
 
 // The first of the facts q .. e, of one subject, whose property is not below w; e where there is none.
 fn first_from(f: &[u32], q: usize, e: usize, w: u64) -> usize
@@ -138,8 +142,8 @@ pub struct Task {
 fn property_rows(
     statements: &[u32],
     domains: &[u8],
-    keys: &[u32; 512],
-    counts: &[u32; 512],
+    keys: &[u32; MOST_COLUMNS],
+    counts: &[u32; MOST_COLUMNS],
     f: &[u32],
     t: usize,
     ends: &mut [usize],
@@ -206,7 +210,7 @@ pub fn subject_rows(
     statements: &[u32],
     domains: &[u8],
     ranges: &[u8],
-    keys: &[u32; 512],
+    keys: &[u32; MOST_COLUMNS],
     f: &[u32],
     ix: &[u32],
     ends: &mut [usize],
@@ -229,7 +233,7 @@ pub fn subject_rows(
     let sizes = task.sizes;
     let own = task.own;
     let counts = counts_of(statements, sizes, domains, ranges, f, ix, own);
-    let t = first_from(f, own.first, own.end, 2);
+    let t = first_from(f, own.first, own.end, AFTER_TYPE);
     let typed = Own {
         subject: own.term,
         from: own.first,

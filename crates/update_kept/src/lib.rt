@@ -8,7 +8,7 @@ ghost use Rattle.spec.specs.Tables.{capacity, mostKept};
 pub fn kept_capacity(kept: &[u32], supports: &[u16]) -> usize
     ensures { λ r. ⌜ r ≡ min (capacity mostKept (now (kept .entry))) (length (now (supports .entry))) ⌝ }
 {
-    let rows = table::capacity(kept.len(), table_check::MOST_KEPT);
+    let rows = table::capacity(kept.len(), table::MOST_KEPT);
     if rows < supports.len() {
         rows
     } else {
