@@ -4,6 +4,7 @@ use rdfs_reach::close;
 use rdfs_reach::no_marks;
 use spec::Term;
 use spec::Triple;
+use table::MOST_STATEMENTS;
 ghost use mathlib.Core.Path.{_≡_};
 ghost use mathlib.Core.Bool.{true, cond};
 ghost use mathlib.Core.List.{[], _∷_, List·Memᴰ};
@@ -24,11 +25,14 @@ pub struct Ends {
     pub object: usize,
 }
 
-// No terms yet: there is room for two, and for two for each statement.
-pub fn no_terms() -> [u32; 1026]
+// The most terms that are found for a fact: two, and two for each statement.
+pub const MOST_TERMS: usize = MOST_STATEMENTS * 2 + 2;
+
+// No terms yet.
+pub fn no_terms() -> [u32; MOST_TERMS]
     ensures { λ r. ⌜ r ≡ replicate 1026 0 ⌝ }
 {
-    [0u32; 1026]
+    [0u32; MOST_TERMS]
 }
 
 // The properties of a fact, from the start of found on: its own, and what is reached from there. Their end.
@@ -174,8 +178,8 @@ fn write_conclusions(fact: Triple, ends: Ends, found: &[u32], out: &mut [u32])
 }
 
 // Room for the rows that a fact carries: two, and two for each statement. Nothing is ensured: what is in it does not matter.
-pub fn no_rows() -> [u32; 3078] {
-    [0u32; 3078]
+pub fn no_rows() -> [u32; MOST_TERMS * 3] {
+    [0u32; MOST_TERMS * 3]
 }
 
 // What a fact carries, itself included: its rows, ascending, each once, three words each, into out. How many they are. There has to be

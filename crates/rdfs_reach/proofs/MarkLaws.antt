@@ -18,7 +18,9 @@ use Rattle.spec.specs.Tables.{rowAt, firstRows, rows, count, isStatementTable}
 use Rattle.spec.proofs.TableRows.{length-firstRows, getD-rowAt, length-rows}
 use Rattle.table.proofs.Place.{ascending-getD, getD-member, member-getD}
 use Rattle.spec.proofs.TableFormed.{isTable-wellFormed, capacity-most, ready}
-use Rattle.rdfs_reach.specs.inside.Marks.{Statements, HasSubject, Tells, Begins, Within, unused, Unused, Room, Grown, Extended}
+use Rattle.table.specs.inside.Bounds.{Tells, Rising}
+use Rattle.table.proofs.SearchLaws.{rows-less}
+use Rattle.rdfs_reach.specs.inside.Marks.{Statements, HasSubject, Begins, Within, unused, Unused, Room, Grown, Extended}
 
 -- ---- how many statements have no mark
 
@@ -73,12 +75,9 @@ has-tells st x k j = record {
   if-false = λ e h. let z : _≡_ {A = ℕ} 0 1 = cc (eq-eqb _ _ (h .subject), eq-eqb _ _ (h .property)) in omega arith;
 }
 
--- Each row is less than each later one.
-pub rows-less : (st : List ℕ) (m i j : ℕ) → Statements st m → i < j → j < m → Less (rowAt st i) (rowAt st j)
-rows-less st m i j s h l =
-    let a = isAscending-iff (firstRows m (drop 1 st)) .0 (s .ascends) in
-    let r = ascending-getD (firstRows m (drop 1 st)) noTriple a i j h (omega (arith, length-firstRows m (drop 1 st))) in
-    rw (getD-rowAt st m i noTriple (omega arith), getD-rowAt st m j noTriple l) at r
+-- The rows ascend.
+pub statements-rising : {st : List ℕ} {m : ℕ} → Statements st m → Rising st m
+statements-rising s = record { fits = s .size; ascends = s .ascends }
 
 -- A row below one of the subject x and the property k, and not below all of them, is one of them.
 between : {x k : ℕ} (t u : Triple) → Less t u → x ≤ t .subject → (t .subject ≡ x → k ≤ t .property) → u .subject ≡ x → u .property ≡ k → (t .subject ≡ x) × (t .property ≡ k)
@@ -95,7 +94,7 @@ begins-first : (st : List ℕ) (m x k first i : ℕ) → Statements st m → Beg
 begins-first st m x k first i s b l h =
     by-cases (decLt i first) (λ (c : i < first). absurd (b .before i c h))
     (λ c. by-cases (ℕ-discrete i first) (λ q. rw q at h)
-    (λ q. let w = between (rowAt st first) (rowAt st i) (rows-less st m first i s (omega arith) l) (b .subjects first (omega arith) (omega arith)) (b .properties first (omega arith) (omega arith)) (h .subject) (h .property) in
+    (λ q. let w = between (rowAt st first) (rowAt st i) (rows-less st m (statements-rising s) first i (omega arith) l) (b .subjects first (omega arith) (omega arith)) (b .properties first (omega arith) (omega arith)) (h .subject) (h .property) in
     record { subject = w .0; property = w .1 }))
 
 -- and they have the mark of the first.
@@ -205,7 +204,7 @@ module _ (st : List ℕ) (m k x first : ℕ) (used₀ found₀ : List ℕ) (n : 
 pub block-stops : (st : List ℕ) (m k x first j : ℕ) → Statements st m → Begins st m x k first → first ≤ j → j < m → (HasSubject st x k j → ⊥) → (i : ℕ) → j ≤ i → i < m → HasSubject st x k i → ⊥
 block-stops st m k x first j s b f l n i a c h =
     by-cases (ℕ-discrete i j) (λ q. n (rw q at h))
-    (λ q. past (rowAt st j) (rowAt st i) (rows-less st m j i s (omega arith) c) (b .subjects j f l) (b .properties j f l) (λ z. n (record { subject = z .0; property = z .1 })) (h .subject) (h .property))
+    (λ q. past (rowAt st j) (rowAt st i) (rows-less st m (statements-rising s) j i (omega arith) c) (b .subjects j f l) (b .properties j f l) (λ z. n (record { subject = z .0; property = z .1 })) (h .subject) (h .property))
 
 -- Nothing is appended where each statement of the subjects has its mark.
 pub extended-none : (st : List ℕ) (m k : ℕ) (Q : ℕ → Type 0) (used found : List ℕ) (n : ℕ) → Room st m used found n → ((j : ℕ) → j < m → rowAt st j .property ≡ k → Q (rowAt st j .subject) → ¬ (getD used j 0 ≡ 0)) → Extended st m k Q used found n used found n

@@ -1,18 +1,19 @@
 // What is reached by steps of a property: a work list of terms, found, and for each statement a mark once its object is there.
 // The words st hold m statements, ascending, after their count.
 use spec::Triple;
-use table::Found;
+use table::MOST_STATEMENTS;
 ghost use mathlib.Core.Path.{_≡_};
 ghost use mathlib.Core.Logic.{_↔_};
 ghost use Prim.Native.Nat.{ℕ, _+_, _*_, _<_, _≤_};
 ghost use lib.ListN.{length, getD, replicate};
-ghost use Rattle.rdfs_reach.specs.inside.Marks.{Statements, HasSubject, Tells, Begins, Within, Unused, Room, ObjectOf, ReachedFrom, Grown, Extended};
+ghost use Rattle.table.specs.inside.Bounds.{Tells};
+ghost use Rattle.rdfs_reach.specs.inside.Marks.{Statements, HasSubject, Begins, Within, Unused, Room, ObjectOf, ReachedFrom, Grown, Extended};
 
 // No marks yet: there is one for each statement of the largest table.
-pub fn no_marks() -> [u8; 512]
+pub fn no_marks() -> [u8; MOST_STATEMENTS]
     ensures { λ r. ⌜ r ≡ replicate 512 0 ⌝ }
 {
-    [0u8; 512]
+    [0u8; MOST_STATEMENTS]
 }
 
 // Whether row j has the subject x and the property k.
@@ -67,10 +68,7 @@ fn first_row(st: &[u32], m: usize, x: u32, k: u32) -> usize
         property: k,
         object: 0,
     };
-    match table::find(st, m, least) {
-        Found::At(i) => i,
-        Found::Gap(i) => i,
-    }
+    table::lower_bound(st, m, 0, m, least)
 }
 
 // Appends to found, from n on, the objects of the statements of the subject x and the property k, unless they have marks: then this was

@@ -15,18 +15,13 @@ use Rattle.spec.specs.Terms.{type, isLiteral, triple}
 use Rattle.spec.proofs.Lists.{true-not-false}
 use Rattle.spec.specs.Tables.{count, firstRows, rows}
 use Rattle.spec.specs.computed.Carried.{properties, subjectClasses, objectClasses}
-use Rattle.rdfs_reach.specs.inside.Marks.{Tells, Within}
+use Rattle.rdfs_reach.specs.inside.Marks.{Within}
+use Rattle.table.specs.inside.Bounds.{Tells}
+use Rattle.table.proofs.SearchLaws.{tells-true, tells-false}
 use Rattle.rdfs_derive.specs.inside.Conclusions.{Concluded}
 use Rattle.rdfs_relevance.specs.inside.Targets.{example, some, ledTo, Led}
 
 -- ---- what a test tells
-
--- True tells what holds, and false what does not.
-pub tells-true : {P : Type 0} → P → Tells true P
-tells-true p = record { if-true = λ _. p; if-false = λ e. absurd (true-not-false e) }
-
-pub tells-false : {P : Type 0} → ¬ P → Tells false P
-tells-false n = record { if-true = λ e. absurd (true-not-false (sym e)); if-false = λ _. n }
 
 -- A test of one tells of the other.
 tells-iff : {P Q : Type 0} {r : Bool} → P ↔ Q → Tells r P → Tells r Q

@@ -12,7 +12,7 @@ use lib.Dec.{eqb}
 use borrow.Author.Tests.{eqb-true}
 use Rattle.spec.specs.declared.Triple.{Triple}
 use Rattle.spec.proofs.Ascending.{and-left, and-right}
-use Rattle.rdfs_reach.specs.inside.Marks.{Tells}
+use Rattle.table.specs.inside.Bounds.{Tells}
 use Rattle.rdfs_relevance.specs.inside.Targets.{Led, Remembers}
 
 -- Nothing is remembered at the start.

@@ -11,7 +11,8 @@ ghost use lib.Dec.{eqb};
 ghost use Rattle.spec.specs.declared.Triple.{Triple};
 ghost use Rattle.spec.specs.Tables.{rows, isStatementTable};
 ghost use Rattle.spec.specs.computed.Carried.{properties, subjectClasses, objectClasses};
-ghost use Rattle.rdfs_reach.specs.inside.Marks.{Tells, Within};
+ghost use Rattle.rdfs_reach.specs.inside.Marks.{Within};
+ghost use Rattle.table.specs.inside.Bounds.{Tells};
 ghost use Rattle.rdfs_relevance.specs.inside.Targets.{example, Led, Remembers};
 
 // What is asked of a word and a target. Whether the property leads to the property target.
@@ -29,27 +30,36 @@ pub const OBJECT_CLASS: u32 = 4;
 // Whether a fact of the property gives its object, which is no literal, a class at all. The target is 0.
 pub const ANY_OBJECT_CLASS: u32 = 5;
 
-// No answer remembered: 4,096 places of four words, which are word, question, target and answer.
-pub fn no_memory() -> [u32; 16384]
+// How many answers are remembered at most.
+const PLACES: u64 = 4096;
+
+// How many words they take: four each, which are word, question, target and answer.
+const MEMORY: usize = 16384;
+
+// No answer remembered.
+pub fn no_memory() -> [u32; MEMORY]
     ensures { λ r. ⌜ r ≡ replicate 16384 0 ⌝ }
 {
-    [0u32; 16384]
+    [0u32; MEMORY]
 }
+
+// Leaves the bits from 20 on.
+const UPPER: u64 = 1048576;
 
 // Where the answer to a question is remembered first.
 fn first_place(asked: u32, word: u32, target: u32) -> usize
     ensures { λ r. ⌜ r < 4096 ⌝ }
 {
     let n = word as u64 + target as u64 * 37 + asked as u64 * 677;
-    (n % 4096) as usize
+    (n % PLACES) as usize
 }
 
-// Where it is remembered if another answer is there.
+// Where it is remembered if another answer is there: by the upper bits of products, which spread.
 fn second_place(asked: u32, word: u32, target: u32) -> usize
     ensures { λ r. ⌜ r < 4096 ⌝ }
 {
     let n = word as u64 * 1640531527 + target as u64 * 1013904223 + asked as u64 * 362437;
-    (n / 1048576 % 4096) as usize
+    (n / UPPER % PLACES) as usize
 }
 
 // Whether a place has the answer to a question.
@@ -83,21 +93,24 @@ fn remember(memory: &mut [u32], place: usize, asked: u32, word: u32, target: u32
     memory[at + 3] = if answer { 1 } else { 0 };
 }
 
+// A thing of which nothing is stated: the least term that is no vocabulary.
+const EXAMPLE: u32 = 6;
+
 // A fact of which the question is asked.
 fn example_of(asked: u32, word: u32) -> Triple
     ensures { λ r. ⌜ r ≡ example asked word ⌝ }
 {
     if asked == CLASS {
         return Triple {
-            subject: 6,
+            subject: EXAMPLE,
             property: Term::TYPE,
             object: word,
         };
     }
     Triple {
-        subject: 6,
+        subject: EXAMPLE,
         property: word,
-        object: 6,
+        object: EXAMPLE,
     }
 }
 

@@ -1,6 +1,11 @@
 // The kept facts and their supports, worked out afresh from the statements and the facts. Each statement's subject is compiled into rows of
 // bits that say which classes and properties it leads to; then the rows of each subject are put in order, from its facts and from those of
 // which it is the object. The same run counts the rows and, where they fit, writes them. About linear in facts times columns.
+use saturate_schema::MOST_COLUMNS;
+use saturate_schema::Sizes;
+use spec::Term;
+use table::MOST_FACTS;
+use table::MOST_STATEMENTS;
 ghost use mathlib.Core.Path.{_≡_};
 ghost use mathlib.Core.Bool.{true};
 ghost use Prim.Native.Nat.{ℕ, _*_, _≤_, _<_};
@@ -19,47 +24,46 @@ mod run; // run.rt: the run over the subjects
 
 use run::put_rows;
 
+// How many bits a square has: a row for each statement.
+const SQUARE: usize = MOST_STATEMENTS * MOST_COLUMNS;
+
+// How many places of facts there are, and one more.
+const PLACES: usize = MOST_FACTS + 1;
+
 // A square of bits of 0. Large arrays come as zeros out of functions of their own and are lent to those that fill them: an array that is
 // computed and returned would be copied on the stack.
-fn no_bits() -> [u8; 262144]
+fn no_bits() -> [u8; SQUARE]
     ensures { λ r. ⌜ (length r ≡ 262144) × ((i c : ℕ) → at r i c ≡ 0) ⌝ }
 {
-    [0u8; 262144]
+    [0u8; SQUARE]
 }
 
 // Room for the places of the facts.
-fn no_places() -> [u32; 65536]
+fn no_places() -> [u32; PLACES]
     ensures { λ r. ⌜ length r ≡ 65536 ⌝ }
 {
-    [0u32; 65536]
+    [0u32; PLACES]
 }
 
 // Room for the columns.
-fn no_columns() -> [u64; 512]
+fn no_columns() -> [u64; MOST_COLUMNS]
     ensures { λ r. ⌜ length r ≡ 512 ⌝ }
 {
-    [0u64; 512]
+    [0u64; MOST_COLUMNS]
 }
 
 // Room for the terms of the columns.
-fn no_keys() -> [u32; 512]
+fn no_keys() -> [u32; MOST_COLUMNS]
     ensures { λ r. ⌜ length r ≡ 512 ⌝ }
 {
-    [0u32; 512]
+    [0u32; MOST_COLUMNS]
 }
 
 // Room for what a row gains.
-fn no_gain() -> [u8; 512]
+fn no_gain() -> [u8; MOST_COLUMNS]
     ensures { λ r. ⌜ length r ≡ 512 ⌝ }
 {
-    [0u8; 512]
-}
-
-// Room for where the streams of a column start, or end: one block of facts for each statement, and one more.
-fn no_ends() -> [usize; 513]
-    ensures { λ r. ⌜ length r ≡ 513 ⌝ }
-{
-    [0usize; 513]
+    [0u8; MOST_COLUMNS]
 }
 
 // Fills a square of 0: what the statements lead to by subclasses, subproperties and via.
@@ -87,7 +91,7 @@ fn fill_domains(statements: &[u32], m: usize, columns: &[u64], ns: usize, square
     requires { ⌜ (length (now square) ≡ 262144) × ((i c : ℕ) → at (now square) i c ≡ 0) ⌝ }
     ensures { λ _. ⌜ Domains (now (statements .entry)) m (now (columns .entry)) ns (now (square .exit)) ⌝ }
 {
-    fill_square(statements, m, columns, ns, 4, square);
+    fill_square(statements, m, columns, ns, Term::DOMAIN, square);
     saturate_schema::clear_own(statements, m, columns, ns, square);
 }
 
@@ -128,42 +132,34 @@ fn zero_supports(t: &mut [u16], a: usize)
 // count and the zeros. True where they fit.
 fn put_all(
     statements: &[u32],
-    m: usize,
     domains: &[u8],
     ranges: &[u8],
-    keys: &[u32; 512],
-    nc: usize,
-    ns: usize,
+    keys: &[u32; MOST_COLUMNS],
     facts: &[u32],
     ix: &[u32],
     kept: &mut [u32],
     supports: &mut [u16],
+    sizes: Sizes,
     room: usize,
 ) -> bool
-    requires { ⌜ Prepared (now statements) m (now keys) nc ns (now domains) (now ranges) ⌝ }
+    requires { ⌜ Prepared (now statements) (sizes .statements) (now keys) (sizes .classes) (sizes .columns) (now domains) (now ranges) ⌝ }
     requires { ⌜ Facts (now facts) (count (now facts)) ⌝ }
     requires { ⌜ Index (now facts) (now ix) (count (now facts)) × Once (count (now facts)) (now ix) × Sorted (now facts) (now ix) (count (now facts)) ⌝ }
-    requires { ⌜ Small (now statements) m (now domains) (now ranges) (now keys) nc (now facts) (count (now facts)) ⌝ }
-    requires { ⌜ Exists (now statements) m (now domains) (now ranges) (now keys) nc ns (now facts) (count (now facts)) ⌝ }
+    requires { ⌜ Small (now statements) (sizes .statements) (now domains) (now ranges) (now keys) (sizes .classes) (now facts) (count (now facts)) ⌝ }
+    requires { ⌜ Exists (now statements) (sizes .statements) (now domains) (now ranges) (now keys) (sizes .classes) (sizes .columns) (now facts) (count (now facts)) ⌝ }
     requires { ⌜ (room * 3 < length (now kept)) × (room ≤ length (now supports)) × (room ≤ 262143) ⌝ }
-    ensures { λ r. ⌜ ((K : Kept) → Counts K → Supported K (now (statements .entry)) m (now (domains .entry)) (now (ranges .entry)) (now (keys .entry)) nc ns (now (facts .entry)) (count (now (facts .entry))) → result r (now (kept .exit)) (now (supports .exit)) ≡ written K room (now (kept .entry)) (now (supports .entry))) ⌝ }
+    ensures { λ r. ⌜ ((K : Kept) → Counts K → Supported K (now (statements .entry)) (sizes .statements) (now (domains .entry)) (now (ranges .entry)) (now (keys .entry)) (sizes .classes) (sizes .columns) (now (facts .entry)) (count (now (facts .entry))) → result r (now (kept .exit)) (now (supports .exit)) ≡ written K room (now (kept .entry)) (now (supports .entry))) ⌝ }
 {
-    let mut from = no_ends();
-    let mut to = no_ends();
     let k = put_rows(
         statements,
-        m,
         domains,
         ranges,
         keys,
-        nc,
-        ns,
         facts,
         ix,
-        &mut from,
-        &mut to,
         kept,
         supports,
+        sizes,
         0,
     );
     if room < k {
@@ -171,18 +167,14 @@ fn put_all(
     }
     let n = put_rows(
         statements,
-        m,
         domains,
         ranges,
         keys,
-        nc,
-        ns,
         facts,
         ix,
-        &mut from,
-        &mut to,
         kept,
         supports,
+        sizes,
         room,
     );
     kept[0] = n as u32;
@@ -213,21 +205,24 @@ pub fn saturate(
     let mut domains = no_bits();
     fill_domains(statements, m, &columns, ns, &mut domains);
     let mut ranges = no_bits();
-    fill_square(statements, m, &columns, ns, 5, &mut ranges);
+    fill_square(statements, m, &columns, ns, Term::RANGE, &mut ranges);
     let mut ix = no_places();
     fill_places(facts, &mut ix);
+    let sizes = Sizes {
+        statements: m,
+        classes: nc,
+        columns: ns,
+    };
     put_all(
         statements,
-        m,
         &domains,
         &ranges,
         &keys,
-        nc,
-        ns,
         facts,
         &ix,
         kept,
         supports,
+        sizes,
         room,
     )
 }

@@ -1,9 +1,15 @@
 // The run over the subjects, ascending: the subjects of facts, and the objects that are no literals.
-use saturate_counts::words::subject_at;
+use saturate_counts::Subject;
 use saturate_merge::lesser;
-use saturate_merge::object_at;
-use saturate_merge::wide;
+use saturate_schema::MOST_COLUMNS;
+use saturate_schema::Sizes;
+use saturate_subject::rows::Task;
 use saturate_subject::rows::subject_rows;
+use table::MOST_STATEMENTS;
+use table::WORDS;
+use table::object_at;
+use table::subject_at;
+use table::wide;
 ghost use mathlib.Core.Path.{_≡_};
 ghost use Prim.Native.Nat.{_+_, _*_, _^_, _≤_, _<_};
 ghost use lib.ListN.{length, getD};
@@ -62,12 +68,11 @@ fn subject_from(f: &[u32], n: usize, i: usize) -> u64
     requires { ⌜ n * 3 < length (now f) ⌝ }
     ensures { λ r. ⌜ r ≡ subjectFrom (now (f .entry)) n i ⌝ }
 {
-    if i < n {
-        wide(subject_at(f, i))
-    } else {
-        4294967296
-    }
+    if i < n { wide(subject_at(f, i)) } else { WORDS }
 }
+
+// The words from here on are literals or variables: 2^31.
+const LITERALS: u64 = 2147483648;
 
 // The object at place j of the index, 2^32 where there is none or it is a literal.
 fn thing_from(f: &[u32], ix: &[u32], n: usize, j: usize) -> u64
@@ -76,11 +81,11 @@ fn thing_from(f: &[u32], ix: &[u32], n: usize, j: usize) -> u64
 {
     if j < n {
         let o = wide(object_of(f, ix, j));
-        if o < 2147483648 {
+        if o < LITERALS {
             return o;
         }
     }
-    4294967296
+    WORDS
 }
 
 // The next subject of a row, 2^32 where there is none.
@@ -91,63 +96,72 @@ fn next_subject(f: &[u32], ix: &[u32], n: usize, i: usize, j: usize) -> u64
     lesser(subject_from(f, n, i), thing_from(f, ix, n, j))
 }
 
+// How many ends the streams of a column have: two for a block of facts for each statement, and for one more.
+const ENDS: usize = (MOST_STATEMENTS + 1) * 2;
+
+// Room for these ends.
+fn no_ends() -> [usize; ENDS]
+    ensures { λ r. ⌜ length r ≡ 1026 ⌝ }
+{
+    [0usize; ENDS]
+}
+
 // Puts all rows: the whole list of kept facts that has these supports. How many there are, counted up to 2^32.
 pub fn put_rows(
     statements: &[u32],
-    m: usize,
     domains: &[u8],
     ranges: &[u8],
-    keys: &[u32; 512],
-    nc: usize,
-    ns: usize,
+    keys: &[u32; MOST_COLUMNS],
     f: &[u32],
     ix: &[u32],
-    from: &mut [usize],
-    to: &mut [usize],
     kept: &mut [u32],
     supports: &mut [u16],
+    sizes: Sizes,
     room: usize,
 ) -> usize
-    requires { ⌜ Prepared (now statements) m (now keys) nc ns (now domains) (now ranges) ⌝ }
+    requires { ⌜ Prepared (now statements) (sizes .statements) (now keys) (sizes .classes) (sizes .columns) (now domains) (now ranges) ⌝ }
     requires { ⌜ Facts (now f) (count (now f)) ⌝ }
     requires { ⌜ Index (now f) (now ix) (count (now f)) ⌝ }
     requires { ⌜ Once (count (now f)) (now ix) ⌝ }
     requires { ⌜ Sorted (now f) (now ix) (count (now f)) ⌝ }
-    requires { ⌜ Small (now statements) m (now domains) (now ranges) (now keys) nc (now f) (count (now f)) ⌝ }
-    requires { ⌜ (513 ≤ length (now from)) × (513 ≤ length (now to)) ⌝ }
+    requires { ⌜ Small (now statements) (sizes .statements) (now domains) (now ranges) (now keys) (sizes .classes) (now f) (count (now f)) ⌝ }
     requires { ⌜ (room * 3 < length (now kept)) × (room ≤ length (now supports)) × (room ≤ 2 ^ 32) ⌝ }
-    ensures { λ r. ⌜ ((K : Kept) → Counts K → Supported K (now (statements .entry)) m (now (domains .entry)) (now (ranges .entry)) (now (keys .entry)) nc ns (now (f .entry)) (count (now (f .entry))) → output (now (kept .exit)) (now (supports .exit)) r ≡ putAll room K (output (now (kept .entry)) (now (supports .entry)) 0)) ⌝ }
+    ensures { λ r. ⌜ ((K : Kept) → Counts K → Supported K (now (statements .entry)) (sizes .statements) (now (domains .entry)) (now (ranges .entry)) (now (keys .entry)) (sizes .classes) (sizes .columns) (now (f .entry)) (count (now (f .entry))) → output (now (kept .exit)) (now (supports .exit)) r ≡ putAll room K (output (now (kept .entry)) (now (supports .entry)) 0)) ⌝ }
 {
     let n = f[0] as usize;
+    let mut ends = no_ends();
     let mut out = 0;
     let mut i = 0;
     let mut j = 0;
     let mut v = next_subject(f, ix, n, 0, 0);
-    while v < 4294967296 {
+    while v < WORDS {
         let x = v as u32;
         let e = subject_end(f, n, i, x);
         let h = object_end(f, ix, n, j, x);
+        let own = Subject {
+            term: x,
+            first: i,
+            end: e,
+            from: j,
+            to: h,
+        };
+        let task = Task {
+            sizes: sizes,
+            own: own,
+            room: room,
+            rows: out,
+        };
         out = subject_rows(
             statements,
-            m,
             domains,
             ranges,
             keys,
-            nc,
-            ns,
             f,
             ix,
-            i,
-            e,
-            j,
-            h,
-            x,
-            from,
-            to,
+            &mut ends,
             kept,
             supports,
-            room,
-            out,
+            task,
         );
         i = e;
         j = h;

@@ -1,9 +1,10 @@
 // What the facts about a thing add to the counts of the columns: the classes that they give it, and the properties that they lead to.
-pub mod words; // words.rt: the words of a table's rows
-
-use saturate_merge::object_at;
-use words::property_at;
-use words::subject_at;
+use saturate_schema::MOST_COLUMNS;
+use saturate_schema::Sizes;
+use spec::Term;
+use table::object_at;
+use table::property_at;
+use table::subject_at;
 ghost use mathlib.Core.Path.{_≡_};
 ghost use mathlib.Core.Bool.{cond};
 ghost use Prim.Native.Nat.{ℕ, _+_, _-_, _*_, _^_, _≤_, _<_};
@@ -16,6 +17,16 @@ ghost use Rattle.saturate_index.specs.inside.Index.{objectOf, Index, Once};
 ghost use Rattle.saturate_counts.specs.inside.Prepared.{Square, Facts};
 ghost use Rattle.saturate_counts.specs.inside.Supported.{Range, CountsOf};
 ghost use Rattle.saturate_counts.specs.inside.Counting.{Added, eitherAt, otherBit, Summed};
+
+// A thing, with its facts: those between first and end, of which it is the subject, and those of which it is the object, at the places
+// of the index between from and to.
+pub struct Subject {
+    pub term: u32,
+    pub first: usize,
+    pub end: usize,
+    pub from: usize,
+    pub to: usize,
+}
 
 // A bit as a wider number.
 fn wide(bit: u8) -> u32
@@ -39,7 +50,7 @@ fn add_row(counts: &mut [u32], square: &[u8], g: usize, end: usize)
 {
     let mut c = 0;
     while c < end {
-        counts[c] = counts[c] + wide(square[g * 512 + c]);
+        counts[c] = counts[c] + wide(square[g * MOST_COLUMNS + c]);
         c += 1;
     }
 }
@@ -53,7 +64,12 @@ fn add_either(counts: &mut [u32], domains: &[u8], ranges: &[u8], g: usize, nc: u
 {
     let mut c = 0;
     while c < end {
-        counts[c] = counts[c] + wide(either_bit(domains[g * 512 + c], ranges[g * 512 + c], c < nc));
+        counts[c] = counts[c]
+            + wide(either_bit(
+                domains[g * MOST_COLUMNS + c],
+                ranges[g * MOST_COLUMNS + c],
+                c < nc,
+            ));
         c += 1;
     }
 }
@@ -61,26 +77,27 @@ fn add_either(counts: &mut [u32], domains: &[u8], ranges: &[u8], g: usize, nc: u
 // Adds what fact y, of the subject x, gives x and leads to.
 fn count_fact(
     statements: &[u32],
-    m: usize,
+    sizes: Sizes,
     f: &[u32],
     y: usize,
     x: u32,
     domains: &[u8],
     ranges: &[u8],
-    nc: usize,
-    ns: usize,
     counts: &mut [u32],
 )
-    requires { ⌜ Statements (now statements) m ⌝ }
-    requires { ⌜ Square (now statements) m ns (now domains) ⌝ }
-    requires { ⌜ Square (now statements) m ns (now ranges) ⌝ }
-    requires { ⌜ (y * 3 + 3 < length (now f)) × (ns ≤ 512) × (ns ≤ length (now counts)) ⌝ }
-    requires { ⌜ ((c : ℕ) → c < ns → getD (now counts) c 0 + 1 < 2 ^ 32) ⌝ }
-    ensures { λ _. ⌜ Added (now (counts .entry)) (now (counts .exit)) (λ c. ownBit (now (statements .entry)) m nc (now (domains .entry)) (now (ranges .entry)) (now (f .entry)) x c y) ns ⌝ }
+    requires { ⌜ Statements (now statements) (sizes .statements) ⌝ }
+    requires { ⌜ Square (now statements) (sizes .statements) (sizes .columns) (now domains) ⌝ }
+    requires { ⌜ Square (now statements) (sizes .statements) (sizes .columns) (now ranges) ⌝ }
+    requires { ⌜ (y * 3 + 3 < length (now f)) × (sizes .columns ≤ 512) × (sizes .columns ≤ length (now counts)) ⌝ }
+    requires { ⌜ ((c : ℕ) → c < sizes .columns → getD (now counts) c 0 + 1 < 2 ^ 32) ⌝ }
+    ensures { λ _. ⌜ Added (now (counts .entry)) (now (counts .exit)) (λ c. ownBit (now (statements .entry)) (sizes .statements) (sizes .classes) (now (domains .entry)) (now (ranges .entry)) (now (f .entry)) x c y) (sizes .columns) ⌝ }
 {
+    let m = sizes.statements;
+    let nc = sizes.classes;
+    let ns = sizes.columns;
     let p = property_at(f, y);
     let o = object_at(f, y);
-    if p == 1 {
+    if p == Term::TYPE {
         let a = saturate_schema::class_group(statements, m, o);
         if a < m {
             add_row(counts, domains, a, ns);
@@ -97,30 +114,28 @@ fn count_fact(
     }
 }
 
-// Adds what the facts i .. e, of the subject x, give x and lead to.
+// Adds what the facts of a subject give it and lead to.
 fn count_subject(
     statements: &[u32],
-    m: usize,
+    sizes: Sizes,
     f: &[u32],
-    i: usize,
-    e: usize,
-    x: u32,
+    own: Subject,
     domains: &[u8],
     ranges: &[u8],
-    nc: usize,
-    ns: usize,
     counts: &mut [u32],
 )
-    requires { ⌜ Statements (now statements) m ⌝ }
-    requires { ⌜ Square (now statements) m ns (now domains) ⌝ }
-    requires { ⌜ Square (now statements) m ns (now ranges) ⌝ }
-    requires { ⌜ (i ≤ e) × (e * 3 < length (now f)) × (ns ≤ 512) × (ns ≤ length (now counts)) ⌝ }
-    requires { ⌜ ((c : ℕ) → c < ns → getD (now counts) c 0 + (e - i) < 2 ^ 32) ⌝ }
-    ensures { λ _. ⌜ Summed (now (counts .entry)) (now (counts .exit)) (λ c y. ownBit (now (statements .entry)) m nc (now (domains .entry)) (now (ranges .entry)) (now (f .entry)) x c y) ns i e ⌝ }
+    requires { ⌜ Statements (now statements) (sizes .statements) ⌝ }
+    requires { ⌜ Square (now statements) (sizes .statements) (sizes .columns) (now domains) ⌝ }
+    requires { ⌜ Square (now statements) (sizes .statements) (sizes .columns) (now ranges) ⌝ }
+    requires { ⌜ (own .first ≤ own .end) × (own .end * 3 < length (now f)) × (sizes .columns ≤ 512) × (sizes .columns ≤ length (now counts)) ⌝ }
+    requires { ⌜ ((c : ℕ) → c < sizes .columns → getD (now counts) c 0 + (own .end - own .first) < 2 ^ 32) ⌝ }
+    ensures { λ _. ⌜ Summed (now (counts .entry)) (now (counts .exit)) (λ c y. ownBit (now (statements .entry)) (sizes .statements) (sizes .classes) (now (domains .entry)) (now (ranges .entry)) (now (f .entry)) (own .term) c y) (sizes .columns) (own .first) (own .end) ⌝ }
 {
-    let mut y = i;
+    let x = own.term;
+    let e = own.end;
+    let mut y = own.first;
     while y < e {
-        count_fact(statements, m, f, y, x, domains, ranges, nc, ns, counts);
+        count_fact(statements, sizes, f, y, x, domains, ranges, counts);
         y += 1;
     }
 }
@@ -128,106 +143,85 @@ fn count_subject(
 // Adds what fact y, whose object is x, gives x by range, where its subject is another.
 fn count_other(
     statements: &[u32],
-    m: usize,
+    sizes: Sizes,
     f: &[u32],
     y: usize,
     x: u32,
     ranges: &[u8],
-    nc: usize,
-    ns: usize,
     counts: &mut [u32],
 )
-    requires { ⌜ Statements (now statements) m ⌝ }
-    requires { ⌜ Square (now statements) m ns (now ranges) ⌝ }
-    requires { ⌜ (y * 3 + 3 < length (now f)) × (nc ≤ ns) × (ns ≤ 512) × (ns ≤ length (now counts)) ⌝ }
-    requires { ⌜ ((c : ℕ) → c < nc → getD (now counts) c 0 + 1 < 2 ^ 32) ⌝ }
-    ensures { λ _. ⌜ Added (now (counts .entry)) (now (counts .exit)) (λ c. otherBit (now (statements .entry)) m (now (ranges .entry)) (now (f .entry)) x c y) nc ⌝ }
+    requires { ⌜ Statements (now statements) (sizes .statements) ⌝ }
+    requires { ⌜ Square (now statements) (sizes .statements) (sizes .columns) (now ranges) ⌝ }
+    requires { ⌜ (y * 3 + 3 < length (now f)) × (sizes .classes ≤ sizes .columns) × (sizes .columns ≤ 512) × (sizes .columns ≤ length (now counts)) ⌝ }
+    requires { ⌜ ((c : ℕ) → c < sizes .classes → getD (now counts) c 0 + 1 < 2 ^ 32) ⌝ }
+    ensures { λ _. ⌜ Added (now (counts .entry)) (now (counts .exit)) (λ c. otherBit (now (statements .entry)) (sizes .statements) (now (ranges .entry)) (now (f .entry)) x c y) (sizes .classes) ⌝ }
 {
+    let m = sizes.statements;
     if subject_at(f, y) == x {
         return;
     }
     let g = saturate_schema::property_group(statements, m, property_at(f, y));
     if g < m {
-        add_row(counts, ranges, g, nc);
+        add_row(counts, ranges, g, sizes.classes);
     }
 }
 
-// Adds what the facts at the places j .. h of the index, whose object is x, give x by range.
+// Adds what the facts whose object is a thing give it by range.
 fn count_object(
     statements: &[u32],
-    m: usize,
+    sizes: Sizes,
     f: &[u32],
     ix: &[u32],
-    j: usize,
-    h: usize,
-    x: u32,
+    own: Subject,
     ranges: &[u8],
-    nc: usize,
-    ns: usize,
     counts: &mut [u32],
 )
-    requires { ⌜ Statements (now statements) m ⌝ }
-    requires { ⌜ Square (now statements) m ns (now ranges) ⌝ }
-    requires { ⌜ (j ≤ h) × (h ≤ length (now ix)) × (nc ≤ ns) × (ns ≤ 512) × (ns ≤ length (now counts)) ⌝ }
-    requires { ⌜ ((a : ℕ) → a < h → getD (now ix) a 0 * 3 + 3 < length (now f)) ⌝ }
-    requires { ⌜ ((c : ℕ) → c < nc → getD (now counts) c 0 + (h - j) < 2 ^ 32) ⌝ }
-    ensures { λ _. ⌜ Summed (now (counts .entry)) (now (counts .exit)) (λ c a. otherBit (now (statements .entry)) m (now (ranges .entry)) (now (f .entry)) x c (getD (now (ix .entry)) a 0)) nc j h ⌝ }
+    requires { ⌜ Statements (now statements) (sizes .statements) ⌝ }
+    requires { ⌜ Square (now statements) (sizes .statements) (sizes .columns) (now ranges) ⌝ }
+    requires { ⌜ (own .from ≤ own .to) × (own .to ≤ length (now ix)) × (sizes .classes ≤ sizes .columns) × (sizes .columns ≤ 512) × (sizes .columns ≤ length (now counts)) ⌝ }
+    requires { ⌜ ((a : ℕ) → a < own .to → getD (now ix) a 0 * 3 + 3 < length (now f)) ⌝ }
+    requires { ⌜ ((c : ℕ) → c < sizes .classes → getD (now counts) c 0 + (own .to - own .from) < 2 ^ 32) ⌝ }
+    ensures { λ _. ⌜ Summed (now (counts .entry)) (now (counts .exit)) (λ c a. otherBit (now (statements .entry)) (sizes .statements) (now (ranges .entry)) (now (f .entry)) (own .term) c (getD (now (ix .entry)) a 0)) (sizes .classes) (own .from) (own .to) ⌝ }
 {
-    let mut a = j;
+    let x = own.term;
+    let h = own.to;
+    let mut a = own.from;
     while a < h {
-        count_other(statements, m, f, ix[a] as usize, x, ranges, nc, ns, counts);
+        count_other(statements, sizes, f, ix[a] as usize, x, ranges, counts);
         a += 1;
     }
 }
 
 // Counts of 0.
-fn no_counts() -> [u32; 512]
+fn no_counts() -> [u32; MOST_COLUMNS]
     ensures { λ r. ⌜ (length r ≡ 512) × ((c : ℕ) → getD r c 0 ≡ 0) ⌝ }
 {
-    [0u32; 512]
+    [0u32; MOST_COLUMNS]
 }
 
-// The counts of the columns for x, from the facts i .. e of the subject x and those at the places j .. h of the index, of the object x.
+// The counts of the columns for a thing, from its facts.
 pub fn counts_of(
     statements: &[u32],
-    m: usize,
+    sizes: Sizes,
     domains: &[u8],
     ranges: &[u8],
-    nc: usize,
-    ns: usize,
     f: &[u32],
     ix: &[u32],
-    i: usize,
-    e: usize,
-    j: usize,
-    h: usize,
-    x: u32,
-) -> [u32; 512]
-    requires { ⌜ Statements (now statements) m ⌝ }
-    requires { ⌜ Square (now statements) m ns (now domains) ⌝ }
-    requires { ⌜ Square (now statements) m ns (now ranges) ⌝ }
-    requires { ⌜ (nc ≤ ns) × (ns ≤ 512) ⌝ }
+    own: Subject,
+) -> [u32; MOST_COLUMNS]
+    requires { ⌜ Statements (now statements) (sizes .statements) ⌝ }
+    requires { ⌜ Square (now statements) (sizes .statements) (sizes .columns) (now domains) ⌝ }
+    requires { ⌜ Square (now statements) (sizes .statements) (sizes .columns) (now ranges) ⌝ }
+    requires { ⌜ (sizes .classes ≤ sizes .columns) × (sizes .columns ≤ 512) ⌝ }
     requires { ⌜ Facts (now f) (count (now f)) ⌝ }
     requires { ⌜ Index (now f) (now ix) (count (now f)) ⌝ }
     requires { ⌜ Once (count (now f)) (now ix) ⌝ }
-    requires { ⌜ Range (subjectAt (now f)) (count (now f)) x i e ⌝ }
-    requires { ⌜ Range (objectOf (now f) (now ix)) (count (now f)) x j h ⌝ }
-    ensures { λ r. ⌜ CountsOf (now (statements .entry)) m (now (domains .entry)) (now (ranges .entry)) nc ns (now (f .entry)) (count (now (f .entry))) x r ⌝ }
+    requires { ⌜ Range (subjectAt (now f)) (count (now f)) (own .term) (own .first) (own .end) ⌝ }
+    requires { ⌜ Range (objectOf (now f) (now ix)) (count (now f)) (own .term) (own .from) (own .to) ⌝ }
+    ensures { λ r. ⌜ CountsOf (now (statements .entry)) (sizes .statements) (now (domains .entry)) (now (ranges .entry)) (sizes .classes) (sizes .columns) (now (f .entry)) (count (now (f .entry))) (own .term) r ⌝ }
 {
     let mut counts = no_counts();
-    count_subject(
-        statements,
-        m,
-        f,
-        i,
-        e,
-        x,
-        domains,
-        ranges,
-        nc,
-        ns,
-        &mut counts,
-    );
-    count_object(statements, m, f, ix, j, h, x, ranges, nc, ns, &mut counts);
+    count_subject(statements, sizes, f, own, domains, ranges, &mut counts);
+    count_object(statements, sizes, f, ix, own, ranges, &mut counts);
     counts
 }

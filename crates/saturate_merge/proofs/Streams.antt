@@ -11,7 +11,7 @@ use lib.ListN.{length, getD, set, length-set}
 use lib.Seq.{getD-set-same, getD-set-other}
 use lib.Dec.{eqb}
 use borrow.Author.Tests.{lt-ltb, le-ltb, eq-eqb, ne-eqb}
-use Rattle.saturate_merge.specs.inside.Streams.{objects, streams, frontOf, lesserOf, leastOf, strip, strips, hit, hits, often, tally, Over, Rising, AllRising}
+use Rattle.saturate_merge.specs.inside.Streams.{objects, stream, streams, frontOf, lesserOf, leastOf, strip, strips, hit, hits, often, tally, Over, Rising, AllRising}
 
 unfoldable pub remaining : List (List ℕ) → ℕ
 remaining [] = 0
@@ -148,17 +148,19 @@ unfolding hit
 hit-one o [] = omega arith
 hit-one o (a ∷ l) = by-cases (ℕ-discrete a o) (λ e. rw (eq-eqb a o e) (omega arith)) (λ n. rw (ne-eqb a o n) (omega arith))
 
-pub hits-few : (f from to : List ℕ) (o k : ℕ) → hits o (streams f from to k) ≤ k
+pub hits-few : (f ends : List ℕ) (o k : ℕ) → hits o (streams f ends k) ≤ k
 unfolding hits streams
-hits-few f from to o zero = omega arith
-hits-few f from to o (suc k) = omega (arith, hit-one o (objects f (getD from k 0) (getD to k 0 - getD from k 0)), hits-few f from to o k)
+hits-few f ends o zero = omega arith
+hits-few f ends o (suc k) = omega (arith, hit-one o (stream f ends k), hits-few f ends o k)
 
 -- ---- the streams of the code
 
-pub streams-set : (f from to : List ℕ) (k z v : ℕ) → k ≤ z → streams f (set from z v) to k ≡ streams f from to k
+-- What is set behind them leaves the first k streams as they are.
+pub streams-set : (f ends : List ℕ) (k z v : ℕ) → k * 2 ≤ z → streams f (set ends z v) k ≡ streams f ends k
 unfolding streams
-streams-set f from to zero z v h = refl
-streams-set f from to (suc k) z v h = rw (getD-set-other from z k v 0 (λ e. omega arith), streams-set f from to k z v (omega arith))
+streams-set f ends zero z v h = refl
+streams-set f ends (suc k) z v h =
+    rw (getD-set-other ends z (k * 2) v 0 (λ e. omega arith), getD-set-other ends z (k * 2 + 1) v 0 (λ e. omega arith), streams-set f ends k z v (omega arith))
 
 pub objects-none : (f : List ℕ) (a b : ℕ) → b ≤ a → objects f a (b - a) ≡ []
 unfolding objects
@@ -192,52 +194,58 @@ step-miss f a b o n =
     (λ h. rw (objects-none f a b (omega arith)) (refl, refl))
 
 -- the loop over the streams: those below y are stepped
-pub record Stepping (f from₀ from to : List ℕ) (o k c y : ℕ) : Type 0 where
+pub record Stepping (f ends₀ ends : List ℕ) (o k c y : ℕ) : Type 0 where
   pub le : y ≤ k
-  pub same-length : length from ≡ length from₀
-  pub ahead : (z : ℕ) → y ≤ z → getD from z 0 ≡ getD from₀ z 0
-  pub stepped : streams f from to y ≡ strips o (streams f from₀ to y)
-  pub counted : c ≡ hits o (streams f from₀ to y)
+  pub same-length : length ends ≡ length ends₀
+  pub ahead : (z : ℕ) → y ≤ z → getD ends (z * 2) 0 ≡ getD ends₀ (z * 2) 0
+  pub same-ends : (z : ℕ) → getD ends (z * 2 + 1) 0 ≡ getD ends₀ (z * 2 + 1) 0
+  pub stepped : streams f ends y ≡ strips o (streams f ends₀ y)
+  pub counted : c ≡ hits o (streams f ends₀ y)
 
-pub stepping-start : (f from to : List ℕ) (o k : ℕ) → Stepping f from from to o k 0 0
+pub stepping-start : (f ends : List ℕ) (o k : ℕ) → Stepping f ends ends o k 0 0
 unfolding streams strips hits
-stepping-start f from to o k = record { le = omega arith; same-length = refl; ahead = λ z h. refl; stepped = refl; counted = refl }
+stepping-start f ends o k = record { le = omega arith; same-length = refl; ahead = λ z h. refl; same-ends = λ z. refl; stepped = refl; counted = refl }
 
-pub stepping-hit : (f from₀ from to : List ℕ) (o k c y : ℕ) → Stepping f from₀ from to o k c y → y < k → y < length from → o < 2 ^ 32 → frontOf (objects f (getD from y 0) (getD to y 0 - getD from y 0)) ≡ o → Stepping f from₀ (set from y (getD from y 0 + 1)) to o k (c + 1) (y + 1)
+-- The stream at y is as it was.
+ahead-same : {f ends₀ ends : List ℕ} {o k c y : ℕ} → Stepping f ends₀ ends o k c y → stream f ends y ≡ stream f ends₀ y
+ahead-same {f} {ends₀} {ends} {o} {k} {c} {y} g = rw (g .ahead y (omega arith), g .same-ends y)
+
+pub stepping-hit : (f ends₀ ends : List ℕ) (o k c y : ℕ) → Stepping f ends₀ ends o k c y → y < k → y * 2 < length ends → o < 2 ^ 32 → frontOf (stream f ends y) ≡ o → Stepping f ends₀ (set ends (y * 2) (getD ends (y * 2) 0 + 1)) o k (c + 1) (y + 1)
 unfolding streams strips hits
-stepping-hit f from₀ from to o k c y g lt il ol e =
-    let s = step-hit f (getD from y 0) (getD to y 0) o ol e in
-    let q : getD from y 0 ≡ getD from₀ y 0 = g .ahead y (omega arith) in
-    let m : (set from y (getD from y 0 + 1)) ≡ (set from y (getD from y 0 + 1)) = refl in
+stepping-hit f ends₀ ends o k c y g lt il ol e =
+    let a : ℕ = getD ends (y * 2) 0 in
+    let s = step-hit f a (getD ends (y * 2 + 1) 0) o ol e in
     record {
       le = omega arith;
-      same-length = length-set from y (getD from y 0 + 1) ∙ g .same-length;
-      ahead = λ z h. getD-set-other from y z (getD from y 0 + 1) 0 (λ w. omega arith) ∙ g .ahead z (omega arith);
-      stepped = rw (add-one y, getD-set-same from y (getD from y 0 + 1) 0 il, streams-set f from to y y (getD from y 0 + 1) (omega arith), s .1, g .stepped, q);
-      counted = rw (add-one y, ← q) (omega (arith, s .0, g .counted));
+      same-length = length-set ends (y * 2) (a + 1) ∙ g .same-length;
+      ahead = λ z h. getD-set-other ends (y * 2) (z * 2) (a + 1) 0 (λ w. omega arith) ∙ g .ahead z (omega arith);
+      same-ends = λ z. getD-set-other ends (y * 2) (z * 2 + 1) (a + 1) 0 (λ w. omega arith) ∙ g .same-ends z;
+      stepped = rw (add-one y, getD-set-same ends (y * 2) (a + 1) 0 il, getD-set-other ends (y * 2) (y * 2 + 1) (a + 1) 0 (λ w. omega arith), streams-set f ends y (y * 2) (a + 1) (omega arith), s .1, g .stepped)
+          (ap (λ (l : List ℕ). strip o l ∷ strips o (streams f ends₀ y)) (ahead-same g));
+      counted = rw (add-one y, ← ahead-same g) (omega (arith, s .0, g .counted));
     }
 
-pub stepping-miss : (f from₀ from to : List ℕ) (o k c y : ℕ) → Stepping f from₀ from to o k c y → y < k → (frontOf (objects f (getD from y 0) (getD to y 0 - getD from y 0)) ≡ o → ⊥) → Stepping f from₀ from to o k c (y + 1)
+pub stepping-miss : (f ends₀ ends : List ℕ) (o k c y : ℕ) → Stepping f ends₀ ends o k c y → y < k → (frontOf (stream f ends y) ≡ o → ⊥) → Stepping f ends₀ ends o k c (y + 1)
 unfolding streams strips hits
-stepping-miss f from₀ from to o k c y g lt n =
-    let s = step-miss f (getD from y 0) (getD to y 0) o n in
-    let q : getD from y 0 ≡ getD from₀ y 0 = g .ahead y (omega arith) in
+stepping-miss f ends₀ ends o k c y g lt n =
+    let s = step-miss f (getD ends (y * 2) 0) (getD ends (y * 2 + 1) 0) o n in
     record {
       le = omega arith;
       same-length = g .same-length;
       ahead = λ z h. g .ahead z (omega arith);
-      stepped = rw (add-one y) (ap₂ _∷_ (s .1 ∙ ap (λ (a : ℕ). strip o (objects f a (getD to y 0 - a))) q) (g .stepped));
-      counted = rw (add-one y, ← q) (omega (arith, s .0, g .counted));
+      same-ends = g .same-ends;
+      stepped = rw (add-one y) (ap₂ _∷_ (s .1 ∙ ap (strip o) (ahead-same g)) (g .stepped));
+      counted = rw (add-one y, ← ahead-same g) (omega (arith, s .0, g .counted));
     }
 
 -- the loop that looks for the least
-pub least-more : (f from to : List ℕ) (y : ℕ) → leastOf (streams f from to (y + 1)) ≡ lesserOf (frontOf (objects f (getD from y 0) (getD to y 0 - getD from y 0))) (leastOf (streams f from to y))
+pub least-more : (f ends : List ℕ) (y : ℕ) → leastOf (streams f ends (y + 1)) ≡ lesserOf (frontOf (stream f ends y)) (leastOf (streams f ends y))
 unfolding streams leastOf
-least-more f from to y = rw (add-one y)
+least-more f ends y = rw (add-one y)
 
-pub least-none : (f from to : List ℕ) → leastOf (streams f from to 0) ≡ 2 ^ 32
+pub least-none : (f ends : List ℕ) → leastOf (streams f ends 0) ≡ 2 ^ 32
 unfolding streams leastOf
-least-none f from to = refl
+least-none f ends = refl
 
-pub stepping-small : {f from₀ from to : List ℕ} {o k c y : ℕ} → Stepping f from₀ from to o k c y → c ≤ y
-stepping-small {f} {from₀} {from} {to} {o} {k} {c} {y} g = omega (arith, g .counted, hits-few f from₀ to o y)
+pub stepping-small : {f ends₀ ends : List ℕ} {o k c y : ℕ} → Stepping f ends₀ ends o k c y → c ≤ y
+stepping-small {f} {ends₀} {ends} {o} {k} {c} {y} g = omega (arith, g .counted, hits-few f ends₀ o y)

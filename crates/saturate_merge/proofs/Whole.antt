@@ -14,7 +14,8 @@ use Rattle.spec.specs.Saturation.{Kept, keptRows, keptSupports}
 use Rattle.spec.specs.inside.Counts.{KeptAbove, Counts, lookup}
 use Rattle.spec.proofs.Kept.{lookup-nil, lookup-same, lookup-other, kept-ext}
 use Rattle.spec.specs.Tables.{flatten}
-use Rattle.saturate_merge.specs.inside.Output.{Output, output, oneMore, putOne, putAll, setRow}
+use Rattle.table.specs.inside.Words.{putRow}
+use Rattle.saturate_merge.specs.inside.Output.{Output, output, oneMore, putOne, putAll}
 use Rattle.saturate_merge.specs.inside.Between.{lessThan, Within, within, between}
 use Rattle.saturate_merge.proofs.Output.{put-here}
 use Rattle.saturate_merge.proofs.Between.{between-counts, inside, outside, Under, between-under}
@@ -107,13 +108,14 @@ set-at [] w k i x e = let f : k ≡ i = omega arith in rw f
 set-at (p ∷ P) w zero i x e = absurd (omega arith)
 set-at (p ∷ P) w (suc k) i x e = ap (λ (l : List ℕ). p ∷ l) (set-at P w k i x (omega arith))
 
-triple-at : (P w : List ℕ) (k a b c : ℕ) (t : Triple) → k ≡ length P → setRow (P ++ a ∷ b ∷ c ∷ w) k t ≡ P ++ t .subject ∷ t .property ∷ t .object ∷ w
+triple-at : (P w : List ℕ) (k a b c : ℕ) (t : Triple) → k ≡ length P → set (set (set (P ++ a ∷ b ∷ c ∷ w) k (t .subject)) (k + 1) (t .property)) (k + 2) (t .object) ≡ P ++ t .subject ∷ t .property ∷ t .object ∷ w
 triple-at P w k a b c t e =
     rw (set-at P (a ∷ b ∷ c ∷ w) k 0 (t .subject) (omega arith), set-at P (t .subject ∷ b ∷ c ∷ w) (k + 1) 1 (t .property) (omega arith), set-at P (t .subject ∷ t .property ∷ c ∷ w) (k + 2) 2 (t .object) (omega arith))
 
 fits-step : (k : Kept) (e : Triple × ℕ) (P Q w v : List ℕ) (n room a b c d : ℕ) → length P ≡ n * 3 + 1 → length Q ≡ n → n < room → room ≤ 2 ^ 32 → putOne room e (output (P ++ a ∷ b ∷ c ∷ w) (Q ++ d ∷ v) n) ≡ output (P ++ e .0 .subject ∷ e .0 .property ∷ e .0 .object ∷ w) (Q ++ e .1 ∷ v) (n + 1)
+unfolding putRow
 fits-step k e P Q w v n room a b c d lp lq lt le =
-    sym (put-here (P ++ a ∷ b ∷ c ∷ w) (Q ++ d ∷ v) room n (e .0 .subject) (e .0 .property) (e .0 .object) (e .1) lt le)
+    sym (put-here {ws = P ++ a ∷ b ∷ c ∷ w} {ss = Q ++ d ∷ v} {s = e .0 .subject} {p = e .0 .property} {o = e .0 .object} lt le (record { row = refl; support = refl }))
     ∙ ap₂ (λ (x y : List ℕ). output x y (n + 1)) (triple-at P w (n * 3 + 1) a b c (e .0) (sym lp)) (set-at Q (d ∷ v) n 0 (e .1) (omega arith))
 
 snoc3 : (P w : List ℕ) (a b c : ℕ) → P ++ a ∷ b ∷ c ∷ w ≡ (P ++ a ∷ b ∷ c ∷ []) ++ w

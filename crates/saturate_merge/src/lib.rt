@@ -1,5 +1,11 @@
 // Rows with their supports, put one after the other: merged from ascending streams of objects, or from objects and counted keys.
 // What a function puts is said of every list K of kept facts whose supports are those that the function sees: it puts a part of K.
+use spec::Term;
+use spec::Triple;
+use table::MOST_STATEMENTS;
+use table::WORDS;
+use table::object_at;
+use table::wide;
 ghost use mathlib.Core.Path.{_≡_};
 ghost use Prim.Native.Nat.{ℕ, _+_, _-_, _*_, _^_, _≤_, _<_};
 ghost use lib.ListN.{length, getD};
@@ -11,13 +17,15 @@ ghost use Rattle.saturate_merge.specs.inside.Streams.{frontOf, lesserOf,
 ghost use Rattle.saturate_merge.specs.inside.Counted.{KeysRising, counted, total, keyAt, Totalled};
 ghost use Rattle.saturate_merge.specs.inside.Between.{between};
 
-// The object of row i.
-pub fn object_at(t: &[u32], i: usize) -> u32
-    requires { ⌜ i * 3 + 3 < length (now t) ⌝ }
-    ensures { λ r. ⌜ r ≡ getD (now (t .entry)) (i * 3 + 3) 0 ⌝ }
-{
-    t[i * 3 + 3]
+// Rows of a table that have one subject: from one, and below another.
+pub struct Own {
+    pub subject: u32,
+    pub from: usize,
+    pub to: usize,
 }
+
+// Rows are counted up to this number, which no table reaches.
+const MOST_COUNTED: usize = 4294967296;
 
 // Puts row n with its support, where there is room for it. One row more than before, counted up to 2^32.
 pub fn put(
@@ -34,14 +42,15 @@ pub fn put(
     ensures { λ r. ⌜ output (now (kept .exit)) (now (supports .exit)) r ≡ putOne room (triple s p o, support) (output (now (kept .entry)) (now (supports .entry)) n) ⌝ }
 {
     if n < room {
-        let k = n * 3 + 1;
-        kept[k] = s;
-        kept[k + 1] = p;
-        kept[k + 2] = o;
-        supports[n] = support;
+        let row = Triple {
+            subject: s,
+            property: p,
+            object: o,
+        };
+        table::put_entry(kept, supports, n, row, support);
         return n + 1;
     }
-    if n < 4294967296 {
+    if n < MOST_COUNTED {
         return n + 1;
     }
     n
@@ -52,11 +61,7 @@ fn front(f: &[u32], a: usize, b: usize) -> u64
     requires { ⌜ b * 3 < length (now f) ⌝ }
     ensures { λ r. ⌜ r ≡ frontOf (objects (now (f .entry)) a (b - a)) ⌝ }
 {
-    if a < b {
-        object_at(f, a) as u64
-    } else {
-        4294967296
-    }
+    if a < b { wide(object_at(f, a)) } else { WORDS }
 }
 
 // The lesser of two numbers.
@@ -67,36 +72,37 @@ pub fn lesser(a: u64, b: u64) -> u64
 }
 
 // The least object at the front of the first k streams, 2^32 where all are at their end.
-fn least(f: &[u32], from: &[usize], to: &[usize], k: usize) -> u64
-    requires { ⌜ Inside (now f) (now from) (now to) k ⌝ }
-    ensures { λ r. ⌜ r ≡ leastOf (streams (now (f .entry)) (now (from .entry)) (now (to .entry)) k) ⌝ }
+fn least(f: &[u32], ends: &[usize], k: usize) -> u64
+    requires { ⌜ Inside (now f) (now ends) k ⌝ }
+    ensures { λ r. ⌜ r ≡ leastOf (streams (now (f .entry)) (now (ends .entry)) k) ⌝ }
 {
-    let mut best: u64 = 4294967296;
+    let mut best = WORDS;
     let mut y = 0;
     while y < k {
-        best = lesser(front(f, from[y], to[y]), best);
+        best = lesser(front(f, ends[y * 2], ends[y * 2 + 1]), best);
         y += 1;
     }
     best
 }
 
 // Steps the streams whose front is o, and counts them.
-fn step(f: &[u32], from: &mut [usize], to: &[usize], k: usize, o: u64) -> u16
-    requires { ⌜ Inside (now f) (now from) (now to) k ⌝ }
+fn step(f: &[u32], ends: &mut [usize], k: usize, o: u64) -> u16
+    requires { ⌜ Inside (now f) (now ends) k ⌝ }
     requires { ⌜ k < 2 ^ 16 ⌝ }
     requires { ⌜ o < 2 ^ 32 ⌝ }
-    ensures { λ r. ⌜ r ≡ hits o (streams (now (f .entry)) (now (from .entry)) (now (to .entry)) k) ⌝ }
-    ensures { λ r. ⌜ streams (now (f .entry)) (now (from .exit)) (now (to .entry)) k ≡ strips o (streams (now (f .entry)) (now (from .entry)) (now (to .entry)) k) ⌝ }
+    ensures { λ r. ⌜ r ≡ hits o (streams (now (f .entry)) (now (ends .entry)) k) ⌝ }
+    ensures { λ r. ⌜ streams (now (f .entry)) (now (ends .exit)) k ≡ strips o (streams (now (f .entry)) (now (ends .entry)) k) ⌝ }
+    ensures { λ _. ⌜ ((y : ℕ) → getD (now (ends .exit)) (y * 2 + 1) 0 ≡ getD (now (ends .entry)) (y * 2 + 1) 0) ⌝ }
 {
     let mut c: u16 = 0;
     let mut y = 0;
     while y < k {
-        let z = y;
-        let a = from[z];
+        let z = y * 2;
+        let a = ends[z];
         y += 1;
-        if front(f, a, to[z]) == o {
+        if front(f, a, ends[z + 1]) == o {
             c += 1;
-            from[z] = a + 1;
+            ends[z] = a + 1;
         }
     }
     c
@@ -105,8 +111,7 @@ fn step(f: &[u32], from: &mut [usize], to: &[usize], k: usize, o: u64) -> u16
 // Puts x q o for each object o of the first k streams, ascending; the support is the number of streams that have it.
 pub fn merge_streams(
     f: &[u32],
-    from: &mut [usize],
-    to: &[usize],
+    ends: &mut [usize],
     k: usize,
     x: u32,
     q: u32,
@@ -115,79 +120,71 @@ pub fn merge_streams(
     room: usize,
     n0: usize,
 ) -> usize
-    requires { ⌜ Inside (now f) (now from) (now to) k ⌝ }
-    requires { ⌜ AllRising (streams (now f) (now from) (now to) k) ⌝ }
+    requires { ⌜ Inside (now f) (now ends) k ⌝ }
+    requires { ⌜ AllRising (streams (now f) (now ends) k) ⌝ }
     requires { ⌜ k < 2 ^ 16 ⌝ }
     requires { ⌜ (room * 3 < length (now kept)) × (room ≤ length (now supports)) × (room ≤ 2 ^ 32) ⌝ }
-    ensures { λ r. ⌜ ((K : Kept) → Counts K → Tallied K x q (streams (now (f .entry)) (now (from .entry)) (now (to .entry)) k) → output (now (kept .exit)) (now (supports .exit)) r ≡ putAll room (between (triple x q 0) (triple x (q + 1) 0) K) (output (now (kept .entry)) (now (supports .entry)) n0)) ⌝ }
+    ensures { λ r. ⌜ ((K : Kept) → Counts K → Tallied K x q (streams (now (f .entry)) (now (ends .entry)) k) → output (now (kept .exit)) (now (supports .exit)) r ≡ putAll room (between (triple x q 0) (triple x (q + 1) 0) K) (output (now (kept .entry)) (now (supports .entry)) n0)) ⌝ }
 {
     let mut n = n0;
-    let mut o = least(f, from, to, k);
-    while o < 4294967296 {
-        let c = step(f, from, to, k, o);
+    let mut o = least(f, ends, k);
+    while o < WORDS {
+        let c = step(f, ends, k, o);
         n = put(kept, supports, room, n, x, q, o as u32, c);
-        o = least(f, from, to, k);
+        o = least(f, ends, k);
     }
     n
 }
 
-// A word as a wider number.
-pub fn wide(a: u32) -> u64
-    ensures { λ r. ⌜ r ≡ a ⌝ }
-{
-    a as u64
-}
-
 // Key r, 2^32 from end on.
-fn key_at(keys: &[u32; 512], r: usize, end: usize) -> u64
+fn key_at(keys: &[u32; MOST_STATEMENTS], r: usize, end: usize) -> u64
     requires { ⌜ end ≤ 512 ⌝ }
     ensures { λ r'. ⌜ r' ≡ keyAt (now (keys .entry)) r end ⌝ }
 {
-    if r < end { wide(keys[r]) } else { 4294967296 }
+    if r < end { wide(keys[r]) } else { WORDS }
 }
 
-// Puts x p o for each object o of the rows i .. e and each key o below end that was counted, ascending; the support of a key is its count,
-// and one more where it is an object too.
+// Puts x rdf:type o, x being the subject, for each object o of some rows and each key o below end that was counted, ascending; the support
+// of a key is its count, and one more where it is an object too.
 pub fn merge_counted(
     f: &[u32],
-    i: usize,
-    e: usize,
-    x: u32,
-    p: u32,
-    keys: &[u32; 512],
+    own: Own,
+    keys: &[u32; MOST_STATEMENTS],
     end: usize,
-    counts: &[u32; 512],
+    counts: &[u32; MOST_STATEMENTS],
     kept: &mut [u32],
     supports: &mut [u16],
     room: usize,
     n0: usize,
 ) -> usize
-    requires { ⌜ (e * 3 < length (now f)) × (end ≤ 512) ⌝ }
-    requires { ⌜ Rising (objects (now f) i (e - i)) ⌝ }
+    requires { ⌜ (own .to * 3 < length (now f)) × (end ≤ 512) ⌝ }
+    requires { ⌜ Rising (objects (now f) (own .from) (own .to - own .from)) ⌝ }
     requires { ⌜ KeysRising (counted (now keys) (now counts) 0 end) ⌝ }
-    requires { ⌜ ((o : ℕ) → total (objects (now f) i (e - i)) (counted (now keys) (now counts) 0 end) o < 2 ^ 16) ⌝ }
+    requires { ⌜ ((o : ℕ) → total (objects (now f) (own .from) (own .to - own .from)) (counted (now keys) (now counts) 0 end) o < 2 ^ 16) ⌝ }
     requires { ⌜ (room * 3 < length (now kept)) × (room ≤ length (now supports)) × (room ≤ 2 ^ 32) ⌝ }
-    ensures { λ r. ⌜ ((K : Kept) → Counts K → Totalled K x p (objects (now (f .entry)) i (e - i)) (counted (now (keys .entry)) (now (counts .entry)) 0 end) → output (now (kept .exit)) (now (supports .exit)) r ≡ putAll room (between (triple x p 0) (triple x (p + 1) 0) K) (output (now (kept .entry)) (now (supports .entry)) n0)) ⌝ }
+    ensures { λ r. ⌜ ((K : Kept) → Counts K → Totalled K (own .subject) 1 (objects (now (f .entry)) (own .from) (own .to - own .from)) (counted (now (keys .entry)) (now (counts .entry)) 0 end) → output (now (kept .exit)) (now (supports .exit)) r ≡ putAll room (between (triple (own .subject) 1 0) (triple (own .subject) 2 0) K) (output (now (kept .entry)) (now (supports .entry)) n0)) ⌝ }
 {
+    let x = own.subject;
+    let e = own.to;
     let mut n = n0;
-    let mut q = i;
+    let mut q = own.from;
     let mut r = 0;
     while q < e {
         let ce = object_at(f, q);
         let cs = key_at(keys, r, end);
         if wide(ce) < cs {
-            n = put(kept, supports, room, n, x, p, ce, 1);
+            n = put(kept, supports, room, n, x, Term::TYPE, ce, 1);
             q += 1;
         } else {
             let c = counts[r];
             let k = keys[r];
             r += 1;
             if k == ce {
-                n = put(kept, supports, room, n, x, p, ce, (c + 1) as u16);
+                n = put(kept, supports, room, n, x, Term::TYPE, ce, (c + 1) as u16);
                 q += 1;
             } else {
                 if 0 < c {
-                    n = put(kept, supports, room, n, x, p, k, c as u16);
+                    n = put(kept, supports, room, n, x, Term::TYPE, k, c as u16);
                 }
             }
         }
@@ -197,7 +194,7 @@ pub fn merge_counted(
         let k = keys[r];
         r += 1;
         if 0 < c {
-            n = put(kept, supports, room, n, x, p, k, c as u16);
+            n = put(kept, supports, room, n, x, Term::TYPE, k, c as u16);
         }
     }
     n

@@ -13,7 +13,9 @@ use lib.Dec.{eqb}
 use borrow.Author.Tests.{eq-eqb, ne-eqb}
 use Rattle.spec.proofs.Lists.{true-not-false}
 use Rattle.saturate_schema.specs.inside.Walks.{Edge}
-use Rattle.saturate_schema.specs.inside.Nodes.{subjectNode, objectNode, applies, edges, Found, found, none, word, Answers, Columns}
+use Rattle.table.specs.inside.Bounds.{Tells}
+use Rattle.table.proofs.SearchLaws.{tells-true, tells-false}
+use Rattle.saturate_schema.specs.inside.Nodes.{subjectNode, objectNode, applies, edges, Found, found, none, word, Columns}
 use Rattle.saturate_schema.specs.inside.Squares.{at, Gained, Leads, Extended, Closed, Cleared}
 use Rattle.saturate_schema.proofs.Walks.{To, From, plus-cons, plus-nil, plus-ends, plus-starts}
 use Rattle.saturate_schema.proofs.Squares.{Spread}
@@ -117,24 +119,16 @@ closed-start st m col ns sq via z i c li lc = ((λ h. absurd (omega (arith, z i 
 
 -- ---- for the code
 
--- A test that says yes.
-pub answers-yes : {P : Type 0} → P → Answers true P
-answers-yes p = ((λ _. p), λ e. absurd (true-not-false e))
-
--- A test that says no.
-pub answers-no : {P : Type 0} → ¬ P → Answers false P
-answers-no n = ((λ e. absurd (true-not-false (sym e))), λ _. n)
-
 -- A row of another node leads to a column where it has the bit,
-pub leads-bit : (st sq : List ℕ) (s ss ns i : ℕ) → ¬ (subjectNode st i ≡ s) → ss < ns → Answers (eqb (at sq i ss) 1) (Leads st sq s ss ns i)
+pub leads-bit : (st sq : List ℕ) (s ss ns i : ℕ) → ¬ (subjectNode st i ≡ s) → ss < ns → Tells (eqb (at sq i ss) 1) (Leads st sq s ss ns i)
 leads-bit st sq s ss ns i n lt =
     by-cases (ℕ-discrete (at sq i ss) 1)
-    (λ e. rw (eq-eqb (at sq i ss) 1 e) (answers-yes (inr (lt, e))))
-    (λ k. rw (ne-eqb (at sq i ss) 1 k) (answers-no (λ z. ⊎-elim n (λ w. k (w .1)) z)))
+    (λ e. rw (eq-eqb (at sq i ss) 1 e) (tells-true (inr (lt, e))))
+    (λ k. rw (ne-eqb (at sq i ss) 1 k) (tells-false (λ z. ⊎-elim n (λ w. k (w .1)) z)))
 
 -- and nowhere else.
-pub leads-not : (st sq : List ℕ) (s ss ns i : ℕ) → ¬ (subjectNode st i ≡ s) → ns ≤ ss → Answers false (Leads st sq s ss ns i)
-leads-not st sq s ss ns i n le = answers-no (λ z. ⊎-elim n (λ w. omega (arith, w .0)) z)
+pub leads-not : (st sq : List ℕ) (s ss ns i : ℕ) → ¬ (subjectNode st i ≡ s) → ns ≤ ss → Tells false (Leads st sq s ss ns i)
+leads-not st sq s ss ns i n le = tells-false (λ z. ⊎-elim n (λ w. omega (arith, w .0)) z)
 
 -- One more place without x.
 pub absent-more : (f : ℕ → ℕ) (x i : ℕ) → ((k : ℕ) → k < i → ¬ (f k ≡ x)) → ¬ (f i ≡ x) → (k : ℕ) → k < i + 1 → ¬ (f k ≡ x)

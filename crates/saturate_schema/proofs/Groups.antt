@@ -1,73 +1,69 @@
--- The first statement of a property or a class, by halving. Assumes nothing.
-use mathlib.Core.Path.{_≡_, ap, _∙_}
+-- The first statement of a property or a class. Assumes nothing.
+use mathlib.Core.Path.{_≡_, sym, ap, _∙_}
 use mathlib.Core.List.{List}
 use mathlib.Core.Logic.{by-cases}
 use Prim.Native.Nat.{ℕ, _+_, _*_, _^_, _≤_, _<_}
 use native.Mathlib.Omega.{arith}
 use native.Mathlib.Decide.{ℕ-discrete, decLt}
 use lib.ListN.{getD}
-use Rattle.saturate_schema.specs.inside.Nodes.{subjectNode, Found, found, none}
-use Rattle.saturate_schema.specs.inside.Groups.{rankAt, Statements, Cut}
+use Rattle.spec.specs.declared.Triple.{Triple}
+use Rattle.spec.specs.Terms.{triple}
+use Rattle.spec.specs.Order.{Less, by-subject, by-property, by-object}
+use Rattle.spec.specs.Tables.{rowAt}
+use Rattle.table.specs.inside.Bounds.{Below}
+use Rattle.table.proofs.SearchLaws.{rows-less}
+use Rattle.saturate_schema.specs.inside.Nodes.{subjectNode, Found, none}
+use Rattle.saturate_schema.specs.inside.Groups.{Statements, Group}
+use Rattle.saturate_schema.proofs.Tables.{row-subject, row-property}
 use Rattle.saturate_schema.proofs.Closing.{subject-class-node, subject-property-node}
 
--- Nothing is known yet.
-pub cut-start : (st : List ℕ) (m t : ℕ) → Cut st m t 0 m
-cut-start st m t = record { le = omega arith; top = omega arith; low = λ k h. absurd (omega arith); high = λ k h l. absurd (omega arith) }
+module _ (st : List ℕ) (m : ℕ) (S : Statements st m) where
+  -- Those of the property p are the statements 3, 4 and 5 of its term.
+  pub property-starts : (p : ℕ) → p < 2 ^ 32 → Group st m p 3 (p + 2 ^ 32)
+  property-starts p s = record {
+    has = λ i l e. by-cases (ℕ-discrete (getD st (i * 3 + 2) 0) 2)
+        (λ q. absurd (omega (arith, subject-class-node st i q, S .small i l)))
+        (λ n. (omega (arith, subject-property-node st i n), omega (arith, S .kinds i l .0)));
+    down = λ i j l h e a k t. subject-property-node st i (λ q. omega arith) ∙ ap (λ (z : ℕ). z + 2 ^ 32) a;
+  }
 
--- The middle one is below: all before it are.
-pub cut-up : (st : List ℕ) (m t lo hi mid : ℕ) → Statements st m → Cut st m t lo hi → lo ≤ mid → mid < hi → rankAt st mid < t → Cut st m t (mid + 1) hi
-cut-up st m t lo hi mid w g l h lt = record { le = omega arith; top = g .top; low = λ k q. by-cases (ℕ-discrete k mid) (λ e. rw e lt) (λ n. omega (arith, w .climb k mid (omega arith) (omega (arith, g .top)))); high = g .high }
+  -- Those of the class c are the statements 2 of its term.
+  pub class-starts : (c : ℕ) → c < 2 ^ 32 → Group st m c 2 c
+  class-starts c s = record {
+    has = λ i l e. (subject-is i l e, S .kinds i l .0);
+    down = λ i j l h e a k t. subject-class-node st i (omega (arith, kind-is j h e)) ∙ a;
+  }
+    where
+      kind-is : (i : ℕ) → i < m → subjectNode st i ≡ c → getD st (i * 3 + 2) 0 ≡ 2
+      kind-is i l e = by-cases (ℕ-discrete (getD st (i * 3 + 2) 0) 2) (λ q. q) (λ n. absurd (omega (arith, subject-property-node st i n)))
 
--- The middle one is not below: none after it is.
-pub cut-down : (st : List ℕ) (m t lo hi mid : ℕ) → Statements st m → Cut st m t lo hi → lo ≤ mid → mid < hi → t ≤ rankAt st mid → Cut st m t lo mid
-cut-down st m t lo hi mid w g l h ge = record { le = l; top = omega (arith, g .top); low = g .low; high = λ k q r. by-cases (ℕ-discrete k mid) (λ e. rw e ge) (λ n. omega (arith, w .climb mid k (omega arith) r)) }
+      subject-is : (i : ℕ) → i < m → subjectNode st i ≡ c → getD st (i * 3 + 1) 0 ≡ c
+      subject-is i l e = sym (subject-class-node st i (kind-is i l e)) ∙ e
 
--- A property's first statement.
-pub property-found : (st : List ℕ) (m p r : ℕ) → Statements st m → Cut st m (p * 8 + 3) r r → r < m → rankAt st r < p * 8 + 8 → Found (subjectNode st) m (p + 2 ^ 32) r
-property-found st m p r w g l h =
-    let k = w .kinds r l in
-    let e : getD st (r * 3 + 1) 0 ≡ p = omega (arith, g .high r (omega arith) l, k .0, k .1) in
-    found l (subject-property-node st r (λ q. omega (arith, g .high r (omega arith) l)) ∙ ap (λ (z : ℕ). z + 2 ^ 32) e)
+  module _ {a k x r : ℕ} (G : Group st m a k x) (B : Below st m (triple a k 0) r) where
+    -- A statement between the first that is not below a k 0 and one of the group is of the group.
+    first-in : (i : ℕ) → r < m → i < m → subjectNode st i ≡ x → ¬ Less (rowAt st r) (triple a k 0) → Less (rowAt st r) (rowAt st i) → subjectNode st r ≡ x
+    first-in i h l e n (by-subject q) = absurd (n (by-subject (omega (arith, row-subject st i, G .has i l e .0))))
+    first-in i h l e n (by-property s q) =
+        let own : rowAt st r .subject ≡ a = s ∙ row-subject st i ∙ G .has i l e .0 in
+        let least : k ≤ rowAt st r .property = by-cases (decLt (rowAt st r .property) k) (λ (z : rowAt st r .property < k). absurd (n (by-property own z))) (λ z. omega arith) in
+        G .down r i h l e (sym (row-subject st r) ∙ own) (omega (arith, row-property st r)) (omega (arith, row-property st r, row-property st i))
+    first-in i h l e n (by-object s t q) =
+        let same : getD st (r * 3 + 2) 0 ≡ getD st (i * 3 + 2) 0 = omega (arith, row-property st r, row-property st i) in
+        G .down r i h l e (sym (row-subject st r) ∙ s ∙ row-subject st i ∙ G .has i l e .0) (omega (arith, G .has i l e .1)) (omega arith)
 
--- What starts at a property is of that property.
-node-prop : (st : List ℕ) (m p i : ℕ) → Statements st m → i < m → p < 2 ^ 32 → subjectNode st i ≡ p + 2 ^ 32 → (getD st (i * 3 + 1) 0 ≡ p) × (3 ≤ getD st (i * 3 + 2) 0)
-node-prop st m p i w l s e =
-    by-cases (ℕ-discrete (getD st (i * 3 + 2) 0) 2)
-    (λ q. absurd (omega (arith, subject-class-node st i q, w .small i l)))
-    (λ n. (omega (arith, subject-property-node st i n), omega (arith, w .kinds i l .0)))
+    -- One of the group is not below a k 0.
+    not-less : (i : ℕ) → i < m → subjectNode st i ≡ x → ¬ Less (rowAt st i) (triple a k 0)
+    not-less i l e (by-subject q) = omega (arith, row-subject st i, G .has i l e .0)
+    not-less i l e (by-property s q) = omega (arith, row-property st i, G .has i l e .1)
+    not-less i l e (by-object s t q) = omega arith
 
--- A property that no statement is about.
-pub property-none : (st : List ℕ) (m p r x : ℕ) → Statements st m → p < 2 ^ 32 → Cut st m (p * 8 + 3) r r → x ≡ m → (r < m → p * 8 + 8 ≤ rankAt st r) → Found (subjectNode st) m (p + 2 ^ 32) x
-property-none st m p r x w s g e h = none e (λ i l q. no-row i l q)
-  where
-    no-row : (i : ℕ) → i < m → ¬ (subjectNode st i ≡ p + 2 ^ 32)
-    no-row i l q =
-        let n = node-prop st m p i w l s q in
-        let k = w .kinds i l in
-        by-cases (decLt i r)
-        (λ lt. omega (arith, g .low i lt, n .0, n .1))
-        (λ ge. by-cases (ℕ-discrete i r)
-        (λ z. let y : p * 8 + 8 ≤ rankAt st i = rw z (h (omega arith)) in omega (arith, n .0, k .1))
-        (λ z. omega (arith, h (omega arith), w .climb r i (omega arith) l, n .0, k .1)))
-
--- A class's first statement.
-pub class-found : (st : List ℕ) (m c r : ℕ) → Statements st m → Cut st m (c * 8 + 2) r r → r < m → rankAt st r < c * 8 + 3 → Found (subjectNode st) m c r
-class-found st m c r w g l h =
-    let k = w .kinds r l in
-    let e : getD st (r * 3 + 1) 0 ≡ c = omega (arith, g .high r (omega arith) l, k .0, k .1) in
-    found l (subject-class-node st r (omega (arith, g .high r (omega arith) l)) ∙ e)
-
--- A class that no statement is about.
-pub class-none : (st : List ℕ) (m c r x : ℕ) → Statements st m → c < 2 ^ 32 → Cut st m (c * 8 + 2) r r → x ≡ m → (r < m → c * 8 + 3 ≤ rankAt st r) → Found (subjectNode st) m c x
-class-none st m c r x w s g e h = none e (λ i l q. no-row i l q)
-  where
-    no-row : (i : ℕ) → i < m → ¬ (subjectNode st i ≡ c)
-    no-row i l q =
-        by-cases (ℕ-discrete (getD st (i * 3 + 2) 0) 2)
-        (λ p. let n = subject-class-node st i p in
-        by-cases (decLt i r)
-        (λ lt. omega (arith, g .low i lt))
-        (λ ge. by-cases (ℕ-discrete i r)
-        (λ z. let y : c * 8 + 3 ≤ rankAt st i = rw z (h (omega arith)) in omega arith)
-        (λ z. omega (arith, h (omega arith), w .climb r i (omega arith) l))))
-        (λ p. omega (arith, subject-property-node st i p))
+    -- Where that first is not of the group, there is none.
+    pub group-none : {y : ℕ} → y ≡ m → (r < m → ¬ (subjectNode st r ≡ x)) → Found (subjectNode st) m x y
+    group-none e n = none e no-row
+      where
+        no-row : (i : ℕ) → i < m → ¬ (subjectNode st i ≡ x)
+        no-row i l q =
+            by-cases (decLt i r) (λ (h : i < r). not-less i l q (B .less i h))
+            (λ h. by-cases (ℕ-discrete i r) (λ (z : i ≡ r). n (omega arith) (rw z at q))
+            (λ z. n (omega arith) (first-in i (omega arith) l q (B .other r (omega arith) (omega arith)) (rows-less st m (S .rising) r i (omega arith) l))))

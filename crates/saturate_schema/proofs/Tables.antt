@@ -18,13 +18,14 @@ use Rattle.spec.proofs.Ascending.{and-left, and-right}
 use Rattle.spec.specs.Tables.{count, rowAt, rows, mostStatements, mostFacts}
 use Rattle.spec.specs.inside.Laid.{WellFormed}
 use Rattle.spec.proofs.TableRows.{getD-rows}
+use Rattle.spec.proofs.TableFormed.{ready}
 use Rattle.table.proofs.Place.{ascending-getD, getD-member, member-getD}
 use Rattle.spec.proofs.TableAll.{all-member}
 use Rattle.spec.specs.inside.Entailment.{NoVocabulary}
 use Rattle.spec.proofs.Entailment.{allowed-no-vocabulary, allowed-fact}
 use Rattle.saturate_schema.specs.inside.Walks.{Edge}
 use Rattle.saturate_schema.specs.inside.Nodes.{propertyNode, subjectNode, objectNode, applies, edges}
-use Rattle.saturate_schema.specs.inside.Groups.{rankAt, Statements}
+use Rattle.saturate_schema.specs.inside.Groups.{Statements}
 use Rattle.saturate_schema.proofs.Closing.{edges-of, edges-in, applies-two, applies-three, applies-via, subject-class-node, subject-property-node, object-class-node, object-property-node}
 use Rattle.saturate_schema.proofs.Meaning.{Link, sub-class, sub-property, typing, Edges, Small}
 
@@ -197,20 +198,13 @@ module _ (st : List ℕ) (w : WellFormed isAllowedStatement mostStatements st) w
   kind-at : (i : ℕ) → i < count st → (2 ≤ getD st (i * 3 + 2) 0) × (getD st (i * 3 + 2) 0 ≤ 5)
   kind-at i l = rw (row-property st i) at (statement-kind (rowAt st i) (row-allowed isAllowedStatement mostStatements st w i l))
 
-  -- Lesser statements have no greater rank.
-  rank-le : (i j : ℕ) → i < count st → Less (rowAt st i) (rowAt st j) → rankAt st i ≤ rankAt st j
-  rank-le i j l (by-subject h) = omega (arith, row-subject st i, row-subject st j, kind-at i l .1)
-  rank-le i j l (by-property e h) = omega (arith, row-subject st i, row-subject st j, row-property st i, row-property st j)
-  rank-le i j l (by-object e g h) = omega (arith, row-subject st i, row-subject st j, row-property st i, row-property st j)
-
   -- A well-formed table of statements is what the search for a group asks for.
   pub statements-are : Statements st (count st)
   statements-are =
       record {
-        fit = omega (arith, w .laid .fits, w .laid .counted);
+        rising = record { fits = omega (arith, w .laid .fits, w .laid .counted); ascends = ready w (count st) (sym (w .laid .counted)) };
         kinds = kind-at;
         small = λ k l. omega (arith, row-subject st k, words-of (rowAt st k) (row-member isAllowedStatement mostStatements st w k l) .subject-below);
-        climb = λ i j l h. rank-le i j (omega arith) (rows-ascend isAllowedStatement mostStatements st w i j l h);
       }
 
   -- Its edges are its statements 2, 3 and via.

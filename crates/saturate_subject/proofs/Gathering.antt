@@ -66,21 +66,19 @@ block-not st m d f o c p y n g h = from-zero (ledAt st m d f o c) y n (λ k l u.
 
 -- ---- a block more
 
-streams-to : (f from to : List ℕ) (k z v : ℕ) → k ≤ z → streams f from (set to z v) k ≡ streams f from to k
-unfolding streams
-streams-to f from to zero z v h = refl
-streams-to f from to (suc k) z v h = rw (getD-set-other to z k v 0 (λ e. omega arith), streams-to f from to k z v (omega arith))
-
 tally-cons : (o : ℕ) (l : List ℕ) (ls : List (List ℕ)) → tally o (l ∷ ls) ≡ often o l + tally o ls
 unfolding tally
 tally-cons o l ls = refl
 
 -- A block put at the end.
-pub streams-push : (f from to : List ℕ) (k a z : ℕ) → k < length from → k < length to → streams f (set from k a) (set to k z) (k + 1) ≡ objects f a (z - a) ∷ streams f from to k
+pub streams-push : (f ends : List ℕ) (k a z : ℕ) → k * 2 + 1 < length ends → streams f (set (set ends (k * 2) a) (k * 2 + 1) z) (k + 1) ≡ objects f a (z - a) ∷ streams f ends k
 unfolding streams
-streams-push f from to k a z lf lt = rw (add-one k, getD-set-same from k a 0 lf, getD-set-same to k z 0 lt, streams-to f (set from k a) to k k z (omega arith), streams-set f from to k k a (omega arith))
+streams-push f ends k a z l =
+    let one : ¬ (k * 2 ≡ k * 2 + 1) = λ e. omega arith in
+    let long : k * 2 + 1 < length (set ends (k * 2) a) = omega (arith, length-set ends (k * 2) a) in
+    rw (add-one k, getD-set-other (set ends (k * 2) a) (k * 2 + 1) (k * 2) z 0 one, getD-set-same ends (k * 2) a 0 (omega arith), getD-set-same (set ends (k * 2) a) (k * 2 + 1) z 0 long, streams-set f (set ends (k * 2) a) k (k * 2 + 1) z (omega arith), streams-set f ends k (k * 2) a (omega arith))
 
-module _ (st : List ℕ) (m : ℕ) (d : List ℕ) (c : ℕ) (f from₀ to₀ from to : List ℕ) (k₀ k i y e z p : ℕ) (g : Gathered st m d c f from₀ to₀ from to k₀ k i y e) (w : Block f y z e p) where
+module _ (st : List ℕ) (m : ℕ) (d : List ℕ) (c : ℕ) (f ends₀ ends : List ℕ) (k₀ k i y e z p : ℕ) (g : Gathered st m d c f ends₀ ends k₀ k i y e) (w : Block f y z e p) where
   sum-on : (o : ℕ) → sumFrom (ledAt st m d f o c) i (z - i) ≡ sumFrom (ledAt st m d f o c) i (y - i) + sumFrom (ledAt st m d f o c) y (z - y)
   sum-on o = from-join (ledAt st m d f o c) i y z (g .low) (omega (arith, w .grows))
 
@@ -92,31 +90,31 @@ module _ (st : List ℕ) (m : ℕ) (d : List ℕ) (c : ℕ) (f from₀ to₀ fro
       let l = node-starts st m d (propertyNode p) c h in
       omega (arith, few-here, starts-strict st m (p + 2 ^ 32) (p + 2 ^ 32 + 1) (l .number) (l .below) (l .node) (omega arith), starts-few st m (p + 2 ^ 32 + 1))
 
-  pub gather-yes : nodeBit st m d (propertyNode p) c ≡ 1 → e * 3 < length f → k < length from → k < length to → Rising (objects f y (z - y)) → Gathered st m d c f from₀ to₀ (set from k y) (set to k z) k₀ (k + 1) i z e
-  gather-yes h fit lf lt rs =
+  pub gather-yes : nodeBit st m d (propertyNode p) c ≡ 1 → e * 3 < length f → k * 2 + 1 < length ends → Rising (objects f y (z - y)) → Gathered st m d c f ends₀ (set (set ends (k * 2) y) (k * 2 + 1) z) k₀ (k + 1) i z e
+  gather-yes h fit long rs =
       let l = node-starts st m d (propertyNode p) c h in
       record {
         low = omega (arith, g .low, w .grows);
         high = w .ends;
-        same-from = length-set from k y ∙ g .same-from;
-        same-to = length-set to k z ∙ g .same-to;
+        same-ends = length-set (set ends (k * 2) y) (k * 2 + 1) z ∙ (length-set ends (k * 2) y ∙ g .same-ends);
         few = omega (arith, gather-room h);
         fewer = λ h. omega (arith, few-here, starts-strict st m (p + 2 ^ 32) (propertyAt f z + 2 ^ 32) (l .number) (l .below) (l .node) (omega (arith, w .next h)));
-        fits = λ x h. by-cases (ℕ-discrete x k) (λ q. rw (q, getD-set-same to k z 0 lt) (omega (arith, w .ends))) (λ n. rw (getD-set-other to k x z 0 n) (g .fits x (omega arith)));
-        rising = rw (streams-push f from to k y z lf lt) (rs, g .rising);
-        sums = λ o. rw (streams-push f from to k y z lf lt) (pushed o);
+        fits = λ x h. by-cases (ℕ-discrete x k)
+            (λ q. let l : k * 2 + 1 < length (set ends (k * 2) y) = omega (arith, length-set ends (k * 2) y) in rw (q, getD-set-same (set ends (k * 2) y) (k * 2 + 1) z 0 l) (omega (arith, w .ends)))
+            (λ n. rw (getD-set-other (set ends (k * 2) y) (k * 2 + 1) (x * 2 + 1) z 0 (λ e. n (omega arith)), getD-set-other ends (k * 2) (x * 2 + 1) y 0 (λ e. omega arith)) (g .fits x (omega arith)));
+        rising = rw (streams-push f ends k y z long) (rs, g .rising);
+        sums = λ o. rw (streams-push f ends k y z long) (pushed o);
       }
     where
-      pushed : (o : ℕ) → tally o (objects f y (z - y) ∷ streams f from to k) ≡ tally o (streams f from₀ to₀ k₀) + sumFrom (ledAt st m d f o c) i (z - i)
-      pushed o = omega (arith, tally-cons o (objects f y (z - y)) (streams f from to k), g .sums o, sum-on o, block-led st m d f o c p y (z - y) (λ x h u. w .all x h (omega (arith, w .grows))) h)
+      pushed : (o : ℕ) → tally o (objects f y (z - y) ∷ streams f ends k) ≡ tally o (streams f ends₀ k₀) + sumFrom (ledAt st m d f o c) i (z - i)
+      pushed o = omega (arith, tally-cons o (objects f y (z - y)) (streams f ends k), g .sums o, sum-on o, block-led st m d f o c p y (z - y) (λ x h u. w .all x h (omega (arith, w .grows))) h)
 
-  pub gather-no : nodeBit st m d (propertyNode p) c ≡ 0 → Gathered st m d c f from₀ to₀ from to k₀ k i z e
+  pub gather-no : nodeBit st m d (propertyNode p) c ≡ 0 → Gathered st m d c f ends₀ ends k₀ k i z e
   gather-no n =
       record {
         low = omega (arith, g .low, w .grows);
         high = w .ends;
-        same-from = g .same-from;
-        same-to = g .same-to;
+        same-ends = g .same-ends;
         few = g .few;
         fewer = λ h. omega (arith, few-here, starts-mono st m (p + 2 ^ 32) (propertyAt f z + 2 ^ 32) (omega (arith, w .next h)));
         fits = g .fits;
@@ -124,11 +122,11 @@ module _ (st : List ℕ) (m : ℕ) (d : List ℕ) (c : ℕ) (f from₀ to₀ fro
         sums = λ o. omega (arith, g .sums o, sum-on o, block-not st m d f o c p y (z - y) (λ x h u. w .all x h (omega (arith, w .grows))) n);
       }
 
-pub gather-start : (st : List ℕ) (m : ℕ) (d : List ℕ) (c : ℕ) (f from to : List ℕ) (k i e : ℕ) → i ≤ e → AllRising (streams f from to k) → ((z : ℕ) → z < k → getD to z 0 * 3 < length f) → Gathered st m d c f from to from to k k i i e
+pub gather-start : (st : List ℕ) (m : ℕ) (d : List ℕ) (c : ℕ) (f ends : List ℕ) (k i e : ℕ) → i ≤ e → AllRising (streams f ends k) → ((z : ℕ) → z < k → getD ends (z * 2 + 1) 0 * 3 < length f) → Gathered st m d c f ends ends k k i i e
 unfolding sumFrom
-gather-start st m d c f from to k i e le r fit =
+gather-start st m d c f ends k i e le r fit =
     let q : i - i ≡ 0 = omega arith in
-    record { low = omega arith; high = le; same-from = refl; same-to = refl; few = omega arith; fewer = λ h. omega arith; fits = fit; rising = r; sums = λ o. rw q (omega arith) }
+    record { low = omega arith; high = le; same-ends = refl; few = omega arith; fewer = λ h. omega arith; fits = fit; rising = r; sums = λ o. rw q (omega arith) }
 
 -- ---- the objects of a block rise
 
@@ -183,21 +181,21 @@ leads-no b l e = by-cases (ℕ-discrete b 1) (λ q. absurd (true-not-false (sym 
 
 -- ---- a block, and those that lead to a column
 
-module _ (f from to : List ℕ) (z b : ℕ) (lf : 0 < length from) (lt : 0 < length to) where
+module _ (f ends : List ℕ) (z b : ℕ) (long : 1 < length ends) where
   -- The block alone is one stream,
-  one-stream : streams f (set from 0 z) (set to 0 b) 1 ≡ objects f z (b - z) ∷ []
+  one-stream : streams f (set (set ends 0 z) 1 b) 1 ≡ objects f z (b - z) ∷ []
   unfolding streams
-  one-stream = streams-push f from to 0 z b lf lt
+  one-stream = streams-push f ends 0 z b long
 
   -- which rises
-  pub one-rising : (t e w : ℕ) → OneSubject f t e → t ≤ z → b ≤ e → ((y : ℕ) → z ≤ y → y < b → propertyAt f y ≡ w) → AllRising (streams f (set from 0 z) (set to 0 b) 1)
+  pub one-rising : (t e w : ℕ) → OneSubject f t e → t ≤ z → b ≤ e → ((y : ℕ) → z ≤ y → y < b → propertyAt f y ≡ w) → AllRising (streams f (set (set ends 0 z) 1 b) 1)
   one-rising t e w g l u all = rw one-stream (rows-rising f t e z b w g l u all, tt)
 
   -- and ends in the table.
-  pub one-fits : b * 3 < length f → (y : ℕ) → y < 1 → getD (set to 0 b) y 0 * 3 < length f
-  one-fits h y l = let e : y ≡ 0 = omega arith in rw (e, getD-set-same to 0 b 0 lt) h
+  pub one-fits : b * 3 < length f → (y : ℕ) → y < 1 → getD (set (set ends 0 z) 1 b) (y * 2 + 1) 0 * 3 < length f
+  one-fits h y l = let e : y ≡ 0 = omega arith in let k : 1 < length (set ends 0 z) = omega (arith, length-set ends 0 z) in rw (e, getD-set-same (set ends 0 z) 1 b 0 k) h
 
   -- With the others it has the objects of the rows of the column.
-  pub column-tallied : (K : Kept) (st : List ℕ) (m : ℕ) (d : List ℕ) (c x w t e k : ℕ) (from' to' : List ℕ) → Gathered st m d c f (set from 0 z) (set to 0 b) from' to' 1 k t e e → ColumnRows K st m d c f x w z b t e → Tallied K x w (streams f from' to' k)
+  pub column-tallied : (K : Kept) (st : List ℕ) (m : ℕ) (d : List ℕ) (c x w t e k : ℕ) (ends' : List ℕ) → Gathered st m d c f (set (set ends 0 z) 1 b) ends' 1 k t e e → ColumnRows K st m d c f x w z b t e → Tallied K x w (streams f ends' k)
   unfolding tally
-  column-tallied K st m d c x w t e k from' to' g h o = omega (arith, h o, g .sums o, ap (tally o) one-stream)
+  column-tallied K st m d c x w t e k ends' g h o = omega (arith, h o, g .sums o, ap (tally o) one-stream)

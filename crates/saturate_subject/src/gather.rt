@@ -1,5 +1,7 @@
 // The blocks of facts whose property leads to a column.
-use saturate_counts::words::property_at;
+use saturate_schema::MOST_COLUMNS;
+use saturate_schema::Sizes;
+use table::property_at;
 ghost use mathlib.Core.Path.{_≡_};
 ghost use Prim.Native.Nat.{ℕ, _+_, _*_, _≤_, _<_};
 ghost use lib.ListN.{length, getD};
@@ -12,15 +14,16 @@ ghost use Rattle.saturate_counts.specs.inside.Prepared.{Square};
 ghost use Rattle.saturate_subject.specs.inside.Blocks.{OneSubject, Block, Gathered};
 
 // Whether the property p leads to column c.
-fn leads_to(statements: &[u32], m: usize, domains: &[u8], p: u32, c: usize, ns: usize) -> bool
-    requires { ⌜ Statements (now statements) m ⌝ }
-    requires { ⌜ Square (now statements) m ns (now domains) ⌝ }
-    requires { ⌜ (c < ns) × (ns ≤ 512) ⌝ }
-    ensures { λ r. ⌜ r ≡ eqb (nodeBit (now (statements .entry)) m (now (domains .entry)) (propertyNode p) c) 1 ⌝ }
+fn leads_to(statements: &[u32], sizes: Sizes, domains: &[u8], p: u32, c: usize) -> bool
+    requires { ⌜ Statements (now statements) (sizes .statements) ⌝ }
+    requires { ⌜ Square (now statements) (sizes .statements) (sizes .columns) (now domains) ⌝ }
+    requires { ⌜ (c < sizes .columns) × (sizes .columns ≤ 512) ⌝ }
+    ensures { λ r. ⌜ r ≡ eqb (nodeBit (now (statements .entry)) (sizes .statements) (now (domains .entry)) (propertyNode p) c) 1 ⌝ }
 {
+    let m = sizes.statements;
     let g = saturate_schema::property_group(statements, m, p);
     if g < m {
-        return domains[g * 512 + c] == 1;
+        return domains[g * MOST_COLUMNS + c] == 1;
     }
     false
 }
@@ -45,23 +48,21 @@ fn block_end(f: &[u32], a: usize, e: usize) -> usize
 // Adds to the first k0 streams the blocks of the facts i .. e, of one subject, whose property leads to column c; how many streams there are then.
 pub fn gather(
     statements: &[u32],
-    m: usize,
+    sizes: Sizes,
     domains: &[u8],
     c: usize,
-    ns: usize,
     f: &[u32],
     i: usize,
     e: usize,
-    from: &mut [usize],
-    to: &mut [usize],
+    ends: &mut [usize],
     k0: usize,
 ) -> usize
-    requires { ⌜ Statements (now statements) m ⌝ }
-    requires { ⌜ (c < ns) × (ns ≤ 512) × (i ≤ e) × (e * 3 < length (now f)) × (k0 + m ≤ length (now from)) × (k0 + m ≤ length (now to)) ⌝ }
-    requires { ⌜ Square (now statements) m ns (now domains) ⌝ }
+    requires { ⌜ Statements (now statements) (sizes .statements) ⌝ }
+    requires { ⌜ (c < sizes .columns) × (sizes .columns ≤ 512) × (i ≤ e) × (e * 3 < length (now f)) × ((k0 + sizes .statements) * 2 ≤ length (now ends)) ⌝ }
+    requires { ⌜ Square (now statements) (sizes .statements) (sizes .columns) (now domains) ⌝ }
     requires { ⌜ OneSubject (now f) i e ⌝ }
-    requires { ⌜ AllRising (streams (now f) (now from) (now to) k0) × ((z : ℕ) → z < k0 → getD (now to) z 0 * 3 < length (now f)) ⌝ }
-    ensures { λ r. ⌜ Gathered (now (statements .entry)) m (now (domains .entry)) c (now (f .entry)) (now (from .entry)) (now (to .entry)) (now (from .exit)) (now (to .exit)) k0 r i e e ⌝ }
+    requires { ⌜ AllRising (streams (now f) (now ends) k0) × ((z : ℕ) → z < k0 → getD (now ends) (z * 2 + 1) 0 * 3 < length (now f)) ⌝ }
+    ensures { λ r. ⌜ Gathered (now (statements .entry)) (sizes .statements) (now (domains .entry)) c (now (f .entry)) (now (ends .entry)) (now (ends .exit)) k0 r i e e ⌝ }
 {
     let mut k = k0;
     let mut y = i;
@@ -69,9 +70,9 @@ pub fn gather(
         let a = y;
         let z = block_end(f, a, e);
         y = z;
-        if leads_to(statements, m, domains, property_at(f, a), c, ns) {
-            from[k] = a;
-            to[k] = z;
+        if leads_to(statements, sizes, domains, property_at(f, a), c) {
+            ends[k * 2] = a;
+            ends[k * 2 + 1] = z;
             k += 1;
         }
     }

@@ -1,11 +1,15 @@
 // The rows of one subject, put in their order.
 use crate::gather::gather;
+use saturate_counts::Subject;
 use saturate_counts::counts_of;
-use saturate_counts::words::property_at;
+use saturate_merge::Own;
 use saturate_merge::merge_counted;
 use saturate_merge::merge_streams;
 use saturate_merge::put;
-use saturate_merge::wide;
+use saturate_schema::MOST_COLUMNS;
+use saturate_schema::Sizes;
+use table::property_at;
+use table::wide;
 ghost use mathlib.Core.Path.{_≡_};
 ghost use Prim.Native.Nat.{ℕ, _+_, _-_, _*_, _^_, _≤_, _<_};
 ghost use lib.ListN.{length};
@@ -23,6 +27,9 @@ ghost use Rattle.saturate_counts.specs.inside.Prepared.{Square, Keys, Prepared,
 ghost use Rattle.saturate_index.specs.inside.Index.{objectOf, Index, Once};
 ghost use Rattle.saturate_counts.specs.inside.Supported.{Supported, Small, Range};
 ghost use Rattle.saturate_subject.specs.inside.Rows.{ones, Split, Of, ColumnRows, PropertyRows, Uncounted};
+
+// The least property above rdf:type.
+const AFTER_TYPE: u64 = 2;
 
 // The first of the facts q .. e, of one subject, whose property is not below w; e where there is none.
 fn first_from(f: &[u32], q: usize, e: usize, w: u64) -> usize
@@ -64,76 +71,106 @@ fn put_facts(
     n
 }
 
-// Puts the rows x w o: those of the facts z .. b, which are of the property w, merged with those of the facts t .. e whose property leads to
-// column c.
-fn column_rows(
-    statements: &[u32],
-    m: usize,
-    domains: &[u8],
-    c: usize,
-    ns: usize,
-    f: &[u32],
-    t: usize,
-    e: usize,
-    z: usize,
-    b: usize,
-    x: u32,
-    w: u32,
-    from: &mut [usize],
-    to: &mut [usize],
-    kept: &mut [u32],
-    supports: &mut [u16],
-    room: usize,
-    n0: usize,
-) -> usize
-    requires { ⌜ Statements (now statements) m ⌝ }
-    requires { ⌜ (m ≤ 512) × (c < ns) × (ns ≤ 512) × (t ≤ e) × (e * 3 < length (now f)) × (513 ≤ length (now from)) × (513 ≤ length (now to)) ⌝ }
-    requires { ⌜ Square (now statements) m ns (now domains) ⌝ }
-    requires { ⌜ OneSubject (now f) t e ⌝ }
-    requires { ⌜ (t ≤ z) × (z ≤ b) × (b ≤ e) × ((y : ℕ) → z ≤ y → y < b → propertyAt (now f) y ≡ w) ⌝ }
-    requires { ⌜ (room * 3 < length (now kept)) × (room ≤ length (now supports)) × (room ≤ 2 ^ 32) ⌝ }
-    ensures { λ r. ⌜ ((K : Kept) → Counts K → ColumnRows K (now (statements .entry)) m (now (domains .entry)) c (now (f .entry)) x w z b t e → output (now (kept .exit)) (now (supports .exit)) r ≡ putAll room (between (triple x w 0) (triple x (w + 1) 0) K) (output (now (kept .entry)) (now (supports .entry)) n0)) ⌝ }
-{
-    from[0] = z;
-    to[0] = b;
-    let k = gather(statements, m, domains, c, ns, f, t, e, from, to, 1);
-    merge_streams(f, from, to, k, x, w, kept, supports, room, n0)
+// What is put for a column, for a subject: its facts between from and to, which have the column's key as their property, and those of its
+// facts between first and end whose property leads to the column.
+pub struct Column {
+    pub column: usize,
+    pub key: u32,
+    pub subject: u32,
+    pub first: usize,
+    pub end: usize,
+    pub from: usize,
+    pub to: usize,
 }
 
-// Puts the rows of the subject x whose property is not rdf:type, from the facts t .. e.
-fn property_rows(
+// Puts the rows of a subject whose property is the key of a column, merged from these facts.
+fn column_rows(
     statements: &[u32],
-    m: usize,
+    sizes: Sizes,
     domains: &[u8],
-    keys: &[u32; 512],
-    nc: usize,
-    ns: usize,
-    counts: &[u32; 512],
     f: &[u32],
-    t: usize,
-    e: usize,
-    x: u32,
-    from: &mut [usize],
-    to: &mut [usize],
+    ends: &mut [usize],
     kept: &mut [u32],
     supports: &mut [u16],
+    column: Column,
     room: usize,
     n0: usize,
 ) -> usize
-    requires { ⌜ Statements (now statements) m ⌝ }
-    requires { ⌜ Square (now statements) m ns (now domains) ⌝ }
-    requires { ⌜ Keys (now keys) nc ns ⌝ }
-    requires { ⌜ Facts (now f) (count (now f)) ⌝ }
-    requires { ⌜ (m ≤ 512) × (t ≤ e) × (e ≤ count (now f)) × (513 ≤ length (now from)) × (513 ≤ length (now to)) ⌝ }
-    requires { ⌜ Of (now f) x t e ⌝ }
-    requires { ⌜ ((y : ℕ) → t ≤ y → y < e → 2 ≤ propertyAt (now f) y) ⌝ }
-    requires { ⌜ Uncounted (now statements) m (now domains) nc ns (now counts) (now f) t e ⌝ }
+    requires { ⌜ Statements (now statements) (sizes .statements) ⌝ }
+    requires { ⌜ (sizes .statements ≤ 512) × (column .column < sizes .columns) × (sizes .columns ≤ 512) × (column .first ≤ column .end) × (column .end * 3 < length (now f)) × (1026 ≤ length (now ends)) ⌝ }
+    requires { ⌜ Square (now statements) (sizes .statements) (sizes .columns) (now domains) ⌝ }
+    requires { ⌜ OneSubject (now f) (column .first) (column .end) ⌝ }
+    requires { ⌜ (column .first ≤ column .from) × (column .from ≤ column .to) × (column .to ≤ column .end) × ((y : ℕ) → column .from ≤ y → y < column .to → propertyAt (now f) y ≡ column .key) ⌝ }
     requires { ⌜ (room * 3 < length (now kept)) × (room ≤ length (now supports)) × (room ≤ 2 ^ 32) ⌝ }
-    ensures { λ r. ⌜ ((K : Kept) → Counts K → PropertyRows K (now (statements .entry)) m (now (domains .entry)) (now (keys .entry)) nc ns (now (f .entry)) x t e → output (now (kept .exit)) (now (supports .exit)) r ≡ putAll room (between (triple x 2 0) (triple (x + 1) 0 0) K) (output (now (kept .entry)) (now (supports .entry)) n0)) ⌝ }
+    ensures { λ r. ⌜ ((K : Kept) → Counts K → ColumnRows K (now (statements .entry)) (sizes .statements) (now (domains .entry)) (column .column) (now (f .entry)) (column .subject) (column .key) (column .from) (column .to) (column .first) (column .end) → output (now (kept .exit)) (now (supports .exit)) r ≡ putAll room (between (triple (column .subject) (column .key) 0) (triple (column .subject) (column .key + 1) 0) K) (output (now (kept .entry)) (now (supports .entry)) n0)) ⌝ }
 {
-    let mut n = n0;
+    ends[0] = column.from;
+    ends[1] = column.to;
+    let k = gather(
+        statements,
+        sizes,
+        domains,
+        column.column,
+        f,
+        column.first,
+        column.end,
+        ends,
+        1,
+    );
+    merge_streams(
+        f,
+        ends,
+        k,
+        column.subject,
+        column.key,
+        kept,
+        supports,
+        room,
+        n0,
+    )
+}
+
+// A subject whose rows are to be put, and the output so far: how many rows fit, and how many there are.
+pub struct Task {
+    pub sizes: Sizes,
+    pub own: Subject,
+    pub room: usize,
+    pub rows: usize,
+}
+
+// Puts the rows of a subject whose property is not rdf:type, from its facts from fact t on.
+fn property_rows(
+    statements: &[u32],
+    domains: &[u8],
+    keys: &[u32; MOST_COLUMNS],
+    counts: &[u32; MOST_COLUMNS],
+    f: &[u32],
+    t: usize,
+    ends: &mut [usize],
+    kept: &mut [u32],
+    supports: &mut [u16],
+    task: Task,
+) -> usize
+    requires { ⌜ Statements (now statements) (task .sizes .statements) ⌝ }
+    requires { ⌜ Square (now statements) (task .sizes .statements) (task .sizes .columns) (now domains) ⌝ }
+    requires { ⌜ Keys (now keys) (task .sizes .classes) (task .sizes .columns) ⌝ }
+    requires { ⌜ Facts (now f) (count (now f)) ⌝ }
+    requires { ⌜ (task .sizes .statements ≤ 512) × (t ≤ task .own .end) × (task .own .end ≤ count (now f)) × (1026 ≤ length (now ends)) ⌝ }
+    requires { ⌜ Of (now f) (task .own .term) t (task .own .end) ⌝ }
+    requires { ⌜ ((y : ℕ) → t ≤ y → y < task .own .end → 2 ≤ propertyAt (now f) y) ⌝ }
+    requires { ⌜ Uncounted (now statements) (task .sizes .statements) (now domains) (task .sizes .classes) (task .sizes .columns) (now counts) (now f) t (task .own .end) ⌝ }
+    requires { ⌜ (task .room * 3 < length (now kept)) × (task .room ≤ length (now supports)) × (task .room ≤ 2 ^ 32) ⌝ }
+    ensures { λ r. ⌜ ((K : Kept) → Counts K → PropertyRows K (now (statements .entry)) (task .sizes .statements) (now (domains .entry)) (now (keys .entry)) (task .sizes .classes) (task .sizes .columns) (now (f .entry)) (task .own .term) t (task .own .end) → output (now (kept .exit)) (now (supports .exit)) r ≡ putAll (task .room) (between (triple (task .own .term) 2 0) (triple (task .own .term + 1) 0 0) K) (output (now (kept .entry)) (now (supports .entry)) (task .rows))) ⌝ }
+{
+    let sizes = task.sizes;
+    let ns = sizes.columns;
+    let own = task.own;
+    let x = own.term;
+    let e = own.end;
+    let room = task.room;
+    let mut n = task.rows;
     let mut q = t;
-    let mut r = nc;
+    let mut r = sizes.classes;
     while r < ns {
         let c = r;
         r += 1;
@@ -142,23 +179,24 @@ fn property_rows(
             let z = first_from(f, q, e, wide(w));
             n = put_facts(f, q, z, kept, supports, room, n);
             q = first_from(f, z, e, wide(w) + 1);
+            let column = Column {
+                column: c,
+                key: w,
+                subject: x,
+                first: t,
+                end: e,
+                from: z,
+                to: q,
+            };
             n = column_rows(
                 statements,
-                m,
+                sizes,
                 domains,
-                c,
-                ns,
                 f,
-                t,
-                e,
-                z,
-                q,
-                x,
-                w,
-                from,
-                to,
+                ends,
                 kept,
                 supports,
+                column,
                 room,
                 n,
             );
@@ -167,61 +205,67 @@ fn property_rows(
     put_facts(f, q, e, kept, supports, room, n)
 }
 
-// Puts the rows of the subject x, from the facts i .. e of the subject x and those at the places j .. h of the index, of the object x.
+// Puts the rows of a subject.
 pub fn subject_rows(
     statements: &[u32],
-    m: usize,
     domains: &[u8],
     ranges: &[u8],
-    keys: &[u32; 512],
-    nc: usize,
-    ns: usize,
+    keys: &[u32; MOST_COLUMNS],
     f: &[u32],
     ix: &[u32],
-    i: usize,
-    e: usize,
-    j: usize,
-    h: usize,
-    x: u32,
-    from: &mut [usize],
-    to: &mut [usize],
+    ends: &mut [usize],
     kept: &mut [u32],
     supports: &mut [u16],
-    room: usize,
-    n0: usize,
+    task: Task,
 ) -> usize
-    requires { ⌜ Prepared (now statements) m (now keys) nc ns (now domains) (now ranges) ⌝ }
+    requires { ⌜ Prepared (now statements) (task .sizes .statements) (now keys) (task .sizes .classes) (task .sizes .columns) (now domains) (now ranges) ⌝ }
     requires { ⌜ Facts (now f) (count (now f)) ⌝ }
     requires { ⌜ Index (now f) (now ix) (count (now f)) ⌝ }
     requires { ⌜ Once (count (now f)) (now ix) ⌝ }
-    requires { ⌜ Small (now statements) m (now domains) (now ranges) (now keys) nc (now f) (count (now f)) ⌝ }
-    requires { ⌜ Range (subjectAt (now f)) (count (now f)) x i e ⌝ }
-    requires { ⌜ Range (objectOf (now f) (now ix)) (count (now f)) x j h ⌝ }
-    requires { ⌜ isLiteral x ≡ false ⌝ }
-    requires { ⌜ (513 ≤ length (now from)) × (513 ≤ length (now to)) ⌝ }
-    requires { ⌜ (room * 3 < length (now kept)) × (room ≤ length (now supports)) × (room ≤ 2 ^ 32) ⌝ }
-    ensures { λ r. ⌜ ((K : Kept) → Counts K → Supported K (now (statements .entry)) m (now (domains .entry)) (now (ranges .entry)) (now (keys .entry)) nc ns (now (f .entry)) (count (now (f .entry))) → output (now (kept .exit)) (now (supports .exit)) r ≡ putAll room (between (triple x 0 0) (triple (x + 1) 0 0) K) (output (now (kept .entry)) (now (supports .entry)) n0)) ⌝ }
+    requires { ⌜ Small (now statements) (task .sizes .statements) (now domains) (now ranges) (now keys) (task .sizes .classes) (now f) (count (now f)) ⌝ }
+    requires { ⌜ Range (subjectAt (now f)) (count (now f)) (task .own .term) (task .own .first) (task .own .end) ⌝ }
+    requires { ⌜ Range (objectOf (now f) (now ix)) (count (now f)) (task .own .term) (task .own .from) (task .own .to) ⌝ }
+    requires { ⌜ isLiteral (task .own .term) ≡ false ⌝ }
+    requires { ⌜ 1026 ≤ length (now ends) ⌝ }
+    requires { ⌜ (task .room * 3 < length (now kept)) × (task .room ≤ length (now supports)) × (task .room ≤ 2 ^ 32) ⌝ }
+    ensures { λ r. ⌜ ((K : Kept) → Counts K → Supported K (now (statements .entry)) (task .sizes .statements) (now (domains .entry)) (now (ranges .entry)) (now (keys .entry)) (task .sizes .classes) (task .sizes .columns) (now (f .entry)) (count (now (f .entry))) → output (now (kept .exit)) (now (supports .exit)) r ≡ putAll (task .room) (between (triple (task .own .term) 0 0) (triple (task .own .term + 1) 0 0) K) (output (now (kept .entry)) (now (supports .entry)) (task .rows))) ⌝ }
 {
-    let counts = counts_of(statements, m, domains, ranges, nc, ns, f, ix, i, e, j, h, x);
-    let t = first_from(f, i, e, 2);
-    let n = merge_counted(f, i, t, x, 1, keys, nc, &counts, kept, supports, room, n0);
+    let sizes = task.sizes;
+    let own = task.own;
+    let counts = counts_of(statements, sizes, domains, ranges, f, ix, own);
+    let t = first_from(f, own.first, own.end, AFTER_TYPE);
+    let typed = Own {
+        subject: own.term,
+        from: own.first,
+        to: t,
+    };
+    let n = merge_counted(
+        f,
+        typed,
+        keys,
+        sizes.classes,
+        &counts,
+        kept,
+        supports,
+        task.room,
+        task.rows,
+    );
+    let rest = Task {
+        sizes: sizes,
+        own: own,
+        room: task.room,
+        rows: n,
+    };
     property_rows(
         statements,
-        m,
         domains,
         keys,
-        nc,
-        ns,
         &counts,
         f,
         t,
-        e,
-        x,
-        from,
-        to,
+        ends,
         kept,
         supports,
-        room,
-        n,
+        rest,
     )
 }

@@ -1,5 +1,5 @@
 pub mod Place
-pub mod Bracket
+pub mod SearchLaws
 pub mod Shift
 pub mod Insert
 pub mod Remove

@@ -1,5 +1,8 @@
 // Question 1: whether lent words are well-formed tables (document 01, "Tables").
 use spec::Triple;
+use table::MOST_FACTS;
+use table::MOST_KEPT;
+use table::MOST_STATEMENTS;
 use table::capacity;
 use table::row_at;
 ghost use mathlib.Core.Path.{_≡_};
@@ -11,13 +14,6 @@ ghost use Rattle.spec.specs.Order.{isLess};
 ghost use Rattle.spec.specs.Tables.{areZero, isTable, isStatementTable, isFactTable, isKeptTable, isSupport, isSupportTable, tables, areFormed};
 ghost use Rattle.spec.specs.Lists.{all};
 ghost use Rattle.table_check.specs.inside.Allowed.{allowedIn, areRowsFrom};
-
-// The most rows of each table.
-pub const MOST_STATEMENTS: usize = 512;
-
-pub const MOST_FACTS: usize = 65535;
-
-pub const MOST_KEPT: usize = 262143;
 
 // How many rows of facts are tested before the answer is looked at.
 const BLOCK: usize = 64;

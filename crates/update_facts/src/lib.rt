@@ -32,7 +32,7 @@ fn add_new_fact(
     ensures { λ r. ⌜ outcome r (tables (now (statements .entry)) (now (facts .exit)) (now (kept .exit)) (now (supports .exit))) ≡ add (tables (now (statements .entry)) (now (facts .entry)) (now (kept .entry)) (now (supports .entry))) fact ⌝ }
 {
     let n = facts[0] as usize;
-    if table::capacity(facts.len(), table_check::MOST_FACTS) <= n {
+    if table::capacity(facts.len(), table::MOST_FACTS) <= n {
         return Answer::Refused(4);
     }
     let mut list = rdfs_derive::no_rows();

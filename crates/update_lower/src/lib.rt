@@ -1,37 +1,20 @@
 // Supports of kept facts lowered in place, a row at 0 going (document 01, "Tables").
 use spec::Triple;
-use table::Found;
 use table::Ordering;
-use update_kept::put_entry;
-use update_kept::row_from;
-ghost use mathlib.Core.Path.{_≡_};
-ghost use mathlib.Core.Bool.{true};
+use table::put_entry;
+use table::row_from;
 ghost use mathlib.Core.List.{_++_};
 ghost use Prim.Native.Nat.{_*_, _≤_, _<_};
 ghost use lib.ListN.{length, take, drop};
-ghost use Rattle.spec.specs.Order.{isAscending};
 ghost use Rattle.spec.specs.Tables.{firstRows, rows, keptOf};
-ghost use Rattle.table.specs.inside.Search.{place};
 ghost use Rattle.spec.specs.Saturation.{lowerAll};
 ghost use Rattle.update_kept.specs.inside.Entries.{entries, Room, Sought, Holding};
-ghost use Rattle.update_lower.specs.inside.Lowering.{placeOf, Lowerable, Passed, Gapped, Cleared};
+ghost use Rattle.update_lower.specs.inside.Lowering.{Lowerable, Passed, Gapped, Cleared};
 
 // Where lowering stands: the rows before place write are done, and those from place read on stand as they did.
 pub struct Moved {
     pub read: usize,
     pub write: usize,
-}
-
-// The place where x stands among the first n rows, or would stand.
-fn first_place(t: &[u32], n: usize, x: Triple) -> usize
-    requires { ⌜ n * 3 < length (now t) ⌝ }
-    requires { ⌜ isAscending (firstRows n (drop 1 (now t))) ≡ true ⌝ }
-    ensures { λ r. ⌜ r ≡ placeOf (place x (firstRows n (drop 1 (now (t .entry))))) ⌝ }
-{
-    match table::find(t, n, x) {
-        Found::At(i) => i,
-        Found::Gap(i) => i,
-    }
 }
 
 // A place before which every row is less than each of c ascending rows.
@@ -42,7 +25,8 @@ fn start_place(kept: &[u32], list: &[u32], c: usize) -> usize
     if c == 0 {
         return 0;
     }
-    first_place(kept, kept[0] as usize, row_from(list, 0))
+    let n = kept[0] as usize;
+    table::lower_bound(kept, n, 0, n, row_from(list, 0))
 }
 
 // Lowers the support of each of c ascending rows that is kept by 1, from place from on; a row at 0 goes. What is left before place

@@ -13,7 +13,8 @@ use Rattle.table.specs.declared.Ordering.the-variants.{Lower, Equal, Higher}
 use Rattle.spec.specs.Tables.{count, tripleFrom, rowAt, firstRows, rows, keptOf}
 use Rattle.spec.proofs.TableRows.{length-firstRows, getD-firstRows, firstRows-snoc, length-rows}
 use Rattle.spec.specs.Saturation.{Kept, raiseAll, keptRows}
-use Rattle.update_kept.specs.inside.Entries.{entries, Room, Entered, Holding}
+use Rattle.table.specs.inside.Words.{Entered}
+use Rattle.update_kept.specs.inside.Entries.{entries, Room, Holding}
 use Rattle.update_kept.proofs.Entries.{noEntry, length-entries, getD-entries, keptRows-entries, keptOf-entries, take-entries, length-putRow, entries-put, room-put, room-rows, room-supports, kept-room}
 use Rattle.update_kept.proofs.Less.{AllLess}
 use Rattle.update_raise.specs.inside.Raising.{Raisable}

@@ -2,8 +2,8 @@
 use spec::Triple;
 use table::Found;
 use table::Ordering;
-use update_kept::put_entry;
-use update_kept::row_from;
+use table::put_entry;
+use table::row_from;
 ghost use mathlib.Core.Path.{_≡_};
 ghost use mathlib.Core.Bool.{true};
 ghost use Prim.Native.Nat.{_+_, _*_, _<_};

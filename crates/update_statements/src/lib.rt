@@ -29,7 +29,7 @@ fn add_new_statement(
     ensures { λ r. ⌜ outcome r (tables (now (statements .exit)) (now (facts .entry)) (now (kept .exit)) (now (supports .exit))) ≡ add (tables (now (statements .entry)) (now (facts .entry)) (now (kept .entry)) (now (supports .entry))) statement ⌝ }
 {
     let n = statements[0] as usize;
-    if table::capacity(statements.len(), table_check::MOST_STATEMENTS) <= n {
+    if table::capacity(statements.len(), table::MOST_STATEMENTS) <= n {
         return Answer::Refused(4);
     }
     let room = kept_capacity(kept, supports);

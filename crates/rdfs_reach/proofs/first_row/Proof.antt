@@ -1,28 +1,15 @@
--- Either answer of the search is where the rows begin.
-use mathlib.Core.Path.{sym, _∙_}
-use Rattle.rdfs_reach.proofs.Begin.{begins-at, begins-gap}
-use borrow.Author.Needs.{needs}
+-- The first row that is not below x k 0 is where the rows begin.
+use Rattle.table.proofs.SearchLaws.{between-all}
+use Rattle.rdfs_reach.proofs.Begin.{begins-from}
+use Rattle.rdfs_reach.proofs.MarkLaws.{statements-rising}
 use Rattle.rdfs_reach.proofs.first_row.Statement.{statement}
 use Rattle.rdfs_reach.proofs.first_row.Tie as tie
 
-find-requires : tie.Need-find-requires
-find-requires c κs = search needs
-
-enum-known-i : tie.Need-enum-known-i
-enum-known-i c = search needs
-
-enum-known-i-2 : tie.Need-enum-known-i-2
-enum-known-i-2 c = search needs
+lower-bound-requires : tie.Need-lower-bound-requires
+lower-bound-requires c κs = (statements-rising (c .before .pre), between-all _ _ _)
 
 returns : tie.Need-returns
-returns c =
-    begins-at (c .before .before .before .before .before .args .st .now) _ _ _ _ (c .before .before .before .before .before .pre)
-    (sym (c .before .before .before .find .ensures) ∙ c .before .i .given .1)
-
-returns-2 : tie.Need-returns-2
-returns-2 c =
-    begins-gap (c .before .before .before .before .before .args .st .now) _ _ _ _ (c .before .before .before .before .before .pre)
-    (sym (c .before .before .before .find .ensures) ∙ c .before .i2 .given .1)
+returns c = begins-from (c .before .before .args .st .now) _ _ _ _ (c .lower-bound .ensures)
 
 pub first-row-spec : {M : Type 1} → statement M
-first-row-spec = tie.close (tie.spec find-requires enum-known-i enum-known-i-2 returns returns-2)
+first-row-spec = tie.close (tie.spec lower-bound-requires returns)

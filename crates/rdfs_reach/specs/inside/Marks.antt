@@ -1,6 +1,6 @@
 -- A work list of terms and marks on statements: what each function over them does. Definitions only.
 use mathlib.Core.Path.{_≡_}
-use mathlib.Core.Bool.{Bool, true, false, cond}
+use mathlib.Core.Bool.{true, cond}
 use mathlib.Core.List.{List, List·Memᴰ}
 use Prim.Native.Nat.{ℕ, zero, suc, _+_, _*_, _≤_, _<_}
 use lib.ListN.{length, getD, drop}
@@ -20,11 +20,6 @@ pub record Statements (st : List ℕ) (m : ℕ) : Type 0 where
 pub record HasSubject (st : List ℕ) (x k j : ℕ) : Type 0 where
   pub subject : rowAt st j .subject ≡ x
   pub property : rowAt st j .property ≡ k
-
--- The test r tells whether P holds.
-pub record Tells (r : Bool) (P : Type 0) : Type 0 where
-  pub if-true : r ≡ true → P
-  pub if-false : r ≡ false → P → ⊥
 
 -- j is where the rows of the subject x and the property k begin, if there are any: none is before j, and from j on no row is below them.
 pub record Begins (st : List ℕ) (m x k j : ℕ) : Type 0 where

@@ -3,7 +3,8 @@ use borrow.Author.Needs.{needs}
 use Prim.Native.Nat.{_-_, _≤_}
 use native.Mathlib.Omega.{arith}
 use Rattle.rdfs_reach.specs.inside.Marks.{Within}
-use Rattle.rdfs_relevance.proofs.LedLaws.{tells-true, tells-false, none-at, none-more, none-end}
+use Rattle.table.proofs.SearchLaws.{tells-true, tells-false}
+use Rattle.rdfs_relevance.proofs.LedLaws.{none-at, none-more, none-end}
 use Rattle.rdfs_relevance.proofs.is_found.Statement.{statement}
 use Rattle.rdfs_relevance.proofs.is_found.Tie as tie
 

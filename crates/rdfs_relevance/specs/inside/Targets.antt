@@ -8,7 +8,7 @@ use lib.Dec.{eqb}
 use Rattle.spec.specs.declared.Triple.{Triple}
 use Rattle.spec.specs.Terms.{type, triple}
 use Rattle.spec.specs.computed.Carried.{properties, subjectClasses, objectClasses}
-use Rattle.rdfs_reach.specs.inside.Marks.{Tells}
+use Rattle.table.specs.inside.Bounds.{Tells}
 
 -- What can be asked of a word: 1, to which properties it leads as a property; 2, which classes a fact gives its subject that has it as its
 -- property; 3, which classes a thing has that has it as its class; 4, which classes a fact gives its object, no literal, that has it as its

@@ -11,10 +11,10 @@ use Rattle.saturate_counts.proofs.count_object.Statement.{statement}
 use Rattle.saturate_counts.proofs.count_object.Tie as tie
 
 abbrev Inv-loop : tie.InvT-loop
-Inv-loop statements m f ix j h x ranges nc ns counts₀ a₀ counts a = (j ≤ a) × (a ≤ h) × Summed counts₀ counts (λ k z. otherBit statements m ranges f x k (getD ix z 0)) nc j a
+Inv-loop statements sizes f ix ranges counts₀ x h a₀ counts a = (a₀ ≤ a) × (a ≤ h) × Summed counts₀ counts (λ k z. otherBit statements (sizes .statements) ranges f x k (getD ix z 0)) (sizes .classes) a₀ a
 
 abbrev μ-loop : tie.MeasureT-loop
-μ-loop statements m f ix j h x ranges nc ns counts₀ a₀ counts a = h - a
+μ-loop statements sizes f ix ranges counts₀ x h a₀ counts a = h - a
 
 loop-holds : tie.Need-loop-holds Inv-loop μ-loop
 loop-holds c = (omega arith, omega arith, summed-none _ _ _ _)
@@ -29,7 +29,7 @@ cast-count-other : tie.Need-cast-count-other Inv-loop μ-loop
 cast-count-other c = omega (arith, c .shared-slice-known5 .given (c .before .before .loop .a))
 
 count-other-requires : tie.Need-count-other-requires Inv-loop μ-loop
-count-other-requires c κs = (c .before .before .before .before .before .before .before .before .before .pre .0, (c .before .before .before .before .before .before .before .before .before .pre .1 .0, ((omega (arith, c .before .before .before .loop .inv .2 .same, c .before .before .before .before .before .before .before .before .before .pre .1 .1 .1 .0 (c .before .before .before .loop .a) (c .before .before .loop-test .taken))), λ k l. omega (arith, c .before .before .before .before .before .before .before .before .before .pre .1 .1 .1 .1 k l, summed-few _ _ _ _ _ _ (c .before .before .before .loop .inv .2) (c .before .before .before .loop .inv .0) (λ q z lq _ _. other-bit (c .before .before .before .before .before .before .before .before .before .args .statements .now) (c .before .before .before .before .before .before .before .before .before .args .m) (c .before .before .before .before .before .before .before .before .before .args .nc) (c .before .before .before .before .before .before .before .before .before .args .ns) (c .before .before .before .before .before .before .before .before .before .args .ranges .now) (c .before .before .before .before .before .before .before .before .before .args .ranges .now) (c .before .before .before .before .before .before .before .before .before .args .f .now) (c .before .before .before .before .before .before .before .before .before .args .x) (getD (c .before .before .before .before .before .before .before .before .before .args .ix .now) z 0) (c .before .before .before .before .before .before .before .before .before .pre .1 .0) (c .before .before .before .before .before .before .before .before .before .pre .1 .0) q (omega arith)) k l))))
+count-other-requires c κs = (c .before .before .before .before .before .before .before .before .before .pre .0, (c .before .before .before .before .before .before .before .before .before .pre .1 .0, ((omega (arith, c .before .before .before .loop .inv .2 .same, c .before .before .before .before .before .before .before .before .before .pre .1 .1 .1 .0 (c .before .before .before .loop .a) (c .before .before .loop-test .taken))), λ k l. omega (arith, c .before .before .before .before .before .before .before .before .before .pre .1 .1 .1 .1 k l, summed-few _ _ _ _ _ _ (c .before .before .before .loop .inv .2) (c .before .before .before .loop .inv .0) (λ q z lq _ _. other-bit (c .before .before .before .before .before .before .before .before .before .args .statements .now) (c .before .before .before .before .before .before .before .before .before .args .sizes .statements) (c .before .before .before .before .before .before .before .before .before .args .sizes .classes) (c .before .before .before .before .before .before .before .before .before .args .sizes .columns) (c .before .before .before .before .before .before .before .before .before .args .ranges .now) (c .before .before .before .before .before .before .before .before .before .args .ranges .now) (c .before .before .before .before .before .before .before .before .before .args .f .now) (c .before .before .before .before .before .before .before .before .before .args .own .term) (getD (c .before .before .before .before .before .before .before .before .before .args .ix .now) z 0) (c .before .before .before .before .before .before .before .before .before .pre .1 .0) (c .before .before .before .before .before .before .before .before .before .pre .1 .0) q (omega arith)) k l))))
 
 add-a : tie.Need-add-a Inv-loop μ-loop
 add-a c = search needs
@@ -44,7 +44,7 @@ same-length : tie.Need-same-length Inv-loop μ-loop
 same-length c = search needs
 
 returns : tie.Need-returns Inv-loop μ-loop
-returns c = let q : c .before .loop .a ≡ c .before .before .before .before .before .before .before .args .h = omega arith in rw q at (c .before .loop .inv .2)
+returns c = let q : c .before .loop .a ≡ c .before .before .before .before .before .before .before .args .own .to = omega arith in rw q at (c .before .loop .inv .2)
 
 pub count-object-spec : {M : Type 1} → statement M
 count-object-spec =

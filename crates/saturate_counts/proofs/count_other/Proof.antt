@@ -12,7 +12,7 @@ subject-at-requires : tie.Need-subject-at-requires
 subject-at-requires c κs = search needs
 
 returns : tie.Need-returns
-returns c = range-own (c .before .before .before .before .before .before .args .statements .now) (c .before .before .before .before .before .before .args .m) (c .before .before .before .before .before .before .args .nc) (c .before .before .before .before .before .before .args .ns) (c .before .before .before .before .before .before .args .ranges .now) (c .before .before .before .before .before .before .args .ranges .now) (c .before .before .before .before .before .before .args .f .now) (c .before .before .before .before .before .before .args .x) (c .before .before .before .before .before .before .args .y) (c .before .before .before .before .before .before .pre .1 .0) (c .before .before .before .before .before .before .pre .1 .0) _ (sym (c .before .subject-at .ensures) ∙ c .if1 .taken)
+returns c = range-own (c .before .before .before .before .before .before .args .statements .now) (c .before .before .before .before .before .before .args .sizes .statements) (c .before .before .before .before .before .before .args .sizes .classes) (c .before .before .before .before .before .before .args .sizes .columns) (c .before .before .before .before .before .before .args .ranges .now) (c .before .before .before .before .before .before .args .ranges .now) (c .before .before .before .before .before .before .args .f .now) (c .before .before .before .before .before .before .args .x) (c .before .before .before .before .before .before .args .y) (c .before .before .before .before .before .before .pre .1 .0) (c .before .before .before .before .before .before .pre .1 .0) _ (sym (c .before .subject-at .ensures) ∙ c .if1 .taken)
 
 property-at-requires : tie.Need-property-at-requires
 property-at-requires c κs = search needs
@@ -27,10 +27,10 @@ same-length : tie.Need-same-length
 same-length c = search needs
 
 returns-2 : tie.Need-returns-2
-returns-2 c = range-row (c .before .before .before .before .before .before .before .before .before .before .before .before .before .args .statements .now) (c .before .before .before .before .before .before .before .before .before .before .before .before .before .args .m) (c .before .before .before .before .before .before .before .before .before .before .before .before .before .args .nc) (c .before .before .before .before .before .before .before .before .before .before .before .before .before .args .ns) (c .before .before .before .before .before .before .before .before .before .before .before .before .before .args .ranges .now) (c .before .before .before .before .before .before .before .before .before .before .before .before .before .args .ranges .now) (c .before .before .before .before .before .before .before .before .before .before .before .before .before .args .f .now) (c .before .before .before .before .before .before .before .before .before .before .before .before .before .args .x) (c .before .before .before .before .before .before .before .before .before .before .before .before .before .args .y) (c .before .before .before .before .before .before .before .before .before .before .before .before .before .pre .1 .0) (c .before .before .before .before .before .before .before .before .before .before .before .before .before .pre .1 .0) _ _ _ (omega arith) (λ q. c .before .before .before .before .before .before .before .if1 .left (c .before .before .before .before .before .before .before .before .subject-at .ensures ∙ q)) (rw (c .before .before .before .before .before .before .property-at .ensures) at (c .before .before .before .before .before .property-group .ensures)) (c .before .before .before .before .if2 .taken) (c .before .before .add-row .ensures)
+returns-2 c = range-row (c .before .before .before .before .before .before .before .before .before .before .before .before .before .args .statements .now) (c .before .before .before .before .before .before .before .before .before .before .before .before .before .args .sizes .statements) (c .before .before .before .before .before .before .before .before .before .before .before .before .before .args .sizes .classes) (c .before .before .before .before .before .before .before .before .before .before .before .before .before .args .sizes .columns) (c .before .before .before .before .before .before .before .before .before .before .before .before .before .args .ranges .now) (c .before .before .before .before .before .before .before .before .before .before .before .before .before .args .ranges .now) (c .before .before .before .before .before .before .before .before .before .before .before .before .before .args .f .now) (c .before .before .before .before .before .before .before .before .before .before .before .before .before .args .x) (c .before .before .before .before .before .before .before .before .before .before .before .before .before .args .y) (c .before .before .before .before .before .before .before .before .before .before .before .before .before .pre .1 .0) (c .before .before .before .before .before .before .before .before .before .before .before .before .before .pre .1 .0) _ _ _ (omega arith) (λ q. c .before .before .before .before .before .before .before .if1 .left (c .before .before .before .before .before .before .before .before .subject-at .ensures ∙ q)) (rw (c .before .before .before .before .before .before .property-at .ensures) at (c .before .before .before .before .before .property-group .ensures)) (c .before .before .before .before .if2 .taken) (c .before .before .add-row .ensures)
 
 returns-3 : tie.Need-returns-3
-returns-3 c = range-none (c .before .before .before .before .before .before .before .before .before .args .statements .now) (c .before .before .before .before .before .before .before .before .before .args .m) (c .before .before .before .before .before .before .before .before .before .args .nc) (c .before .before .before .before .before .before .before .before .before .args .ns) (c .before .before .before .before .before .before .before .before .before .args .ranges .now) (c .before .before .before .before .before .before .before .before .before .args .ranges .now) (c .before .before .before .before .before .before .before .before .before .args .f .now) (c .before .before .before .before .before .before .before .before .before .args .x) (c .before .before .before .before .before .before .before .before .before .args .y) (c .before .before .before .before .before .before .before .before .before .pre .1 .0) (c .before .before .before .before .before .before .before .before .before .pre .1 .0) _ _ (λ q. c .before .before .before .if1 .left (c .before .before .before .before .subject-at .ensures ∙ q)) (rw (c .before .before .property-at .ensures) at (c .before .property-group .ensures)) (c .if2 .left)
+returns-3 c = range-none (c .before .before .before .before .before .before .before .before .before .args .statements .now) (c .before .before .before .before .before .before .before .before .before .args .sizes .statements) (c .before .before .before .before .before .before .before .before .before .args .sizes .classes) (c .before .before .before .before .before .before .before .before .before .args .sizes .columns) (c .before .before .before .before .before .before .before .before .before .args .ranges .now) (c .before .before .before .before .before .before .before .before .before .args .ranges .now) (c .before .before .before .before .before .before .before .before .before .args .f .now) (c .before .before .before .before .before .before .before .before .before .args .x) (c .before .before .before .before .before .before .before .before .before .args .y) (c .before .before .before .before .before .before .before .before .before .pre .1 .0) (c .before .before .before .before .before .before .before .before .before .pre .1 .0) _ _ (λ q. c .before .before .before .if1 .left (c .before .before .before .before .subject-at .ensures ∙ q)) (rw (c .before .before .property-at .ensures) at (c .before .property-group .ensures)) (c .if2 .left)
 
 pub count-other-spec : {M : Type 1} → statement M
 count-other-spec =

@@ -11,16 +11,16 @@ use Rattle.saturate_counts.proofs.count_subject.Statement.{statement}
 use Rattle.saturate_counts.proofs.count_subject.Tie as tie
 
 abbrev Inv-loop : tie.InvT-loop
-Inv-loop statements m f i e x domains ranges nc ns counts₀ y₀ counts y = (i ≤ y) × (y ≤ e) × Summed counts₀ counts (λ k z. ownBit statements m nc domains ranges f x k z) ns i y
+Inv-loop statements sizes f domains ranges counts₀ x e y₀ counts y = (y₀ ≤ y) × (y ≤ e) × Summed counts₀ counts (λ k z. ownBit statements (sizes .statements) (sizes .classes) domains ranges f x k z) (sizes .columns) y₀ y
 
 abbrev μ-loop : tie.MeasureT-loop
-μ-loop statements m f i e x domains ranges nc ns counts₀ y₀ counts y = e - y
+μ-loop statements sizes f domains ranges counts₀ x e y₀ counts y = e - y
 
 loop-holds : tie.Need-loop-holds Inv-loop μ-loop
 loop-holds c = (omega arith, omega arith, summed-none _ _ _ _)
 
 count-fact-requires : tie.Need-count-fact-requires Inv-loop μ-loop
-count-fact-requires c κs = (c .before .before .before .before .before .before .before .before .pre .0, (c .before .before .before .before .before .before .before .before .pre .1 .0, (c .before .before .before .before .before .before .before .before .pre .1 .1 .0, ((omega (arith, c .before .before .loop .inv .2 .same)), λ k l. omega (arith, c .before .before .before .before .before .before .before .before .pre .1 .1 .1 .1 k l, summed-few _ _ _ _ _ _ (c .before .before .loop .inv .2) (c .before .before .loop .inv .0) (λ q z lq _ _. own-bit (c .before .before .before .before .before .before .before .before .args .statements .now) (c .before .before .before .before .before .before .before .before .args .m) (c .before .before .before .before .before .before .before .before .args .nc) (c .before .before .before .before .before .before .before .before .args .ns) (c .before .before .before .before .before .before .before .before .args .domains .now) (c .before .before .before .before .before .before .before .before .args .ranges .now) (c .before .before .before .before .before .before .before .before .args .f .now) (c .before .before .before .before .before .before .before .before .args .x) z (c .before .before .before .before .before .before .before .before .pre .1 .0) (c .before .before .before .before .before .before .before .before .pre .1 .1 .0) q lq) k l)))))
+count-fact-requires c κs = (c .before .before .before .before .before .before .before .before .pre .0, (c .before .before .before .before .before .before .before .before .pre .1 .0, (c .before .before .before .before .before .before .before .before .pre .1 .1 .0, ((omega (arith, c .before .before .loop .inv .2 .same)), λ k l. omega (arith, c .before .before .before .before .before .before .before .before .pre .1 .1 .1 .1 k l, summed-few _ _ _ _ _ _ (c .before .before .loop .inv .2) (c .before .before .loop .inv .0) (λ q z lq _ _. own-bit (c .before .before .before .before .before .before .before .before .args .statements .now) (c .before .before .before .before .before .before .before .before .args .sizes .statements) (c .before .before .before .before .before .before .before .before .args .sizes .classes) (c .before .before .before .before .before .before .before .before .args .sizes .columns) (c .before .before .before .before .before .before .before .before .args .domains .now) (c .before .before .before .before .before .before .before .before .args .ranges .now) (c .before .before .before .before .before .before .before .before .args .f .now) (c .before .before .before .before .before .before .before .before .args .own .term) z (c .before .before .before .before .before .before .before .before .pre .1 .0) (c .before .before .before .before .before .before .before .before .pre .1 .1 .0) q lq) k l)))))
 
 add-y : tie.Need-add-y Inv-loop μ-loop
 add-y c = search needs
@@ -35,7 +35,7 @@ same-length : tie.Need-same-length Inv-loop μ-loop
 same-length c = search needs
 
 returns : tie.Need-returns Inv-loop μ-loop
-returns c = let q : c .before .loop .y ≡ c .before .before .before .before .before .before .before .args .e = omega arith in rw q at (c .before .loop .inv .2)
+returns c = let q : c .before .loop .y ≡ c .before .before .before .before .before .before .before .args .own .end = omega arith in rw q at (c .before .loop .inv .2)
 
 pub count-subject-spec : {M : Type 1} → statement M
 count-subject-spec =

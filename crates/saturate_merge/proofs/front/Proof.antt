@@ -9,14 +9,14 @@ use Rattle.saturate_merge.proofs.front.Tie as tie
 object-at-requires : tie.Need-object-at-requires
 object-at-requires c κs = search needs
 
-cast-result : tie.Need-cast-result
-cast-result c = search needs
+wide-requires : tie.Need-wide-requires
+wide-requires c κs = search needs
 
 returns : tie.Need-returns
-returns c = c .object-at .ensures ∙ sym (front-some _ _ _ (c .before .if1 .taken))
+returns c = c .wide .ensures .0 ∙ (c .before .object-at .ensures ∙ sym (front-some _ _ _ (c .before .before .if1 .taken)))
 
 returns-2 : tie.Need-returns-2
 returns-2 c = sym (front-none _ _ _ (c .if1 .left))
 
 pub front-spec : {M : Type 1} → statement M
-front-spec = tie.close (tie.spec object-at-requires cast-result returns returns-2)
+front-spec = tie.close (tie.spec object-at-requires wide-requires returns returns-2)

@@ -18,12 +18,11 @@ wide-requires : tie.Need-wide-requires
 wide-requires c κs = search needs
 
 returns : tie.Need-returns
-returns c = c .wide .ensures ∙ sym (keyAt-at _ _ _ (c .before .before .if1 .taken))
+returns c = c .wide .ensures .0 ∙ sym (keyAt-at _ _ _ (c .before .before .if1 .taken))
 
 returns-2 : tie.Need-returns-2
 unfolding keyAt
 returns-2 c = simp (le-ltb _ _ (c .if1 .left))
 
 pub key-at-spec : {M : Type 1} → statement M
-key-at-spec =
-    tie.close (tie.spec mul-wide element-copy-out-wide wide-requires returns returns-2)
+key-at-spec = tie.close (tie.spec mul-wide element-copy-out-wide wide-requires returns returns-2)

@@ -14,19 +14,19 @@ use Rattle.saturate_merge.proofs.merge_counted.Statement.{statement}
 use Rattle.saturate_merge.proofs.merge_counted.Tie as tie
 
 abbrev Inv-loop : tie.InvT-loop
-Inv-loop f i e x p keys end counts kept₀ supports₀ room n0 n₀ q₀ r₀ kept supports n q r = (r ≤ end) × At x p room f keys counts e end (objects f i (e - i)) (counted keys counts 0 end) (output kept₀ supports₀ n0) (output kept supports n) q r
+Inv-loop f keys end counts kept₀ supports₀ room n0 x e n₀ q₀ r₀ kept supports n q r = (r ≤ end) × At x 1 room f keys counts e end (objects f q₀ (e - q₀)) (counted keys counts 0 end) (output kept₀ supports₀ n0) (output kept supports n) q r
 
 abbrev μ-loop : tie.MeasureT-loop
-μ-loop f i e x p keys end counts kept₀ supports₀ room n0 n₀ q₀ r₀ kept supports n q r = (e - q) + (end - r)
+μ-loop f keys end counts kept₀ supports₀ room n0 x e n₀ q₀ r₀ kept supports n q r = (e - q) + (end - r)
 
 abbrev Inv-loop2 : tie.InvT-loop2
-Inv-loop2 f i e x p keys end counts kept₀ supports₀ room n0 n₀ q r₀ kept supports n r = (r ≤ end) × (length kept ≡ length kept₀) × (length supports ≡ length supports₀) × ((l₀ : List ℕ) (ws₀ : Counted) (out₀ : Output) → At x p room f keys counts e end l₀ ws₀ out₀ (output kept₀ supports₀ n₀) q r₀ → At x p room f keys counts e end l₀ ws₀ out₀ (output kept supports n) q r)
+Inv-loop2 f keys end counts kept₀ supports₀ room n0 x e n₀ q r₀ kept supports n r = (r ≤ end) × (length kept ≡ length kept₀) × (length supports ≡ length supports₀) × ((l₀ : List ℕ) (ws₀ : Counted) (out₀ : Output) → At x 1 room f keys counts e end l₀ ws₀ out₀ (output kept₀ supports₀ n₀) q r₀ → At x 1 room f keys counts e end l₀ ws₀ out₀ (output kept supports n) q r)
 
 abbrev μ-loop2 : tie.MeasureT-loop2
-μ-loop2 f i e x p keys end counts kept₀ supports₀ room n0 n₀ q r₀ kept supports n r = end - r
+μ-loop2 f keys end counts kept₀ supports₀ room n0 x e n₀ q r₀ kept supports n r = end - r
 
 loop-holds : tie.Need-loop-holds Inv-loop μ-loop Inv-loop2 μ-loop2
-loop-holds c = let s = c .before .before .before in (search needs, counting-start _ _ _ _ _ _ (s .pre .1 .0) (s .pre .1 .1 .0) (s .pre .1 .1 .1 .0))
+loop-holds c = (search needs, counting-start _ _ _ _ _ _ (c .before .before .before .pre .1 .0) (c .before .before .before .pre .1 .1 .0) (c .before .before .before .pre .1 .1 .1 .0))
 
 object-at-requires : tie.Need-object-at-requires Inv-loop μ-loop Inv-loop2 μ-loop2
 object-at-requires c κs = search needs
@@ -38,7 +38,7 @@ wide-requires : tie.Need-wide-requires Inv-loop μ-loop Inv-loop2 μ-loop2
 wide-requires c κs = search needs
 
 put-requires : tie.Need-put-requires Inv-loop μ-loop Inv-loop2 μ-loop2
-put-requires c κs = let l = c .before .before .before .before .before .before .before in let s = c .before .before .before .before .before .before .before .before .before .before .before in omega (arith, l .loop .inv .1 .same-words, l .loop .inv .1 .same-supports, s .pre .1 .1 .1 .1)
+put-requires c κs = omega (arith, c .before .before .before .before .before .before .before .loop .inv .1 .same-words, c .before .before .before .before .before .before .before .loop .inv .1 .same-supports, c .before .before .before .before .before .before .before .before .before .before .before .pre .1 .1 .1 .1)
 
 add-q : tie.Need-add-q Inv-loop μ-loop Inv-loop2 μ-loop2
 add-q c = search needs
@@ -47,58 +47,58 @@ loop-less : tie.Need-loop-less Inv-loop μ-loop Inv-loop2 μ-loop2
 loop-less c = search needs
 
 loop-again : tie.Need-loop-again Inv-loop μ-loop Inv-loop2 μ-loop2
-loop-again c = let l = c .before .before .before .before .before .before .before .before .before .before .before .before in let s = c .before .before .before .before .before .before .before .before .before .before .before .before .before .before .before .before in let w = c .before .before .before .before .put in (omega arith, at-left _ _ _ _ _ _ _ _ _ _ _ _ _ _ _ _ (l .loop .inv .1) (c .before .before .before .before .before .before .before .before .before .before .before .loop-test .taken) (c .before .before .before .before .before .before .before .before .before .before .object-at .ensures) (omega (arith, c .before .before .before .before .before .before .before .before .before .key-at .ensures, c .before .before .before .before .before .before .before .before .wide .ensures, c .before .before .before .before .before .before .before .if1 .taken)) (w .ensures) (w .kept .0) (w .kept .1 .0))
+loop-again c = let w = c .before .before .before .before .put in (omega arith, at-left _ _ _ _ _ _ _ _ _ _ _ _ _ _ _ _ (c .before .before .before .before .before .before .before .before .before .before .before .before .loop .inv .1) (c .before .before .before .before .before .before .before .before .before .before .before .loop-test .taken) (c .before .before .before .before .before .before .before .before .before .before .object-at .ensures) (omega (arith, c .before .before .before .before .before .before .before .before .before .key-at .ensures, c .before .before .before .before .before .before .before .before .wide .ensures .0, c .before .before .before .before .before .before .before .if1 .taken)) (w .ensures) (w .kept .0) (w .kept .1 .0))
 
 mul-c : tie.Need-mul-c Inv-loop μ-loop Inv-loop2 μ-loop2
 mul-c c = search needs
 
 element-copy-out-c : tie.Need-element-copy-out-c Inv-loop μ-loop Inv-loop2 μ-loop2
-element-copy-out-c c = let l = c .before .before .before .before .before in let s = c .before .before .before .before .before .before .before .before .before in let kf : keyAt (s .args .keys .now) (l .loop .r) (s .args .end) ≤ c .before .before .before .object-at .result = omega (arith, c .before .before .key-at .ensures, c .before .wide .ensures, c .if1 .left) in let lt : l .loop .r < s .args .end = keyAt-low (s .args .keys .now) (l .loop .r) (s .args .end) (omega (arith, c .before .before .before .object-at .ok)) in omega arith
+element-copy-out-c c = let kf : keyAt (c .before .before .before .before .before .before .before .before .before .args .keys .now) (c .before .before .before .before .before .loop .r) (c .before .before .before .before .before .before .before .before .before .args .end) ≤ c .before .before .before .object-at .result = omega (arith, c .before .before .key-at .ensures, c .before .wide .ensures .0, c .if1 .left) in let lt : c .before .before .before .before .before .loop .r < c .before .before .before .before .before .before .before .before .before .args .end = keyAt-low (c .before .before .before .before .before .before .before .before .before .args .keys .now) (c .before .before .before .before .before .loop .r) (c .before .before .before .before .before .before .before .before .before .args .end) (omega (arith, c .before .before .before .object-at .ok)) in omega arith
 
 mul-k : tie.Need-mul-k Inv-loop μ-loop Inv-loop2 μ-loop2
 mul-k c = search needs
 
 element-copy-out-k : tie.Need-element-copy-out-k Inv-loop μ-loop Inv-loop2 μ-loop2
-element-copy-out-k c = let l = c .before .before .before .before .before .before in let s = c .before .before .before .before .before .before .before .before .before .before in let kf : keyAt (s .args .keys .now) (l .loop .r) (s .args .end) ≤ c .before .before .before .before .object-at .result = omega (arith, c .before .before .before .key-at .ensures, c .before .before .wide .ensures, c .before .if1 .left) in let lt : l .loop .r < s .args .end = keyAt-low (s .args .keys .now) (l .loop .r) (s .args .end) (omega (arith, c .before .before .before .before .object-at .ok)) in omega arith
+element-copy-out-k c = let kf : keyAt (c .before .before .before .before .before .before .before .before .before .before .args .keys .now) (c .before .before .before .before .before .before .loop .r) (c .before .before .before .before .before .before .before .before .before .before .args .end) ≤ c .before .before .before .before .object-at .result = omega (arith, c .before .before .before .key-at .ensures, c .before .before .wide .ensures .0, c .before .if1 .left) in let lt : c .before .before .before .before .before .before .loop .r < c .before .before .before .before .before .before .before .before .before .before .args .end = keyAt-low (c .before .before .before .before .before .before .before .before .before .before .args .keys .now) (c .before .before .before .before .before .before .loop .r) (c .before .before .before .before .before .before .before .before .before .before .args .end) (omega (arith, c .before .before .before .before .object-at .ok)) in omega arith
 
 add-r : tie.Need-add-r Inv-loop μ-loop Inv-loop2 μ-loop2
 add-r c = search needs
 
 add-put : tie.Need-add-put Inv-loop μ-loop Inv-loop2 μ-loop2
-add-put c = let l = c .before .before .before .before .before .before .before .before .before .before in let s = c .before .before .before .before .before .before .before .before .before .before .before .before .before .before in let kf : keyAt (s .args .keys .now) (l .loop .r) (s .args .end) ≤ c .before .before .before .before .before .before .before .before .object-at .result = omega (arith, c .before .before .before .before .before .before .before .key-at .ensures, c .before .before .before .before .before .before .wide .ensures, c .before .before .before .before .before .if1 .left) in let lt : l .loop .r < s .args .end = keyAt-low (s .args .keys .now) (l .loop .r) (s .args .end) (omega (arith, c .before .before .before .before .before .before .before .before .object-at .ok)) in omega (arith, at-small-both _ _ _ _ _ _ _ _ _ _ _ _ _ _ (l .loop .inv .1) (c .before .before .before .before .before .before .before .before .before .loop-test .taken) lt (sym (c .before .before .before .before .before .before .before .before .object-at .ensures) ∙ sym (c .before .before .if2 .taken)))
+add-put c = let kf : keyAt (c .before .before .before .before .before .before .before .before .before .before .before .before .before .before .args .keys .now) (c .before .before .before .before .before .before .before .before .before .before .loop .r) (c .before .before .before .before .before .before .before .before .before .before .before .before .before .before .args .end) ≤ c .before .before .before .before .before .before .before .before .object-at .result = omega (arith, c .before .before .before .before .before .before .before .key-at .ensures, c .before .before .before .before .before .before .wide .ensures .0, c .before .before .before .before .before .if1 .left) in let lt : c .before .before .before .before .before .before .before .before .before .before .loop .r < c .before .before .before .before .before .before .before .before .before .before .before .before .before .before .args .end = keyAt-low (c .before .before .before .before .before .before .before .before .before .before .before .before .before .before .args .keys .now) (c .before .before .before .before .before .before .before .before .before .before .loop .r) (c .before .before .before .before .before .before .before .before .before .before .before .before .before .before .args .end) (omega (arith, c .before .before .before .before .before .before .before .before .object-at .ok)) in omega (arith, at-small-both _ _ _ _ _ _ _ _ _ _ _ _ _ _ (c .before .before .before .before .before .before .before .before .before .before .loop .inv .1) (c .before .before .before .before .before .before .before .before .before .loop-test .taken) lt (sym (c .before .before .before .before .before .before .before .before .object-at .ensures) ∙ sym (c .before .before .if2 .taken)))
 
 cast-put : tie.Need-cast-put Inv-loop μ-loop Inv-loop2 μ-loop2
-cast-put c = let l = c .before .before .before .before .before .before .before .before .before .before in let s = c .before .before .before .before .before .before .before .before .before .before .before .before .before .before in let kf : keyAt (s .args .keys .now) (l .loop .r) (s .args .end) ≤ c .before .before .before .before .before .before .before .before .object-at .result = omega (arith, c .before .before .before .before .before .before .before .key-at .ensures, c .before .before .before .before .before .before .wide .ensures, c .before .before .before .before .before .if1 .left) in let lt : l .loop .r < s .args .end = keyAt-low (s .args .keys .now) (l .loop .r) (s .args .end) (omega (arith, c .before .before .before .before .before .before .before .before .object-at .ok)) in omega (arith, at-small-both _ _ _ _ _ _ _ _ _ _ _ _ _ _ (l .loop .inv .1) (c .before .before .before .before .before .before .before .before .before .loop-test .taken) lt (sym (c .before .before .before .before .before .before .before .before .object-at .ensures) ∙ sym (c .before .before .if2 .taken)))
+cast-put c = let kf : keyAt (c .before .before .before .before .before .before .before .before .before .before .before .before .before .before .args .keys .now) (c .before .before .before .before .before .before .before .before .before .before .loop .r) (c .before .before .before .before .before .before .before .before .before .before .before .before .before .before .args .end) ≤ c .before .before .before .before .before .before .before .before .object-at .result = omega (arith, c .before .before .before .before .before .before .before .key-at .ensures, c .before .before .before .before .before .before .wide .ensures .0, c .before .before .before .before .before .if1 .left) in let lt : c .before .before .before .before .before .before .before .before .before .before .loop .r < c .before .before .before .before .before .before .before .before .before .before .before .before .before .before .args .end = keyAt-low (c .before .before .before .before .before .before .before .before .before .before .before .before .before .before .args .keys .now) (c .before .before .before .before .before .before .before .before .before .before .loop .r) (c .before .before .before .before .before .before .before .before .before .before .before .before .before .before .args .end) (omega (arith, c .before .before .before .before .before .before .before .before .object-at .ok)) in omega (arith, at-small-both _ _ _ _ _ _ _ _ _ _ _ _ _ _ (c .before .before .before .before .before .before .before .before .before .before .loop .inv .1) (c .before .before .before .before .before .before .before .before .before .loop-test .taken) lt (sym (c .before .before .before .before .before .before .before .before .object-at .ensures) ∙ sym (c .before .before .if2 .taken)))
 
 put-requires-2 : tie.Need-put-requires-2 Inv-loop μ-loop Inv-loop2 μ-loop2
-put-requires-2 c κs = let l = c .before .before .before .before .before .before .before .before .before .before in let s = c .before .before .before .before .before .before .before .before .before .before .before .before .before .before in omega (arith, l .loop .inv .1 .same-words, l .loop .inv .1 .same-supports, s .pre .1 .1 .1 .1)
+put-requires-2 c κs = omega (arith, c .before .before .before .before .before .before .before .before .before .before .loop .inv .1 .same-words, c .before .before .before .before .before .before .before .before .before .before .loop .inv .1 .same-supports, c .before .before .before .before .before .before .before .before .before .before .before .before .before .before .pre .1 .1 .1 .1)
 
 add-q-2 : tie.Need-add-q-2 Inv-loop μ-loop Inv-loop2 μ-loop2
 add-q-2 c = search needs
 
 loop-less-2 : tie.Need-loop-less-2 Inv-loop μ-loop Inv-loop2 μ-loop2
-loop-less-2 c = let l = c .before .before .before .before .before .before .before .before .before .before .before .before .before .before .before in let s = c .before .before .before .before .before .before .before .before .before .before .before .before .before .before .before .before .before .before .before in let kf : keyAt (s .args .keys .now) (l .loop .r) (s .args .end) ≤ c .before .before .before .before .before .before .before .before .before .before .before .before .before .object-at .result = omega (arith, c .before .before .before .before .before .before .before .before .before .before .before .before .key-at .ensures, c .before .before .before .before .before .before .before .before .before .before .before .wide .ensures, c .before .before .before .before .before .before .before .before .before .before .if1 .left) in let lt : l .loop .r < s .args .end = keyAt-low (s .args .keys .now) (l .loop .r) (s .args .end) (omega (arith, c .before .before .before .before .before .before .before .before .before .before .before .before .before .object-at .ok)) in omega arith
+loop-less-2 c = let kf : keyAt (c .before .before .before .before .before .before .before .before .before .before .before .before .before .before .before .before .before .before .before .args .keys .now) (c .before .before .before .before .before .before .before .before .before .before .before .before .before .before .before .loop .r) (c .before .before .before .before .before .before .before .before .before .before .before .before .before .before .before .before .before .before .before .args .end) ≤ c .before .before .before .before .before .before .before .before .before .before .before .before .before .object-at .result = omega (arith, c .before .before .before .before .before .before .before .before .before .before .before .before .key-at .ensures, c .before .before .before .before .before .before .before .before .before .before .before .wide .ensures .0, c .before .before .before .before .before .before .before .before .before .before .if1 .left) in let lt : c .before .before .before .before .before .before .before .before .before .before .before .before .before .before .before .loop .r < c .before .before .before .before .before .before .before .before .before .before .before .before .before .before .before .before .before .before .before .args .end = keyAt-low (c .before .before .before .before .before .before .before .before .before .before .before .before .before .before .before .before .before .before .before .args .keys .now) (c .before .before .before .before .before .before .before .before .before .before .before .before .before .before .before .loop .r) (c .before .before .before .before .before .before .before .before .before .before .before .before .before .before .before .before .before .before .before .args .end) (omega (arith, c .before .before .before .before .before .before .before .before .before .before .before .before .before .object-at .ok)) in omega arith
 
 loop-again-2 : tie.Need-loop-again-2 Inv-loop μ-loop Inv-loop2 μ-loop2
-loop-again-2 c = let l = c .before .before .before .before .before .before .before .before .before .before .before .before .before .before .before in let s = c .before .before .before .before .before .before .before .before .before .before .before .before .before .before .before .before .before .before .before in let kf : keyAt (s .args .keys .now) (l .loop .r) (s .args .end) ≤ c .before .before .before .before .before .before .before .before .before .before .before .before .before .object-at .result = omega (arith, c .before .before .before .before .before .before .before .before .before .before .before .before .key-at .ensures, c .before .before .before .before .before .before .before .before .before .before .before .wide .ensures, c .before .before .before .before .before .before .before .before .before .before .if1 .left) in let lt : l .loop .r < s .args .end = keyAt-low (s .args .keys .now) (l .loop .r) (s .args .end) (omega (arith, c .before .before .before .before .before .before .before .before .before .before .before .before .before .object-at .ok)) in let w = c .before .before .before .before .put2 in (omega arith, at-both _ _ _ _ _ _ _ _ _ _ _ _ _ _ _ _ (l .loop .inv .1) (c .before .before .before .before .before .before .before .before .before .before .before .before .before .before .loop-test .taken) lt (c .before .before .before .before .before .before .before .before .before .before .before .before .before .object-at .ensures) (sym (c .before .before .before .before .before .before .before .if2 .taken)) (w .ensures) (w .kept .0) (w .kept .1 .0))
+loop-again-2 c = let kf : keyAt (c .before .before .before .before .before .before .before .before .before .before .before .before .before .before .before .before .before .before .before .args .keys .now) (c .before .before .before .before .before .before .before .before .before .before .before .before .before .before .before .loop .r) (c .before .before .before .before .before .before .before .before .before .before .before .before .before .before .before .before .before .before .before .args .end) ≤ c .before .before .before .before .before .before .before .before .before .before .before .before .before .object-at .result = omega (arith, c .before .before .before .before .before .before .before .before .before .before .before .before .key-at .ensures, c .before .before .before .before .before .before .before .before .before .before .before .wide .ensures .0, c .before .before .before .before .before .before .before .before .before .before .if1 .left) in let lt : c .before .before .before .before .before .before .before .before .before .before .before .before .before .before .before .loop .r < c .before .before .before .before .before .before .before .before .before .before .before .before .before .before .before .before .before .before .before .args .end = keyAt-low (c .before .before .before .before .before .before .before .before .before .before .before .before .before .before .before .before .before .before .before .args .keys .now) (c .before .before .before .before .before .before .before .before .before .before .before .before .before .before .before .loop .r) (c .before .before .before .before .before .before .before .before .before .before .before .before .before .before .before .before .before .before .before .args .end) (omega (arith, c .before .before .before .before .before .before .before .before .before .before .before .before .before .object-at .ok)) in let w = c .before .before .before .before .put2 in (omega arith, at-both _ _ _ _ _ _ _ _ _ _ _ _ _ _ _ _ (c .before .before .before .before .before .before .before .before .before .before .before .before .before .before .before .loop .inv .1) (c .before .before .before .before .before .before .before .before .before .before .before .before .before .before .loop-test .taken) lt (c .before .before .before .before .before .before .before .before .before .before .before .before .before .object-at .ensures) (sym (c .before .before .before .before .before .before .before .if2 .taken)) (w .ensures) (w .kept .0) (w .kept .1 .0))
 
 cast-put-2 : tie.Need-cast-put-2 Inv-loop μ-loop Inv-loop2 μ-loop2
-cast-put-2 c = let l = c .before .before .before .before .before .before .before .before .before .before .before in let s = c .before .before .before .before .before .before .before .before .before .before .before .before .before .before .before in let kf : keyAt (s .args .keys .now) (l .loop .r) (s .args .end) ≤ c .before .before .before .before .before .before .before .before .before .object-at .result = omega (arith, c .before .before .before .before .before .before .before .before .key-at .ensures, c .before .before .before .before .before .before .before .wide .ensures, c .before .before .before .before .before .before .if1 .left) in let lt : l .loop .r < s .args .end = keyAt-low (s .args .keys .now) (l .loop .r) (s .args .end) (omega (arith, c .before .before .before .before .before .before .before .before .before .object-at .ok)) in omega (arith, at-small _ _ _ _ _ _ _ _ _ _ _ _ _ _ (l .loop .inv .1) lt)
+cast-put-2 c = let kf : keyAt (c .before .before .before .before .before .before .before .before .before .before .before .before .before .before .before .args .keys .now) (c .before .before .before .before .before .before .before .before .before .before .before .loop .r) (c .before .before .before .before .before .before .before .before .before .before .before .before .before .before .before .args .end) ≤ c .before .before .before .before .before .before .before .before .before .object-at .result = omega (arith, c .before .before .before .before .before .before .before .before .key-at .ensures, c .before .before .before .before .before .before .before .wide .ensures .0, c .before .before .before .before .before .before .if1 .left) in let lt : c .before .before .before .before .before .before .before .before .before .before .before .loop .r < c .before .before .before .before .before .before .before .before .before .before .before .before .before .before .before .args .end = keyAt-low (c .before .before .before .before .before .before .before .before .before .before .before .before .before .before .before .args .keys .now) (c .before .before .before .before .before .before .before .before .before .before .before .loop .r) (c .before .before .before .before .before .before .before .before .before .before .before .before .before .before .before .args .end) (omega (arith, c .before .before .before .before .before .before .before .before .before .object-at .ok)) in omega (arith, at-small _ _ _ _ _ _ _ _ _ _ _ _ _ _ (c .before .before .before .before .before .before .before .before .before .before .before .loop .inv .1) lt)
 
 put-requires-3 : tie.Need-put-requires-3 Inv-loop μ-loop Inv-loop2 μ-loop2
-put-requires-3 c κs = let l = c .before .before .before .before .before .before .before .before .before .before .before in let s = c .before .before .before .before .before .before .before .before .before .before .before .before .before .before .before in omega (arith, l .loop .inv .1 .same-words, l .loop .inv .1 .same-supports, s .pre .1 .1 .1 .1)
+put-requires-3 c κs = omega (arith, c .before .before .before .before .before .before .before .before .before .before .before .loop .inv .1 .same-words, c .before .before .before .before .before .before .before .before .before .before .before .loop .inv .1 .same-supports, c .before .before .before .before .before .before .before .before .before .before .before .before .before .before .before .pre .1 .1 .1 .1)
 
 loop-less-3 : tie.Need-loop-less-3 Inv-loop μ-loop Inv-loop2 μ-loop2
-loop-less-3 c = let l = c .before .before .before .before .before .before .before .before .before .before .before .before .before .before .before .before in let s = c .before .before .before .before .before .before .before .before .before .before .before .before .before .before .before .before .before .before .before .before in let kf : keyAt (s .args .keys .now) (l .loop .r) (s .args .end) ≤ c .before .before .before .before .before .before .before .before .before .before .before .before .before .before .object-at .result = omega (arith, c .before .before .before .before .before .before .before .before .before .before .before .before .before .key-at .ensures, c .before .before .before .before .before .before .before .before .before .before .before .before .wide .ensures, c .before .before .before .before .before .before .before .before .before .before .before .if1 .left) in let lt : l .loop .r < s .args .end = keyAt-low (s .args .keys .now) (l .loop .r) (s .args .end) (omega (arith, c .before .before .before .before .before .before .before .before .before .before .before .before .before .before .object-at .ok)) in omega arith
+loop-less-3 c = let kf : keyAt (c .before .before .before .before .before .before .before .before .before .before .before .before .before .before .before .before .before .before .before .before .args .keys .now) (c .before .before .before .before .before .before .before .before .before .before .before .before .before .before .before .before .loop .r) (c .before .before .before .before .before .before .before .before .before .before .before .before .before .before .before .before .before .before .before .before .args .end) ≤ c .before .before .before .before .before .before .before .before .before .before .before .before .before .before .object-at .result = omega (arith, c .before .before .before .before .before .before .before .before .before .before .before .before .before .key-at .ensures, c .before .before .before .before .before .before .before .before .before .before .before .before .wide .ensures .0, c .before .before .before .before .before .before .before .before .before .before .before .if1 .left) in let lt : c .before .before .before .before .before .before .before .before .before .before .before .before .before .before .before .before .loop .r < c .before .before .before .before .before .before .before .before .before .before .before .before .before .before .before .before .before .before .before .before .args .end = keyAt-low (c .before .before .before .before .before .before .before .before .before .before .before .before .before .before .before .before .before .before .before .before .args .keys .now) (c .before .before .before .before .before .before .before .before .before .before .before .before .before .before .before .before .loop .r) (c .before .before .before .before .before .before .before .before .before .before .before .before .before .before .before .before .before .before .before .before .args .end) (omega (arith, c .before .before .before .before .before .before .before .before .before .before .before .before .before .before .object-at .ok)) in omega arith
 
 loop-again-3 : tie.Need-loop-again-3 Inv-loop μ-loop Inv-loop2 μ-loop2
-loop-again-3 c = let l = c .before .before .before .before .before .before .before .before .before .before .before .before .before .before .before .before in let s = c .before .before .before .before .before .before .before .before .before .before .before .before .before .before .before .before .before .before .before .before in let kf : keyAt (s .args .keys .now) (l .loop .r) (s .args .end) ≤ c .before .before .before .before .before .before .before .before .before .before .before .before .before .before .object-at .result = omega (arith, c .before .before .before .before .before .before .before .before .before .before .before .before .before .key-at .ensures, c .before .before .before .before .before .before .before .before .before .before .before .before .wide .ensures, c .before .before .before .before .before .before .before .before .before .before .before .if1 .left) in let lt : l .loop .r < s .args .end = keyAt-low (s .args .keys .now) (l .loop .r) (s .args .end) (omega (arith, c .before .before .before .before .before .before .before .before .before .before .before .before .before .before .object-at .ok)) in let kb : getD (s .args .keys .now) (l .loop .r) 0 < frontOf (objects (s .args .f .now) (l .loop .q) (s .args .e - l .loop .q)) = rw (front-some (s .args .f .now) (l .loop .q) (s .args .e) (c .before .before .before .before .before .before .before .before .before .before .before .before .before .before .before .loop-test .taken), ← c .before .before .before .before .before .before .before .before .before .before .before .before .before .before .object-at .ensures) (omega (arith, c .before .before .before .before .before .before .before .before .if2 .left, keyAt-at (s .args .keys .now) (l .loop .r) (s .args .end) lt)) in let w = c .before .before .before .before .put3 in (omega arith, at-right _ _ _ _ _ _ _ _ _ _ _ _ _ _ _ _ (l .loop .inv .1) lt refl kb (c .before .before .before .before .before .before .before .if3 .taken) (w .ensures) (w .kept .0) (w .kept .1 .0))
+loop-again-3 c = let kf : keyAt (c .before .before .before .before .before .before .before .before .before .before .before .before .before .before .before .before .before .before .before .before .args .keys .now) (c .before .before .before .before .before .before .before .before .before .before .before .before .before .before .before .before .loop .r) (c .before .before .before .before .before .before .before .before .before .before .before .before .before .before .before .before .before .before .before .before .args .end) ≤ c .before .before .before .before .before .before .before .before .before .before .before .before .before .before .object-at .result = omega (arith, c .before .before .before .before .before .before .before .before .before .before .before .before .before .key-at .ensures, c .before .before .before .before .before .before .before .before .before .before .before .before .wide .ensures .0, c .before .before .before .before .before .before .before .before .before .before .before .if1 .left) in let lt : c .before .before .before .before .before .before .before .before .before .before .before .before .before .before .before .before .loop .r < c .before .before .before .before .before .before .before .before .before .before .before .before .before .before .before .before .before .before .before .before .args .end = keyAt-low (c .before .before .before .before .before .before .before .before .before .before .before .before .before .before .before .before .before .before .before .before .args .keys .now) (c .before .before .before .before .before .before .before .before .before .before .before .before .before .before .before .before .loop .r) (c .before .before .before .before .before .before .before .before .before .before .before .before .before .before .before .before .before .before .before .before .args .end) (omega (arith, c .before .before .before .before .before .before .before .before .before .before .before .before .before .before .object-at .ok)) in let kb : getD (c .before .before .before .before .before .before .before .before .before .before .before .before .before .before .before .before .before .before .before .before .args .keys .now) (c .before .before .before .before .before .before .before .before .before .before .before .before .before .before .before .before .loop .r) 0 < frontOf (objects (c .before .before .before .before .before .before .before .before .before .before .before .before .before .before .before .before .before .before .before .before .args .f .now) (c .before .before .before .before .before .before .before .before .before .before .before .before .before .before .before .before .loop .q) (c .before .before .before .before .before .before .before .before .before .before .before .before .before .before .before .before .before .before .before .before .args .own .to - c .before .before .before .before .before .before .before .before .before .before .before .before .before .before .before .before .loop .q)) = rw (front-some (c .before .before .before .before .before .before .before .before .before .before .before .before .before .before .before .before .before .before .before .before .args .f .now) (c .before .before .before .before .before .before .before .before .before .before .before .before .before .before .before .before .loop .q) (c .before .before .before .before .before .before .before .before .before .before .before .before .before .before .before .before .before .before .before .before .args .own .to) (c .before .before .before .before .before .before .before .before .before .before .before .before .before .before .before .loop-test .taken), ← c .before .before .before .before .before .before .before .before .before .before .before .before .before .before .object-at .ensures) (omega (arith, c .before .before .before .before .before .before .before .before .if2 .left, keyAt-at (c .before .before .before .before .before .before .before .before .before .before .before .before .before .before .before .before .before .before .before .before .args .keys .now) (c .before .before .before .before .before .before .before .before .before .before .before .before .before .before .before .before .loop .r) (c .before .before .before .before .before .before .before .before .before .before .before .before .before .before .before .before .before .before .before .before .args .end) lt)) in let w = c .before .before .before .before .put3 in (omega arith, at-right _ _ _ _ _ _ _ _ _ _ _ _ _ _ _ _ (c .before .before .before .before .before .before .before .before .before .before .before .before .before .before .before .before .loop .inv .1) lt refl kb (c .before .before .before .before .before .before .before .if3 .taken) (w .ensures) (w .kept .0) (w .kept .1 .0))
 
 loop-less-4 : tie.Need-loop-less-4 Inv-loop μ-loop Inv-loop2 μ-loop2
-loop-less-4 c = let l = c .before .before .before .before .before .before .before .before .before in let s = c .before .before .before .before .before .before .before .before .before .before .before .before .before in let kf : keyAt (s .args .keys .now) (l .loop .r) (s .args .end) ≤ c .before .before .before .before .before .before .before .object-at .result = omega (arith, c .before .before .before .before .before .before .key-at .ensures, c .before .before .before .before .before .wide .ensures, c .before .before .before .before .if1 .left) in let lt : l .loop .r < s .args .end = keyAt-low (s .args .keys .now) (l .loop .r) (s .args .end) (omega (arith, c .before .before .before .before .before .before .before .object-at .ok)) in omega arith
+loop-less-4 c = let kf : keyAt (c .before .before .before .before .before .before .before .before .before .before .before .before .before .args .keys .now) (c .before .before .before .before .before .before .before .before .before .loop .r) (c .before .before .before .before .before .before .before .before .before .before .before .before .before .args .end) ≤ c .before .before .before .before .before .before .before .object-at .result = omega (arith, c .before .before .before .before .before .before .key-at .ensures, c .before .before .before .before .before .wide .ensures .0, c .before .before .before .before .if1 .left) in let lt : c .before .before .before .before .before .before .before .before .before .loop .r < c .before .before .before .before .before .before .before .before .before .before .before .before .before .args .end = keyAt-low (c .before .before .before .before .before .before .before .before .before .before .before .before .before .args .keys .now) (c .before .before .before .before .before .before .before .before .before .loop .r) (c .before .before .before .before .before .before .before .before .before .before .before .before .before .args .end) (omega (arith, c .before .before .before .before .before .before .before .object-at .ok)) in omega arith
 
 loop-again-4 : tie.Need-loop-again-4 Inv-loop μ-loop Inv-loop2 μ-loop2
-loop-again-4 c = let l = c .before .before .before .before .before .before .before .before .before in let s = c .before .before .before .before .before .before .before .before .before .before .before .before .before in let kf : keyAt (s .args .keys .now) (l .loop .r) (s .args .end) ≤ c .before .before .before .before .before .before .before .object-at .result = omega (arith, c .before .before .before .before .before .before .key-at .ensures, c .before .before .before .before .before .wide .ensures, c .before .before .before .before .if1 .left) in let lt : l .loop .r < s .args .end = keyAt-low (s .args .keys .now) (l .loop .r) (s .args .end) (omega (arith, c .before .before .before .before .before .before .before .object-at .ok)) in let kb : getD (s .args .keys .now) (l .loop .r) 0 < frontOf (objects (s .args .f .now) (l .loop .q) (s .args .e - l .loop .q)) = rw (front-some (s .args .f .now) (l .loop .q) (s .args .e) (c .before .before .before .before .before .before .before .before .loop-test .taken), ← c .before .before .before .before .before .before .before .object-at .ensures) (omega (arith, c .before .if2 .left, keyAt-at (s .args .keys .now) (l .loop .r) (s .args .end) lt)) in (omega arith, at-pass _ _ _ _ _ _ _ _ _ _ _ _ _ _ _ (l .loop .inv .1) lt refl kb (omega (arith, c .if3 .left)))
+loop-again-4 c = let kf : keyAt (c .before .before .before .before .before .before .before .before .before .before .before .before .before .args .keys .now) (c .before .before .before .before .before .before .before .before .before .loop .r) (c .before .before .before .before .before .before .before .before .before .before .before .before .before .args .end) ≤ c .before .before .before .before .before .before .before .object-at .result = omega (arith, c .before .before .before .before .before .before .key-at .ensures, c .before .before .before .before .before .wide .ensures .0, c .before .before .before .before .if1 .left) in let lt : c .before .before .before .before .before .before .before .before .before .loop .r < c .before .before .before .before .before .before .before .before .before .before .before .before .before .args .end = keyAt-low (c .before .before .before .before .before .before .before .before .before .before .before .before .before .args .keys .now) (c .before .before .before .before .before .before .before .before .before .loop .r) (c .before .before .before .before .before .before .before .before .before .before .before .before .before .args .end) (omega (arith, c .before .before .before .before .before .before .before .object-at .ok)) in let kb : getD (c .before .before .before .before .before .before .before .before .before .before .before .before .before .args .keys .now) (c .before .before .before .before .before .before .before .before .before .loop .r) 0 < frontOf (objects (c .before .before .before .before .before .before .before .before .before .before .before .before .before .args .f .now) (c .before .before .before .before .before .before .before .before .before .loop .q) (c .before .before .before .before .before .before .before .before .before .before .before .before .before .args .own .to - c .before .before .before .before .before .before .before .before .before .loop .q)) = rw (front-some (c .before .before .before .before .before .before .before .before .before .before .before .before .before .args .f .now) (c .before .before .before .before .before .before .before .before .before .loop .q) (c .before .before .before .before .before .before .before .before .before .before .before .before .before .args .own .to) (c .before .before .before .before .before .before .before .before .loop-test .taken), ← c .before .before .before .before .before .before .before .object-at .ensures) (omega (arith, c .before .if2 .left, keyAt-at (c .before .before .before .before .before .before .before .before .before .before .before .before .before .args .keys .now) (c .before .before .before .before .before .before .before .before .before .loop .r) (c .before .before .before .before .before .before .before .before .before .before .before .before .before .args .end) lt)) in (omega arith, at-pass _ _ _ _ _ _ _ _ _ _ _ _ _ _ _ (c .before .before .before .before .before .before .before .before .before .loop .inv .1) lt refl kb (omega (arith, c .if3 .left)))
 
 loop2-holds : tie.Need-loop2-holds Inv-loop μ-loop Inv-loop2 μ-loop2
 loop2-holds c = (c .before .loop .inv .0, refl, refl, λ l₀ ws₀ out₀ g. g)
@@ -119,22 +119,22 @@ add-r-2 : tie.Need-add-r-2 Inv-loop μ-loop Inv-loop2 μ-loop2
 add-r-2 c = search needs
 
 cast-put-3 : tie.Need-cast-put-3 Inv-loop μ-loop Inv-loop2 μ-loop2
-cast-put-3 c = let l = c .before .before .before .before .before .before .before .before in let s = c .before .before .before .before .before .before .before .before .before .before .before .before in let u = c .before .before .before .before .before .before in omega (arith, at-small _ _ _ _ _ _ _ _ _ _ _ _ _ _ (u .loop2 .inv .3 _ _ _ (l .loop .inv .1)) (c .before .before .before .before .before .loop2-test .taken))
+cast-put-3 c = omega (arith, at-small _ _ _ _ _ _ _ _ _ _ _ _ _ _ (c .before .before .before .before .before .before .loop2 .inv .3 _ _ _ (c .before .before .before .before .before .before .before .before .loop .inv .1)) (c .before .before .before .before .before .loop2-test .taken))
 
 put-requires-4 : tie.Need-put-requires-4 Inv-loop μ-loop Inv-loop2 μ-loop2
-put-requires-4 c κs = let l = c .before .before .before .before .before .before .before .before in let s = c .before .before .before .before .before .before .before .before .before .before .before .before in let u = c .before .before .before .before .before .before in omega (arith, u .loop2 .inv .1, u .loop2 .inv .2, l .loop .inv .1 .same-words, l .loop .inv .1 .same-supports, s .pre .1 .1 .1 .1)
+put-requires-4 c κs = omega (arith, c .before .before .before .before .before .before .loop2 .inv .1, c .before .before .before .before .before .before .loop2 .inv .2, c .before .before .before .before .before .before .before .before .loop .inv .1 .same-words, c .before .before .before .before .before .before .before .before .loop .inv .1 .same-supports, c .before .before .before .before .before .before .before .before .before .before .before .before .pre .1 .1 .1 .1)
 
 loop2-less : tie.Need-loop2-less Inv-loop μ-loop Inv-loop2 μ-loop2
 loop2-less c = search needs
 
 loop2-again : tie.Need-loop2-again Inv-loop μ-loop Inv-loop2 μ-loop2
-loop2-again c = let l = c .before .before .before .before .before .before .before .before .before .before .before .before .before in let s = c .before .before .before .before .before .before .before .before .before .before .before .before .before .before .before .before .before in let u = c .before .before .before .before .before .before .before .before .before .before .before in let le : s .args .e ≤ l .loop .q = c .before .before .before .before .before .before .before .before .before .before .before .before .loop-test .left in let kb : getD (s .args .keys .now) (u .loop2 .r) 0 < frontOf (objects (s .args .f .now) (l .loop .q) (s .args .e - l .loop .q)) = rw (front-none (s .args .f .now) (l .loop .q) (s .args .e) le) (at-keys _ _ _ _ _ _ _ _ _ _ _ _ _ _ (u .loop2 .inv .3 _ _ _ (l .loop .inv .1)) (c .before .before .before .before .before .before .before .before .before .before .loop2-test .taken)) in let w = c .before .before .before .before .put4 in (omega (arith, c .before .before .before .before .before .before .before .before .before .before .loop2-test .taken), w .kept .0 ∙ u .loop2 .inv .1, w .kept .1 .0 ∙ u .loop2 .inv .2, λ l₀ ws₀ out₀ g. at-right _ _ _ _ _ _ _ _ _ _ _ _ _ _ _ _ (u .loop2 .inv .3 l₀ ws₀ out₀ g) (c .before .before .before .before .before .before .before .before .before .before .loop2-test .taken) refl kb (c .before .before .before .before .before .before .before .if4 .taken) (w .ensures) (w .kept .0) (w .kept .1 .0))
+loop2-again c = let le : c .before .before .before .before .before .before .before .before .before .before .before .before .before .before .before .before .before .args .own .to ≤ c .before .before .before .before .before .before .before .before .before .before .before .before .before .loop .q = c .before .before .before .before .before .before .before .before .before .before .before .before .loop-test .left in let kb : getD (c .before .before .before .before .before .before .before .before .before .before .before .before .before .before .before .before .before .args .keys .now) (c .before .before .before .before .before .before .before .before .before .before .before .loop2 .r) 0 < frontOf (objects (c .before .before .before .before .before .before .before .before .before .before .before .before .before .before .before .before .before .args .f .now) (c .before .before .before .before .before .before .before .before .before .before .before .before .before .loop .q) (c .before .before .before .before .before .before .before .before .before .before .before .before .before .before .before .before .before .args .own .to - c .before .before .before .before .before .before .before .before .before .before .before .before .before .loop .q)) = rw (front-none (c .before .before .before .before .before .before .before .before .before .before .before .before .before .before .before .before .before .args .f .now) (c .before .before .before .before .before .before .before .before .before .before .before .before .before .loop .q) (c .before .before .before .before .before .before .before .before .before .before .before .before .before .before .before .before .before .args .own .to) le) (at-keys _ _ _ _ _ _ _ _ _ _ _ _ _ _ (c .before .before .before .before .before .before .before .before .before .before .before .loop2 .inv .3 _ _ _ (c .before .before .before .before .before .before .before .before .before .before .before .before .before .loop .inv .1)) (c .before .before .before .before .before .before .before .before .before .before .loop2-test .taken)) in let w = c .before .before .before .before .put4 in (omega (arith, c .before .before .before .before .before .before .before .before .before .before .loop2-test .taken), w .kept .0 ∙ c .before .before .before .before .before .before .before .before .before .before .before .loop2 .inv .1, w .kept .1 .0 ∙ c .before .before .before .before .before .before .before .before .before .before .before .loop2 .inv .2, λ l₀ ws₀ out₀ g. at-right _ _ _ _ _ _ _ _ _ _ _ _ _ _ _ _ (c .before .before .before .before .before .before .before .before .before .before .before .loop2 .inv .3 l₀ ws₀ out₀ g) (c .before .before .before .before .before .before .before .before .before .before .loop2-test .taken) refl kb (c .before .before .before .before .before .before .before .if4 .taken) (w .ensures) (w .kept .0) (w .kept .1 .0))
 
 loop2-less-2 : tie.Need-loop2-less-2 Inv-loop μ-loop Inv-loop2 μ-loop2
 loop2-less-2 c = search needs
 
 loop2-again-2 : tie.Need-loop2-again-2 Inv-loop μ-loop Inv-loop2 μ-loop2
-loop2-again-2 c = let l = c .before .before .before .before .before .before in let s = c .before .before .before .before .before .before .before .before .before .before in let u = c .before .before .before .before in let le : s .args .e ≤ l .loop .q = c .before .before .before .before .before .loop-test .left in let kb : getD (s .args .keys .now) (u .loop2 .r) 0 < frontOf (objects (s .args .f .now) (l .loop .q) (s .args .e - l .loop .q)) = rw (front-none (s .args .f .now) (l .loop .q) (s .args .e) le) (at-keys _ _ _ _ _ _ _ _ _ _ _ _ _ _ (u .loop2 .inv .3 _ _ _ (l .loop .inv .1)) (c .before .before .before .loop2-test .taken)) in (omega arith, u .loop2 .inv .1, u .loop2 .inv .2, λ l₀ ws₀ out₀ g. at-pass _ _ _ _ _ _ _ _ _ _ _ _ _ _ _ (u .loop2 .inv .3 l₀ ws₀ out₀ g) (c .before .before .before .loop2-test .taken) refl kb (omega (arith, c .if4 .left)))
+loop2-again-2 c = let le : c .before .before .before .before .before .before .before .before .before .before .args .own .to ≤ c .before .before .before .before .before .before .loop .q = c .before .before .before .before .before .loop-test .left in let kb : getD (c .before .before .before .before .before .before .before .before .before .before .args .keys .now) (c .before .before .before .before .loop2 .r) 0 < frontOf (objects (c .before .before .before .before .before .before .before .before .before .before .args .f .now) (c .before .before .before .before .before .before .loop .q) (c .before .before .before .before .before .before .before .before .before .before .args .own .to - c .before .before .before .before .before .before .loop .q)) = rw (front-none (c .before .before .before .before .before .before .before .before .before .before .args .f .now) (c .before .before .before .before .before .before .loop .q) (c .before .before .before .before .before .before .before .before .before .before .args .own .to) le) (at-keys _ _ _ _ _ _ _ _ _ _ _ _ _ _ (c .before .before .before .before .loop2 .inv .3 _ _ _ (c .before .before .before .before .before .before .loop .inv .1)) (c .before .before .before .loop2-test .taken)) in (omega arith, c .before .before .before .before .loop2 .inv .1, c .before .before .before .before .loop2 .inv .2, λ l₀ ws₀ out₀ g. at-pass _ _ _ _ _ _ _ _ _ _ _ _ _ _ _ (c .before .before .before .before .loop2 .inv .3 l₀ ws₀ out₀ g) (c .before .before .before .loop2-test .taken) refl kb (omega (arith, c .if4 .left)))
 
 same-length : tie.Need-same-length Inv-loop μ-loop Inv-loop2 μ-loop2
 same-length c = search needs
@@ -143,7 +143,7 @@ same-length-2 : tie.Need-same-length-2 Inv-loop μ-loop Inv-loop2 μ-loop2
 same-length-2 c = search needs
 
 returns : tie.Need-returns Inv-loop μ-loop Inv-loop2 μ-loop2
-returns c = let l = c .before .before .before in let s = c .before .before .before .before .before .before .before in let u = c .before in at-end _ _ _ _ _ _ _ _ _ _ _ _ _ _ (u .loop2 .inv .3 _ _ _ (l .loop .inv .1)) (c .before .before .loop-test .left) (c .loop2-test .left)
+returns c = at-end _ _ _ _ _ _ _ _ _ _ _ _ _ _ (c .before .loop2 .inv .3 _ _ _ (c .before .before .before .loop .inv .1)) (c .before .before .loop-test .left) (c .loop2-test .left)
 
 pub merge-counted-spec : {M : Type 1} → statement M
 merge-counted-spec =

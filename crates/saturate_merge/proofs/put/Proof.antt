@@ -2,46 +2,12 @@
 use borrow.Author.Needs.{needs}
 use Prim.Native.Nat.{_-_}
 use native.Mathlib.Omega.{arith}
-use lib.ListN.{length-set}
 use Rattle.saturate_merge.proofs.Output.{put-here, put-past, put-full}
 use Rattle.saturate_merge.proofs.put.Statement.{statement}
 use Rattle.saturate_merge.proofs.put.Tie as tie
 
-mul-k : tie.Need-mul-k
-mul-k c = search needs
-
-add-k : tie.Need-add-k
-add-k c = search needs
-
-mul-kept : tie.Need-mul-kept
-mul-kept c = search needs
-
-slice-write-kept : tie.Need-slice-write-kept
-slice-write-kept c = search needs
-
-add-kept : tie.Need-add-kept
-add-kept c = search needs
-
-mul-kept-2 : tie.Need-mul-kept-2
-mul-kept-2 c = search needs
-
-slice-write-kept-2 : tie.Need-slice-write-kept-2
-slice-write-kept-2 c = simp length-set (omega arith)
-
-add-kept-2 : tie.Need-add-kept-2
-add-kept-2 c = search needs
-
-mul-kept-3 : tie.Need-mul-kept-3
-mul-kept-3 c = search needs
-
-slice-write-kept-3 : tie.Need-slice-write-kept-3
-slice-write-kept-3 c = simp length-set (omega arith)
-
-mul-supports : tie.Need-mul-supports
-mul-supports c = search needs
-
-slice-write-supports : tie.Need-slice-write-supports
-slice-write-supports c = search needs
+put-entry-requires : tie.Need-put-entry-requires
+put-entry-requires c κs = omega arith
 
 add-result : tie.Need-add-result
 add-result c = search needs
@@ -53,7 +19,7 @@ same-length-2 : tie.Need-same-length-2
 same-length-2 c = search needs
 
 returns : tie.Need-returns
-returns c = put-here _ _ _ _ _ _ _ _ (omega arith) (omega arith)
+returns c = put-here (c .before .before .before .before .before .before .before .if1 .taken) (omega arith) (c .before .before .before .before .put-entry .ensures)
 
 add-result-2 : tie.Need-add-result-2
 add-result-2 c = search needs
@@ -68,18 +34,7 @@ pub put-spec : {M : Type 1} → statement M
 put-spec =
     tie.close
     (tie.spec
-    mul-k
-    add-k
-    mul-kept
-    slice-write-kept
-    add-kept
-    mul-kept-2
-    slice-write-kept-2
-    add-kept-2
-    mul-kept-3
-    slice-write-kept-3
-    mul-supports
-    slice-write-supports
+    put-entry-requires
     add-result
     same-length
     same-length-2

@@ -1,11 +1,12 @@
 -- Rows put one after the other into the kept table and the supports, as far as there is room. Definitions only.
 use mathlib.Core.Bool.{cond}
 use mathlib.Core.List.{List, [], _∷_}
-use Prim.Native.Nat.{ℕ, _+_, _*_, _^_}
+use Prim.Native.Nat.{ℕ, _+_, _^_}
 use lib.ListN.{set}
 use lib.Dec.{ltb}
 use Rattle.spec.specs.declared.Triple.{Triple}
 use Rattle.spec.specs.Saturation.{Kept}
+use Rattle.table.specs.inside.Words.{putRow}
 
 -- The words of the kept table, the supports, and how many rows were put.
 pub record Output : Type 0 where
@@ -21,15 +22,11 @@ output ws us n = record { words = ws; supports = us; count = n }
 unfoldable pub oneMore : ℕ → ℕ
 oneMore n = cond (ltb n (2 ^ 32)) (n + 1) n
 
--- The words of t, set from index k on.
-abbrev pub setRow : List ℕ → ℕ → Triple → List ℕ
-setRow ws k t = set (set (set ws k (t .subject)) (k + 1) (t .property)) (k + 2) (t .object)
-
 -- A row with its support is written where there is room, and counted in any case.
 unfoldable pub putOne : ℕ → Triple × ℕ → Output → Output
 putOne room e out =
     output
-    (cond (ltb (out .count) room) (setRow (out .words) (out .count * 3 + 1) (e .0)) (out .words))
+    (cond (ltb (out .count) room) (putRow (out .count) (e .0) (out .words)) (out .words))
     (cond (ltb (out .count) room) (set (out .supports) (out .count) (e .1)) (out .supports))
     (oneMore (out .count))
 

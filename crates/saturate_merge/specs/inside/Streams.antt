@@ -14,10 +14,14 @@ unfoldable pub objects : List ℕ → ℕ → ℕ → List ℕ
 objects f a zero = []
 objects f a (suc n) = getD f (a * 3 + 3) 0 ∷ objects f (a + 1) n
 
--- The first k streams, the last one in front: stream y has the objects of the rows from .. to.
-unfoldable pub streams : List ℕ → List ℕ → List ℕ → ℕ → List (List ℕ)
-streams f from to zero = []
-streams f from to (suc k) = objects f (getD from k 0) (getD to k 0 - getD from k 0) ∷ streams f from to k
+-- Stream y: the objects of the rows between its two ends, which stand side by side.
+abbrev pub stream : List ℕ → List ℕ → ℕ → List ℕ
+stream f ends y = objects f (getD ends (y * 2) 0) (getD ends (y * 2 + 1) 0 - getD ends (y * 2) 0)
+
+-- The first k streams, the last one in front.
+unfoldable pub streams : List ℕ → List ℕ → ℕ → List (List ℕ)
+streams f ends zero = []
+streams f ends (suc k) = stream f ends k ∷ streams f ends k
 
 -- The first object of a stream, 2 ^ 32 where there is none.
 unfoldable pub frontOf : List ℕ → ℕ
@@ -79,8 +83,8 @@ AllRising [] = Unit {0}
 AllRising (l ∷ ls) = Rising l × AllRising ls
 
 -- The first k streams end in the table.
-abbrev pub Inside : List ℕ → List ℕ → List ℕ → ℕ → Type 0
-Inside f from to k = (k ≤ length from) × (k ≤ length to) × ((y : ℕ) → y < k → getD to y 0 * 3 < length f)
+abbrev pub Inside : List ℕ → List ℕ → ℕ → Type 0
+Inside f ends k = (k * 2 ≤ length ends) × ((y : ℕ) → y < k → getD ends (y * 2 + 1) 0 * 3 < length f)
 
 -- In K the row x q o has as support how often o stands in the streams, for each o.
 abbrev pub Tallied : Kept → ℕ → ℕ → List (List ℕ) → Type 0

@@ -37,7 +37,7 @@ loop-again c =
     let at-if1 = after-unite .before .before in
     let after-leads = at-if1 .before in
     let at-loop = after-leads .before .before .before in
-    (omega arith, after-unite .unite .kept .0 ∙ at-loop .loop .inv .1, spread-yes _ _ _ _ _ _ _ (omega arith) (at-loop .loop .inv .2) (leads-old _ _ _ _ _ _ _ _ (omega arith) (at-loop .loop .inv .2) .0 (after-leads .leads .ensures .0 (at-if1 .if1 .taken))) (after-unite .unite .ensures))
+    (omega arith, after-unite .unite .kept .0 ∙ at-loop .loop .inv .1, spread-yes _ _ _ _ _ _ _ (omega arith) (at-loop .loop .inv .2) (leads-old _ _ _ _ _ _ _ _ (omega arith) (at-loop .loop .inv .2) .0 (after-leads .leads .ensures .if-true (at-if1 .if1 .taken))) (after-unite .unite .ensures))
 
 loop-less-2 : tie.Need-loop-less-2 Inv-loop μ-loop
 loop-less-2 c = search needs
@@ -45,7 +45,7 @@ loop-less-2 c = search needs
 loop-again-2 : tie.Need-loop-again-2 Inv-loop μ-loop
 loop-again-2 c =
     let at-loop = c .before .before .before .before in
-    (omega arith, at-loop .loop .inv .1, spread-no _ _ _ _ _ _ (omega arith) (at-loop .loop .inv .2) (λ z. c .before .leads .ensures .1 (c .if1 .left) (leads-old _ _ _ _ _ _ _ _ (omega arith) (at-loop .loop .inv .2) .1 z)))
+    (omega arith, at-loop .loop .inv .1, spread-no _ _ _ _ _ _ (omega arith) (at-loop .loop .inv .2) (λ z. c .before .leads .ensures .if-false (c .if1 .left) (leads-old _ _ _ _ _ _ _ _ (omega arith) (at-loop .loop .inv .2) .1 z)))
 
 same-length : tie.Need-same-length Inv-loop μ-loop
 same-length c = c .before .loop .inv .1

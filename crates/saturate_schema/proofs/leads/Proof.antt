@@ -1,7 +1,8 @@
 -- The row is of the node, or has its column, or neither.
 use borrow.Author.Needs.{needs}
 use mathlib.Core.Path.{sym, _∙_}
-use Rattle.saturate_schema.proofs.Closing.{answers-yes, leads-bit, leads-not}
+use Rattle.table.proofs.SearchLaws.{tells-true}
+use Rattle.saturate_schema.proofs.Closing.{leads-bit, leads-not}
 use mathlib.Core.Logic.{inl}
 use Rattle.saturate_schema.proofs.leads.Statement.{statement}
 use Rattle.saturate_schema.proofs.leads.Tie as tie
@@ -10,7 +11,7 @@ subject-node-requires : tie.Need-subject-node-requires
 subject-node-requires c κs = search needs
 
 returns : tie.Need-returns
-returns c = answers-yes (inl (sym (c .before .subject-node .ensures) ∙ c .if1 .taken))
+returns c = tells-true (inl (sym (c .before .subject-node .ensures) ∙ c .if1 .taken))
 
 mul-result : tie.Need-mul-result
 mul-result c = search needs

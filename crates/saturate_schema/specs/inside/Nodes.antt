@@ -38,10 +38,6 @@ pub data Found (f : ℕ → ℕ) (n x r : ℕ) : Type 0 where
 abbrev pub word : List ℕ → ℕ → ℕ
 word l k = getD l k 0
 
--- What a test answers.
-abbrev pub Answers : Bool → Type 0 → Type 0
-Answers b P = (b ≡ true → P) × (b ≡ false → ¬ P)
-
 -- The ns columns of the m statements: each node once, and among them each that a statement ends at.
 pub record Columns (st : List ℕ) (m : ℕ) (col : List ℕ) (ns : ℕ) : Type 0 where
   pub few : ns ≤ 512

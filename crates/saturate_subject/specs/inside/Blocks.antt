@@ -37,13 +37,12 @@ startsBelow st zero v = 0
 startsBelow st (suc m) v = cond (ltb (subjectNode st m) v) 1 0 + startsBelow st m v
 
 -- To the first k₀ streams those blocks of the facts i .. y were added whose property leads to column c.
-pub record Gathered (st : List ℕ) (m : ℕ) (d : List ℕ) (c : ℕ) (f from₀ to₀ from to : List ℕ) (k₀ k i y e : ℕ) : Type 0 where
+pub record Gathered (st : List ℕ) (m : ℕ) (d : List ℕ) (c : ℕ) (f ends₀ ends : List ℕ) (k₀ k i y e : ℕ) : Type 0 where
   pub low : i ≤ y
   pub high : y ≤ e
-  pub same-from : length from ≡ length from₀
-  pub same-to : length to ≡ length to₀
+  pub same-ends : length ends ≡ length ends₀
   pub few : k ≤ k₀ + m
   pub fewer : y < e → k ≤ k₀ + startsBelow st m (propertyNode (propertyAt f y))
-  pub fits : (z : ℕ) → z < k → getD to z 0 * 3 < length f
-  pub rising : AllRising (streams f from to k)
-  pub sums : (o : ℕ) → tally o (streams f from to k) ≡ tally o (streams f from₀ to₀ k₀) + sumFrom (ledAt st m d f o c) i (y - i)
+  pub fits : (z : ℕ) → z < k → getD ends (z * 2 + 1) 0 * 3 < length f
+  pub rising : AllRising (streams f ends k)
+  pub sums : (o : ℕ) → tally o (streams f ends k) ≡ tally o (streams f ends₀ k₀) + sumFrom (ledAt st m d f o c) i (y - i)

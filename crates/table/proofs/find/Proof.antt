@@ -1,78 +1,25 @@
--- The invariant: every row before lo is less than x, and every row from hi on is more; rows that ascend keep it at each turn.
-use borrow.Author.Needs.{needs}
-use Prim.Native.Nat.{_-_}
-use mathlib.Core.Path.{sym, _∙_}
+-- The first row that is not below x is x, or x is missing there.
+use mathlib.Core.Path.{sym}
 use native.Mathlib.Omega.{arith}
-use Rattle.table.proofs.Place.{ordering-says}
-use Rattle.table.proofs.Bracket.{Bracket, bracket-up, bracket-down, found-at, found-gap}
+use Rattle.table.proofs.SearchLaws.{between-all, found-at, found-gap}
+use borrow.Author.Needs.{needs}
 use Rattle.table.proofs.find.Statement.{statement}
 use Rattle.table.proofs.find.Tie as tie
 
-abbrev Inv-loop : tie.InvT-loop
-Inv-loop t n x lo₀ hi₀ lo hi = Bracket t n x lo hi
+lower-bound-requires : tie.Need-lower-bound-requires
+lower-bound-requires c κs = (record { fits = c .before .pre .0; ascends = c .before .pre .1 }, between-all (c .before .args .t .now) (c .before .args .n) (c .before .args .x))
 
-abbrev μ-loop : tie.MeasureT-loop
-μ-loop t n x lo₀ hi₀ lo hi = hi - lo
+is-row-requires : tie.Need-is-row-requires
+is-row-requires c κs = search needs
 
-loop-holds : tie.Need-loop-holds Inv-loop μ-loop
-loop-holds c = record { lo-le = search needs; hi-le = search needs; below = λ k h. absurd (omega arith); above = λ k h l. absurd (omega arith) }
+returns : tie.Need-returns
+returns c = sym (found-at (c .before .before .before .before .before .args .t .now) _ _ (c .before .before .before .lower-bound .ensures) (c .before .before .if1 .taken) (c .before .is-row .ensures .if-true (c .if2 .taken)))
 
-sub-mid : tie.Need-sub-mid Inv-loop μ-loop
-sub-mid c = search needs
+returns-2 : tie.Need-returns-2
+returns-2 c = sym (found-gap (c .before .before .before .before .before .args .t .now) _ _ (c .before .before .before .lower-bound .ensures) (λ _. c .before .is-row .ensures .if-false (c .if2 .left)))
 
-add-mid : tie.Need-add-mid Inv-loop μ-loop
-add-mid c = search needs
-
-compare-at-requires : tie.Need-compare-at-requires Inv-loop μ-loop
-compare-at-requires c κs = search needs
-
-enum-told : tie.Need-enum-told Inv-loop μ-loop
-enum-told c = search needs
-
-add-lo : tie.Need-add-lo Inv-loop μ-loop
-add-lo c = search needs
-
-loop-less : tie.Need-loop-less Inv-loop μ-loop
-loop-less c = search needs
-
-loop-again : tie.Need-loop-again Inv-loop μ-loop
-loop-again c = bracket-up _ _ (c .before .before .before .before .before .before .pre .1) (c .before .before .before .before .loop .inv) _ (search needs) (search needs) (ordering-says _ _ _ (sym (c .enum-told .given .1) ∙ c .before .before .compare-at .ensures))
-
-enum-told-2 : tie.Need-enum-told-2 Inv-loop μ-loop
-enum-told-2 c = search needs
-
-returns : tie.Need-returns Inv-loop μ-loop
-returns c = sym (found-at _ _ (c .before .before .before .before .before .before .pre .1) (c .before .before .before .before .loop .inv) _ (search needs) (ordering-says _ _ _ (sym (c .enum-told2 .given .1) ∙ c .before .before .compare-at .ensures)))
-
-enum-told-3 : tie.Need-enum-told-3 Inv-loop μ-loop
-enum-told-3 c = search needs
-
-loop-less-2 : tie.Need-loop-less-2 Inv-loop μ-loop
-loop-less-2 c = search needs
-
-loop-again-2 : tie.Need-loop-again-2 Inv-loop μ-loop
-loop-again-2 c = bracket-down _ _ (c .before .before .before .before .before .before .pre .1) (c .before .before .before .before .loop .inv) _ (search needs) (search needs) (ordering-says _ _ _ (sym (c .enum-told3 .given .1) ∙ c .before .before .compare-at .ensures))
-
-returns-2 : tie.Need-returns-2 Inv-loop μ-loop
-returns-2 c = sym (found-gap _ _ (c .before .loop .inv) (c .loop-test .left))
+returns-3 : tie.Need-returns-3
+returns-3 c = sym (found-gap (c .before .before .before .args .t .now) _ _ (c .before .lower-bound .ensures) (λ h. absurd (omega (arith, c .if1 .left))))
 
 pub find-spec : {M : Type 1} → statement M
-find-spec =
-    tie.close
-    (tie.spec
-    Inv-loop
-    μ-loop
-    loop-holds
-    sub-mid
-    add-mid
-    compare-at-requires
-    enum-told
-    add-lo
-    loop-less
-    loop-again
-    enum-told-2
-    returns
-    enum-told-3
-    loop-less-2
-    loop-again-2
-    returns-2)
+find-spec = tie.close (tie.spec lower-bound-requires is-row-requires returns returns-2 returns-3)

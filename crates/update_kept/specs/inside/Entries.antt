@@ -2,8 +2,7 @@
 use Prim.Native.Nat.{ℕ, _+_, _-_, _*_, _≤_, _<_}
 use mathlib.Core.Path.{_≡_}
 use mathlib.Core.List.{List, zip}
-use lib.ListN.{length, drop, set, replicate}
-use Rattle.spec.specs.declared.Triple.{Triple}
+use lib.ListN.{length, drop, replicate}
 use Rattle.spec.specs.inside.Comparison.{Ascending}
 use Rattle.spec.specs.Tables.{firstRows, rows, layout, supportLayout}
 use Rattle.spec.specs.inside.Laid.{Laid}
@@ -13,21 +12,12 @@ use Rattle.spec.specs.Saturation.{Kept, keptRows, keptSupports}
 unfoldable pub entries : ℕ → List ℕ → List ℕ → Kept
 entries n ws us = zip (firstRows n (drop 1 ws)) us
 
--- Words with the row x at place i.
-unfoldable pub putRow : ℕ → Triple → List ℕ → List ℕ
-putRow i x ws = set (set (set ws (i * 3 + 1) (x .subject)) (i * 3 + 1 + 1) (x .property)) (i * 3 + 1 + 2) (x .object)
-
 -- Both tables have n places, and zeros behind them.
 pub record Room (n : ℕ) (ws us : List ℕ) : Type 0 where
   pub words : n * 3 < length ws
   pub places : n ≤ length us
   pub zero-words : drop (n * 3 + 1) ws ≡ replicate (length ws - (n * 3 + 1)) 0
   pub zero-places : drop n us ≡ replicate (length us - n) 0
-
--- The tables ws and us, with the row x and its support s at place i.
-pub record Entered (i : ℕ) (x : Triple) (s : ℕ) (ws us ws' us' : List ℕ) : Type 0 where
-  pub row : ws' ≡ putRow i x ws
-  pub support : us' ≡ set us i s
 
 -- The tables of kept facts and supports are laid out, their rows ascend, and each row has a place for its support.
 pub record KeptTables (ws us : List ℕ) : Type 0 where

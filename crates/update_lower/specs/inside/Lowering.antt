@@ -4,16 +4,9 @@ use mathlib.Core.Path.{_≡_}
 use mathlib.Core.List.{List, _++_}
 use lib.ListN.{length, take, drop}
 use Rattle.spec.specs.inside.Comparison.{Less, Ascending}
-use Rattle.table.specs.declared.Found.{Found}
-use Rattle.table.specs.declared.Found.the-variants.{At, Gap}
 use Rattle.spec.specs.Tables.{count, tripleFrom, rowAt, firstRows, rows}
 use Rattle.spec.specs.Saturation.{Kept}
 use Rattle.update_kept.specs.inside.Entries.{entries, Room, KeptTables}
-
--- The place where a row stands or would stand.
-unfoldable pub placeOf : Found → ℕ
-placeOf (At i) = i
-placeOf (Gap i) = i
 
 -- The rows that are to be lowered: the c rows rs ascend.
 pub record Lowerable (ws us rs : List ℕ) (c : ℕ) : Type 0 where

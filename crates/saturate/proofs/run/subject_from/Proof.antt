@@ -13,7 +13,7 @@ wide-requires : tie.Need-wide-requires
 wide-requires c κs = search needs
 
 returns : tie.Need-returns
-returns c = c .wide .ensures ∙ c .before .subject-at .ensures ∙ sym (subject-some (c .before .before .before .before .args .f .now) _ _ (c .before .before .if1 .taken))
+returns c = c .wide .ensures .0 ∙ c .before .subject-at .ensures ∙ sym (subject-some (c .before .before .before .before .args .f .now) _ _ (c .before .before .if1 .taken))
 
 returns-2 : tie.Need-returns-2
 returns-2 c = sym (subject-none (c .before .before .args .f .now) _ _ (c .if1 .left))

@@ -14,10 +14,10 @@ wide-requires : tie.Need-wide-requires
 wide-requires c κs = search needs
 
 returns : tie.Need-returns
-returns c = c .before .wide .ensures ∙ c .before .before .object-of .ensures ∙ sym (thing-some (c .before .before .before .before .before .before .args .f .now) (c .before .before .before .before .before .before .args .ix .now) _ _ (c .before .before .before .if1 .taken) (omega (arith, c .if2 .taken, c .before .wide .ensures ∙ c .before .before .object-of .ensures)))
+returns c = c .before .wide .ensures .0 ∙ c .before .before .object-of .ensures ∙ sym (thing-some (c .before .before .before .before .before .before .args .f .now) (c .before .before .before .before .before .before .args .ix .now) _ _ (c .before .before .before .if1 .taken) (omega (arith, c .if2 .taken, c .before .wide .ensures .0 ∙ c .before .before .object-of .ensures)))
 
 returns-2 : tie.Need-returns-2
-returns-2 c = sym (thing-literal (c .before .before .before .before .before .before .args .f .now) (c .before .before .before .before .before .before .args .ix .now) _ _ (c .before .before .before .if1 .taken) (omega (arith, c .if2 .left, c .before .wide .ensures ∙ c .before .before .object-of .ensures)))
+returns-2 c = sym (thing-literal (c .before .before .before .before .before .before .args .f .now) (c .before .before .before .before .before .before .args .ix .now) _ _ (c .before .before .before .if1 .taken) (omega (arith, c .if2 .left, c .before .wide .ensures .0 ∙ c .before .before .object-of .ensures)))
 
 returns-3 : tie.Need-returns-3
 returns-3 c = sym (thing-none (c .before .before .before .args .f .now) (c .before .before .before .args .ix .now) _ _ (c .if1 .left))

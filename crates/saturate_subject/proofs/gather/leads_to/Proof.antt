@@ -22,10 +22,10 @@ shared-slice-read-result : tie.Need-shared-slice-read-result
 shared-slice-read-result c = search needs
 
 returns : tie.Need-returns
-returns c = ap (λ (b : ℕ). eqb b 1) (sym (node-found (c .before .before .before .before .before .args .statements .now) (c .before .before .before .before .before .args .m) (c .before .before .before .before .before .args .ns) (c .before .before .before .before .before .args .domains .now) (c .before .before .before .before .before .pre .1 .0) (propertyNode (c .before .before .before .before .before .args .p)) (c .before .before .before .before .before .args .c) (c .before .before .property-group .result) (c .before .before .property-group .ensures) (c .before .if1 .taken) (omega arith)))
+returns c = ap (λ (b : ℕ). eqb b 1) (sym (node-found (c .before .before .before .before .before .args .statements .now) (c .before .before .before .before .before .args .sizes .statements) (c .before .before .before .before .before .args .sizes .columns) (c .before .before .before .before .before .args .domains .now) (c .before .before .before .before .before .pre .1 .0) (propertyNode (c .before .before .before .before .before .args .p)) (c .before .before .before .before .before .args .c) (c .before .before .property-group .result) (c .before .before .property-group .ensures) (c .before .if1 .taken) (omega arith)))
 
 returns-2 : tie.Need-returns-2
-returns-2 c = ap (λ (b : ℕ). eqb b 1) (sym (node-none (c .before .before .before .before .args .statements .now) (c .before .before .before .before .args .m) (c .before .before .before .before .args .ns) (c .before .before .before .before .args .domains .now) (c .before .before .before .before .pre .1 .0) (propertyNode (c .before .before .before .before .args .p)) (c .before .before .before .before .args .c) (c .before .property-group .result) (c .before .property-group .ensures) (c .if1 .left)))
+returns-2 c = ap (λ (b : ℕ). eqb b 1) (sym (node-none (c .before .before .before .before .args .statements .now) (c .before .before .before .before .args .sizes .statements) (c .before .before .before .before .args .sizes .columns) (c .before .before .before .before .args .domains .now) (c .before .before .before .before .pre .1 .0) (propertyNode (c .before .before .before .before .args .p)) (c .before .before .before .before .args .c) (c .before .property-group .result) (c .before .property-group .ensures) (c .if1 .left)))
 
 pub leads-to-spec : {M : Type 1} → statement M
 leads-to-spec =

@@ -23,7 +23,7 @@ wide-requires : tie.Need-wide-requires Inv-loop μ-loop
 wide-requires c κs = search needs
 
 returns : tie.Need-returns Inv-loop μ-loop
-returns c = split-here (c .before .before .before .before .before .before .args .f .now) _ _ _ _ (c .before .before .before .before .before .before .pre .1) (c .before .before .before .before .loop .inv .0) (c .before .before .before .loop-test .taken) (c .before .before .before .before .loop .inv .2) (omega (arith, c .before .before .property-at .ensures, c .before .wide .ensures, c .if1 .taken))
+returns c = split-here (c .before .before .before .before .before .before .args .f .now) _ _ _ _ (c .before .before .before .before .before .before .pre .1) (c .before .before .before .before .loop .inv .0) (c .before .before .before .loop-test .taken) (c .before .before .before .before .loop .inv .2) (omega (arith, c .before .before .property-at .ensures, c .before .wide .ensures .0, c .if1 .taken))
 
 add-z : tie.Need-add-z Inv-loop μ-loop
 add-z c = search needs
@@ -32,7 +32,7 @@ loop-less : tie.Need-loop-less Inv-loop μ-loop
 loop-less c = search needs
 
 loop-again : tie.Need-loop-again Inv-loop μ-loop
-loop-again c = (omega arith, omega arith, below-more (c .before .before .before .before .before .before .args .f .now) _ _ _ (c .before .before .before .before .loop .inv .2) (omega (arith, c .before .before .property-at .ensures, c .before .wide .ensures, c .if1 .left)))
+loop-again c = (omega arith, omega arith, below-more (c .before .before .before .before .before .before .args .f .now) _ _ _ (c .before .before .before .before .loop .inv .2) (omega (arith, c .before .before .property-at .ensures, c .before .wide .ensures .0, c .if1 .left)))
 
 returns-2 : tie.Need-returns-2 Inv-loop μ-loop
 returns-2 c = split-end (c .before .before .before .args .f .now) _ _ _ _ (c .before .loop .inv .0) (omega arith) (c .before .loop .inv .2)

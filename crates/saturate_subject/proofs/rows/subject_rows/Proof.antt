@@ -10,16 +10,16 @@ use Rattle.saturate_subject.proofs.rows.subject_rows.Statement.{stateme
 use Rattle.saturate_subject.proofs.rows.subject_rows.Tie as tie
 
 counts-of-requires : tie.Need-counts-of-requires
-counts-of-requires c κs = (c .before .before .before .before .before .before .before .before .before .pre .0 .statements, (c .before .before .before .before .before .before .before .before .before .pre .0 .domains, (c .before .before .before .before .before .before .before .before .before .pre .0 .ranges, ((c .before .before .before .before .before .before .before .before .before .pre .0 .keyed .classes, c .before .before .before .before .before .before .before .before .before .pre .0 .keyed .columns), (c .before .before .before .before .before .before .before .before .before .pre .1 .0, (c .before .before .before .before .before .before .before .before .before .pre .1 .1 .0, (c .before .before .before .before .before .before .before .before .before .pre .1 .1 .1 .0, (c .before .before .before .before .before .before .before .before .before .pre .1 .1 .1 .1 .1 .0, c .before .before .before .before .before .before .before .before .before .pre .1 .1 .1 .1 .1 .1 .0))))))))
+counts-of-requires c κs = (c .before .before .before .before .before .before .before .before .before .before .pre .0 .statements, (c .before .before .before .before .before .before .before .before .before .before .pre .0 .domains, (c .before .before .before .before .before .before .before .before .before .before .pre .0 .ranges, ((c .before .before .before .before .before .before .before .before .before .before .pre .0 .keyed .classes, c .before .before .before .before .before .before .before .before .before .before .pre .0 .keyed .columns), (c .before .before .before .before .before .before .before .before .before .before .pre .1 .0, (c .before .before .before .before .before .before .before .before .before .before .pre .1 .1 .0, (c .before .before .before .before .before .before .before .before .before .before .pre .1 .1 .1 .0, (c .before .before .before .before .before .before .before .before .before .before .pre .1 .1 .1 .1 .1 .0, c .before .before .before .before .before .before .before .before .before .before .pre .1 .1 .1 .1 .1 .1 .0))))))))
 
 first-from-requires : tie.Need-first-from-requires
-first-from-requires c κs = (omega (arith, c .before .before .before .before .before .before .before .before .before .before .pre .1 .1 .1 .1 .1 .0 .low, c .before .before .before .before .before .before .before .before .before .before .pre .1 .1 .1 .1 .1 .0 .high, c .before .before .before .before .before .before .before .before .before .before .pre .1 .0 .fit), one-subject (c .before .before .before .before .before .before .before .before .before .before .args .f .now) (count (c .before .before .before .before .before .before .before .before .before .before .args .f .now)) (c .before .before .before .before .before .before .before .before .before .before .args .x) _ _ (c .before .before .before .before .before .before .before .before .before .before .pre .1 .0) (c .before .before .before .before .before .before .before .before .before .before .pre .1 .1 .1 .1 .1 .0 .high) (c .before .before .before .before .before .before .before .before .before .before .pre .1 .1 .1 .1 .1 .0 .all))
+first-from-requires c κs = (omega (arith, c .before .before .before .before .before .before .before .before .before .before .before .pre .1 .1 .1 .1 .1 .0 .low, c .before .before .before .before .before .before .before .before .before .before .before .pre .1 .1 .1 .1 .1 .0 .high, c .before .before .before .before .before .before .before .before .before .before .before .pre .1 .0 .fit), one-subject (c .before .before .before .before .before .before .before .before .before .before .before .args .f .now) (count (c .before .before .before .before .before .before .before .before .before .before .before .args .f .now)) (c .before .before .before .before .before .before .before .before .before .before .before .args .task .own .term) _ _ (c .before .before .before .before .before .before .before .before .before .before .before .pre .1 .0) (c .before .before .before .before .before .before .before .before .before .before .before .pre .1 .1 .1 .1 .1 .0 .high) (c .before .before .before .before .before .before .before .before .before .before .before .pre .1 .1 .1 .1 .1 .0 .all))
 
 merge-counted-requires : tie.Need-merge-counted-requires
-merge-counted-requires c κs = (omega (arith, (c .before .before .before .first-from .ensures) .high, c .before .before .before .before .before .before .before .before .before .before .before .before .before .before .pre .1 .1 .1 .1 .1 .0 .high, c .before .before .before .before .before .before .before .before .before .before .before .before .before .before .pre .1 .0 .fit, c .before .before .before .before .before .before .before .before .before .before .before .before .before .before .pre .0 .keyed .classes, c .before .before .before .before .before .before .before .before .before .before .before .before .before .before .pre .0 .keyed .columns), (types-rising (c .before .before .before .before .before .before .before .before .before .before .before .before .before .before .args .f .now) (count (c .before .before .before .before .before .before .before .before .before .before .before .before .before .before .args .f .now)) (c .before .before .before .before .before .before .before .before .before .before .before .before .before .before .args .x) (c .before .before .before .before .before .before .before .before .before .before .before .before .before .before .args .i) (c .before .before .before .first-from .result) (c .before .before .before .before .before .before .before .before .before .before .before .before .before .before .args .e) (c .before .before .before .before .before .before .before .before .before .before .before .before .before .before .pre .1 .0) (c .before .before .before .before .before .before .before .before .before .before .before .before .before .before .pre .1 .1 .1 .1 .1 .0) (c .before .before .before .first-from .ensures), (keys-rising (c .before .before .before .before .before .before .before .before .before .before .before .before .before .before .args .f .now) (count (c .before .before .before .before .before .before .before .before .before .before .before .before .before .before .args .f .now)) (c .before .before .before .before .before .before .before .before .before .before .before .before .before .before .args .x) (c .before .before .before .before .before .before .before .before .before .before .before .before .before .before .args .i) (c .before .before .before .first-from .result) (c .before .before .before .before .before .before .before .before .before .before .before .before .before .before .args .e) (c .before .before .before .before .before .before .before .before .before .before .before .before .before .before .pre .1 .0) (c .before .before .before .before .before .before .before .before .before .before .before .before .before .before .pre .1 .1 .1 .1 .1 .0) (c .before .before .before .first-from .ensures) (c .before .before .before .before .before .before .before .before .before .before .before .before .before .before .args .statements .now) (c .before .before .before .before .before .before .before .before .before .before .before .before .before .before .args .m) (c .before .before .before .before .before .before .before .before .before .before .before .before .before .before .args .domains .now) (c .before .before .before .before .before .before .before .before .before .before .before .before .before .before .args .ranges .now) (c .before .before .before .before .before .before .before .before .before .before .before .before .before .before .args .keys .now) (c .before .before .before .before .before .before .before .before .before .before .before .before .before .before .args .nc) (c .before .before .before .before .before .before .before .before .before .before .before .before .before .before .args .ns) (c .before .before .before .before .counts-of .result) (c .before .before .before .before .before .before .before .before .before .before .before .before .before .before .pre .0 .keyed) (c .before .before .before .before .counts-of .ensures) (c .before .before .before .before .before .before .before .before .before .before .before .before .before .before .pre .1 .1 .1 .1 .1 .1 .1 .0), (types-small (c .before .before .before .before .before .before .before .before .before .before .before .before .before .before .args .f .now) (count (c .before .before .before .before .before .before .before .before .before .before .before .before .before .before .args .f .now)) (c .before .before .before .before .before .before .before .before .before .before .before .before .before .before .args .x) (c .before .before .before .before .before .before .before .before .before .before .before .before .before .before .args .i) (c .before .before .before .first-from .result) (c .before .before .before .before .before .before .before .before .before .before .before .before .before .before .args .e) (c .before .before .before .before .before .before .before .before .before .before .before .before .before .before .pre .1 .0) (c .before .before .before .before .before .before .before .before .before .before .before .before .before .before .pre .1 .1 .1 .1 .1 .0) (c .before .before .before .first-from .ensures) (c .before .before .before .before .before .before .before .before .before .before .before .before .before .before .args .statements .now) (c .before .before .before .before .before .before .before .before .before .before .before .before .before .before .args .m) (c .before .before .before .before .before .before .before .before .before .before .before .before .before .before .args .domains .now) (c .before .before .before .before .before .before .before .before .before .before .before .before .before .before .args .ranges .now) (c .before .before .before .before .before .before .before .before .before .before .before .before .before .before .args .keys .now) (c .before .before .before .before .before .before .before .before .before .before .before .before .before .before .args .nc) (c .before .before .before .before .before .before .before .before .before .before .before .before .before .before .args .ns) (c .before .before .before .before .counts-of .result) (c .before .before .before .before .before .before .before .before .before .before .before .before .before .before .pre .0 .keyed) (c .before .before .before .before .counts-of .ensures) (c .before .before .before .before .before .before .before .before .before .before .before .before .before .before .pre .1 .1 .1 .1 .1 .1 .1 .0) (c .before .before .before .before .before .before .before .before .before .before .before .before .before .before .pre .1 .1 .1 .1 .0), c .before .before .before .before .before .before .before .before .before .before .before .before .before .before .pre .1 .1 .1 .1 .1 .1 .1 .1 .1))))
+merge-counted-requires c κs = (omega (arith, (c .before .before .before .first-from .ensures) .high, c .before .before .before .before .before .before .before .before .before .before .before .before .before .before .before .pre .1 .1 .1 .1 .1 .0 .high, c .before .before .before .before .before .before .before .before .before .before .before .before .before .before .before .pre .1 .0 .fit, c .before .before .before .before .before .before .before .before .before .before .before .before .before .before .before .pre .0 .keyed .classes, c .before .before .before .before .before .before .before .before .before .before .before .before .before .before .before .pre .0 .keyed .columns), (types-rising (c .before .before .before .before .before .before .before .before .before .before .before .before .before .before .before .args .f .now) (count (c .before .before .before .before .before .before .before .before .before .before .before .before .before .before .before .args .f .now)) (c .before .before .before .before .before .before .before .before .before .before .before .before .before .before .before .args .task .own .term) (c .before .before .before .before .before .before .before .before .before .before .before .before .before .before .before .args .task .own .first) (c .before .before .before .first-from .result) (c .before .before .before .before .before .before .before .before .before .before .before .before .before .before .before .args .task .own .end) (c .before .before .before .before .before .before .before .before .before .before .before .before .before .before .before .pre .1 .0) (c .before .before .before .before .before .before .before .before .before .before .before .before .before .before .before .pre .1 .1 .1 .1 .1 .0) (c .before .before .before .first-from .ensures), (keys-rising (c .before .before .before .before .before .before .before .before .before .before .before .before .before .before .before .args .f .now) (count (c .before .before .before .before .before .before .before .before .before .before .before .before .before .before .before .args .f .now)) (c .before .before .before .before .before .before .before .before .before .before .before .before .before .before .before .args .task .own .term) (c .before .before .before .before .before .before .before .before .before .before .before .before .before .before .before .args .task .own .first) (c .before .before .before .first-from .result) (c .before .before .before .before .before .before .before .before .before .before .before .before .before .before .before .args .task .own .end) (c .before .before .before .before .before .before .before .before .before .before .before .before .before .before .before .pre .1 .0) (c .before .before .before .before .before .before .before .before .before .before .before .before .before .before .before .pre .1 .1 .1 .1 .1 .0) (c .before .before .before .first-from .ensures) (c .before .before .before .before .before .before .before .before .before .before .before .before .before .before .before .args .statements .now) (c .before .before .before .before .before .before .before .before .before .before .before .before .before .before .before .args .task .sizes .statements) (c .before .before .before .before .before .before .before .before .before .before .before .before .before .before .before .args .domains .now) (c .before .before .before .before .before .before .before .before .before .before .before .before .before .before .before .args .ranges .now) (c .before .before .before .before .before .before .before .before .before .before .before .before .before .before .before .args .keys .now) (c .before .before .before .before .before .before .before .before .before .before .before .before .before .before .before .args .task .sizes .classes) (c .before .before .before .before .before .before .before .before .before .before .before .before .before .before .before .args .task .sizes .columns) (c .before .before .before .before .counts-of .result) (c .before .before .before .before .before .before .before .before .before .before .before .before .before .before .before .pre .0 .keyed) (c .before .before .before .before .counts-of .ensures) (c .before .before .before .before .before .before .before .before .before .before .before .before .before .before .before .pre .1 .1 .1 .1 .1 .1 .1 .0), (types-small (c .before .before .before .before .before .before .before .before .before .before .before .before .before .before .before .args .f .now) (count (c .before .before .before .before .before .before .before .before .before .before .before .before .before .before .before .args .f .now)) (c .before .before .before .before .before .before .before .before .before .before .before .before .before .before .before .args .task .own .term) (c .before .before .before .before .before .before .before .before .before .before .before .before .before .before .before .args .task .own .first) (c .before .before .before .first-from .result) (c .before .before .before .before .before .before .before .before .before .before .before .before .before .before .before .args .task .own .end) (c .before .before .before .before .before .before .before .before .before .before .before .before .before .before .before .pre .1 .0) (c .before .before .before .before .before .before .before .before .before .before .before .before .before .before .before .pre .1 .1 .1 .1 .1 .0) (c .before .before .before .first-from .ensures) (c .before .before .before .before .before .before .before .before .before .before .before .before .before .before .before .args .statements .now) (c .before .before .before .before .before .before .before .before .before .before .before .before .before .before .before .args .task .sizes .statements) (c .before .before .before .before .before .before .before .before .before .before .before .before .before .before .before .args .domains .now) (c .before .before .before .before .before .before .before .before .before .before .before .before .before .before .before .args .ranges .now) (c .before .before .before .before .before .before .before .before .before .before .before .before .before .before .before .args .keys .now) (c .before .before .before .before .before .before .before .before .before .before .before .before .before .before .before .args .task .sizes .classes) (c .before .before .before .before .before .before .before .before .before .before .before .before .before .before .before .args .task .sizes .columns) (c .before .before .before .before .counts-of .result) (c .before .before .before .before .before .before .before .before .before .before .before .before .before .before .before .pre .0 .keyed) (c .before .before .before .before .counts-of .ensures) (c .before .before .before .before .before .before .before .before .before .before .before .before .before .before .before .pre .1 .1 .1 .1 .1 .1 .1 .0) (c .before .before .before .before .before .before .before .before .before .before .before .before .before .before .before .pre .1 .1 .1 .1 .0), c .before .before .before .before .before .before .before .before .before .before .before .before .before .before .before .pre .1 .1 .1 .1 .1 .1 .1 .1 .1))))
 
 property-rows-requires : tie.Need-property-rows-requires
-property-rows-requires c κs = (c .before .before .before .before .before .before .before .before .before .before .before .before .before .before .before .before .before .before .before .before .before .before .before .before .pre .0 .statements, (c .before .before .before .before .before .before .before .before .before .before .before .before .before .before .before .before .before .before .before .before .before .before .before .before .pre .0 .domains, (c .before .before .before .before .before .before .before .before .before .before .before .before .before .before .before .before .before .before .before .before .before .before .before .before .pre .0 .keyed, (c .before .before .before .before .before .before .before .before .before .before .before .before .before .before .before .before .before .before .before .before .before .before .before .before .pre .1 .0, ((c .before .before .before .before .before .before .before .before .before .before .before .before .before .before .before .before .before .before .before .before .before .before .before .before .pre .0 .rows, (c .before .before .before .before .before .before .before .before .before .before .before .before .before .first-from .ensures) .high, c .before .before .before .before .before .before .before .before .before .before .before .before .before .before .before .before .before .before .before .before .before .before .before .before .pre .1 .1 .1 .1 .1 .0 .high, c .before .before .before .before .before .before .before .before .before .before .before .before .before .before .before .before .before .before .before .before .before .before .before .before .pre .1 .1 .1 .1 .1 .1 .1 .1 .0 .0, c .before .before .before .before .before .before .before .before .before .before .before .before .before .before .before .before .before .before .before .before .before .before .before .before .pre .1 .1 .1 .1 .1 .1 .1 .1 .0 .1), ((λ y l u. c .before .before .before .before .before .before .before .before .before .before .before .before .before .before .before .before .before .before .before .before .before .before .before .before .pre .1 .1 .1 .1 .1 .0 .all y (omega (arith, (c .before .before .before .before .before .before .before .before .before .before .before .before .before .first-from .ensures) .low)) u), ((c .before .before .before .before .before .before .before .before .before .before .before .before .before .first-from .ensures) .after, (uncounted (c .before .before .before .before .before .before .before .before .before .before .before .before .before .before .before .before .before .before .before .before .before .before .before .before .args .f .now) (count (c .before .before .before .before .before .before .before .before .before .before .before .before .before .before .before .before .before .before .before .before .before .before .before .before .args .f .now)) (c .before .before .before .before .before .before .before .before .before .before .before .before .before .before .before .before .before .before .before .before .before .before .before .before .args .x) (c .before .before .before .before .before .before .before .before .before .before .before .before .before .before .before .before .before .before .before .before .before .before .before .before .args .i) (c .before .before .before .before .before .before .before .before .before .before .before .before .before .first-from .result) (c .before .before .before .before .before .before .before .before .before .before .before .before .before .before .before .before .before .before .before .before .before .before .before .before .args .e) (c .before .before .before .before .before .before .before .before .before .before .before .before .before .before .before .before .before .before .before .before .before .before .before .before .pre .1 .0) (c .before .before .before .before .before .before .before .before .before .before .before .before .before .before .before .before .before .before .before .before .before .before .before .before .pre .1 .1 .1 .1 .1 .0) (c .before .before .before .before .before .before .before .before .before .before .before .before .before .first-from .ensures) (c .before .before .before .before .before .before .before .before .before .before .before .before .before .before .before .before .before .before .before .before .before .before .before .before .args .statements .now) (c .before .before .before .before .before .before .before .before .before .before .before .before .before .before .before .before .before .before .before .before .before .before .before .before .args .m) (c .before .before .before .before .before .before .before .before .before .before .before .before .before .before .before .before .before .before .before .before .before .before .before .before .args .domains .now) (c .before .before .before .before .before .before .before .before .before .before .before .before .before .before .before .before .before .before .before .before .before .before .before .before .args .ranges .now) (c .before .before .before .before .before .before .before .before .before .before .before .before .before .before .before .before .before .before .before .before .before .before .before .before .args .keys .now) (c .before .before .before .before .before .before .before .before .before .before .before .before .before .before .before .before .before .before .before .before .before .before .before .before .args .nc) (c .before .before .before .before .before .before .before .before .before .before .before .before .before .before .before .before .before .before .before .before .before .before .before .before .args .ns) (c .before .before .before .before .before .before .before .before .before .before .before .before .before .before .counts-of .result) (c .before .before .before .before .before .before .before .before .before .before .before .before .before .before .before .before .before .before .before .before .before .before .before .before .pre .0 .keyed) (c .before .before .before .before .before .before .before .before .before .before .before .before .before .before .counts-of .ensures) (c .before .before .before .before .before .before .before .before .before .before .before .before .before .before .before .before .before .before .before .before .before .before .before .before .pre .1 .1 .1 .1 .1 .1 .1 .0) (c .before .before .before .before .before .before .before .before .before .before .before .before .before .before .before .before .before .before .before .before .before .before .before .before .pre .0), omega (arith, c .before .before .before .before .before .before .before .before .before .before .before .before .before .before .before .before .before .before .before .before .before .before .before .before .pre .1 .1 .1 .1 .1 .1 .1 .1 .1, c .before .before .before .before .before .before .before .before .before .merge-counted .kept .1 .1 .1 .1 .1 .1 .1 .1 .0, c .before .before .before .before .before .before .before .before .before .merge-counted .kept .1 .1 .1 .1 .1 .1 .1 .1 .1 .0)))))))))
+property-rows-requires c κs = (c .before .before .before .before .before .before .before .before .before .before .before .before .before .before .before .before .before .before .before .before .before .before .before .before .pre .0 .statements, (c .before .before .before .before .before .before .before .before .before .before .before .before .before .before .before .before .before .before .before .before .before .before .before .before .pre .0 .domains, (c .before .before .before .before .before .before .before .before .before .before .before .before .before .before .before .before .before .before .before .before .before .before .before .before .pre .0 .keyed, (c .before .before .before .before .before .before .before .before .before .before .before .before .before .before .before .before .before .before .before .before .before .before .before .before .pre .1 .0, ((c .before .before .before .before .before .before .before .before .before .before .before .before .before .before .before .before .before .before .before .before .before .before .before .before .pre .0 .rows, (c .before .before .before .before .before .before .before .before .before .before .before .before .first-from .ensures) .high, c .before .before .before .before .before .before .before .before .before .before .before .before .before .before .before .before .before .before .before .before .before .before .before .before .pre .1 .1 .1 .1 .1 .0 .high, c .before .before .before .before .before .before .before .before .before .before .before .before .before .before .before .before .before .before .before .before .before .before .before .before .pre .1 .1 .1 .1 .1 .1 .1 .1 .0), ((λ y l u. c .before .before .before .before .before .before .before .before .before .before .before .before .before .before .before .before .before .before .before .before .before .before .before .before .pre .1 .1 .1 .1 .1 .0 .all y (omega (arith, (c .before .before .before .before .before .before .before .before .before .before .before .before .first-from .ensures) .low)) u), ((c .before .before .before .before .before .before .before .before .before .before .before .before .first-from .ensures) .after, (uncounted (c .before .before .before .before .before .before .before .before .before .before .before .before .before .before .before .before .before .before .before .before .before .before .before .before .args .f .now) (count (c .before .before .before .before .before .before .before .before .before .before .before .before .before .before .before .before .before .before .before .before .before .before .before .before .args .f .now)) (c .before .before .before .before .before .before .before .before .before .before .before .before .before .before .before .before .before .before .before .before .before .before .before .before .args .task .own .term) (c .before .before .before .before .before .before .before .before .before .before .before .before .before .before .before .before .before .before .before .before .before .before .before .before .args .task .own .first) (c .before .before .before .before .before .before .before .before .before .before .before .before .first-from .result) (c .before .before .before .before .before .before .before .before .before .before .before .before .before .before .before .before .before .before .before .before .before .before .before .before .args .task .own .end) (c .before .before .before .before .before .before .before .before .before .before .before .before .before .before .before .before .before .before .before .before .before .before .before .before .pre .1 .0) (c .before .before .before .before .before .before .before .before .before .before .before .before .before .before .before .before .before .before .before .before .before .before .before .before .pre .1 .1 .1 .1 .1 .0) (c .before .before .before .before .before .before .before .before .before .before .before .before .first-from .ensures) (c .before .before .before .before .before .before .before .before .before .before .before .before .before .before .before .before .before .before .before .before .before .before .before .before .args .statements .now) (c .before .before .before .before .before .before .before .before .before .before .before .before .before .before .before .before .before .before .before .before .before .before .before .before .args .task .sizes .statements) (c .before .before .before .before .before .before .before .before .before .before .before .before .before .before .before .before .before .before .before .before .before .before .before .before .args .domains .now) (c .before .before .before .before .before .before .before .before .before .before .before .before .before .before .before .before .before .before .before .before .before .before .before .before .args .ranges .now) (c .before .before .before .before .before .before .before .before .before .before .before .before .before .before .before .before .before .before .before .before .before .before .before .before .args .keys .now) (c .before .before .before .before .before .before .before .before .before .before .before .before .before .before .before .before .before .before .before .before .before .before .before .before .args .task .sizes .classes) (c .before .before .before .before .before .before .before .before .before .before .before .before .before .before .before .before .before .before .before .before .before .before .before .before .args .task .sizes .columns) (c .before .before .before .before .before .before .before .before .before .before .before .before .before .counts-of .result) (c .before .before .before .before .before .before .before .before .before .before .before .before .before .before .before .before .before .before .before .before .before .before .before .before .pre .0 .keyed) (c .before .before .before .before .before .before .before .before .before .before .before .before .before .counts-of .ensures) (c .before .before .before .before .before .before .before .before .before .before .before .before .before .before .before .before .before .before .before .before .before .before .before .before .pre .1 .1 .1 .1 .1 .1 .1 .0) (c .before .before .before .before .before .before .before .before .before .before .before .before .before .before .before .before .before .before .before .before .before .before .before .before .pre .0), omega (arith, c .before .before .before .before .before .before .before .before .before .before .before .before .before .before .before .before .before .before .before .before .before .before .before .before .pre .1 .1 .1 .1 .1 .1 .1 .1 .1, c .before .before .before .before .before .before .before .before .merge-counted .kept .1 .1 .1 .1 .1 .0, c .before .before .before .before .before .before .before .before .merge-counted .kept .1 .1 .1 .1 .1 .1 .0)))))))))
 
 same-length : tie.Need-same-length
 same-length c = search needs
@@ -30,11 +30,8 @@ same-length-2 c = search needs
 same-length-3 : tie.Need-same-length-3
 same-length-3 c = search needs
 
-same-length-4 : tie.Need-same-length-4
-same-length-4 c = search needs
-
 returns : tie.Need-returns
-returns c = subject-rows-of (c .before .before .before .before .before .before .before .before .before .before .before .before .before .before .before .before .before .before .before .before .before .before .before .before .before .before .before .before .before .before .before .before .before .args .f .now) (count (c .before .before .before .before .before .before .before .before .before .before .before .before .before .before .before .before .before .before .before .before .before .before .before .before .before .before .before .before .before .before .before .before .before .args .f .now)) (c .before .before .before .before .before .before .before .before .before .before .before .before .before .before .before .before .before .before .before .before .before .before .before .before .before .before .before .before .before .before .before .before .before .args .x) (c .before .before .before .before .before .before .before .before .before .before .before .before .before .before .before .before .before .before .before .before .before .before .before .before .before .before .before .before .before .before .before .before .before .args .i) (c .before .before .before .before .before .before .before .before .before .before .before .before .before .before .before .before .before .before .before .before .before .before .first-from .result) (c .before .before .before .before .before .before .before .before .before .before .before .before .before .before .before .before .before .before .before .before .before .before .before .before .before .before .before .before .before .before .before .before .before .args .e) (c .before .before .before .before .before .before .before .before .before .before .before .before .before .before .before .before .before .before .before .before .before .before .before .before .before .before .before .before .before .before .before .before .before .pre .1 .0) (c .before .before .before .before .before .before .before .before .before .before .before .before .before .before .before .before .before .before .before .before .before .before .before .before .before .before .before .before .before .before .before .before .before .pre .1 .1 .1 .1 .1 .0) (c .before .before .before .before .before .before .before .before .before .before .before .before .before .before .before .before .before .before .before .before .before .before .first-from .ensures) (c .before .before .before .before .before .before .before .before .before .before .before .before .before .before .before .before .before .before .before .before .before .before .before .before .before .before .before .before .before .before .before .before .before .args .statements .now) (c .before .before .before .before .before .before .before .before .before .before .before .before .before .before .before .before .before .before .before .before .before .before .before .before .before .before .before .before .before .before .before .before .before .args .m) (c .before .before .before .before .before .before .before .before .before .before .before .before .before .before .before .before .before .before .before .before .before .before .before .before .before .before .before .before .before .before .before .before .before .args .domains .now) (c .before .before .before .before .before .before .before .before .before .before .before .before .before .before .before .before .before .before .before .before .before .before .before .before .before .before .before .before .before .before .before .before .before .args .ranges .now) (c .before .before .before .before .before .before .before .before .before .before .before .before .before .before .before .before .before .before .before .before .before .before .before .before .before .before .before .before .before .before .before .before .before .args .keys .now) (c .before .before .before .before .before .before .before .before .before .before .before .before .before .before .before .before .before .before .before .before .before .before .before .before .before .before .before .before .before .before .before .before .before .args .nc) (c .before .before .before .before .before .before .before .before .before .before .before .before .before .before .before .before .before .before .before .before .before .before .before .before .before .before .before .before .before .before .before .before .before .args .ns) (c .before .before .before .before .before .before .before .before .before .before .before .before .before .before .before .before .before .before .before .before .before .before .before .counts-of .result) (c .before .before .before .before .before .before .before .before .before .before .before .before .before .before .before .before .before .before .before .before .before .before .before .before .before .before .before .before .before .before .before .before .before .pre .0 .keyed) (c .before .before .before .before .before .before .before .before .before .before .before .before .before .before .before .before .before .before .before .before .before .before .before .counts-of .ensures) (c .before .before .before .before .before .before .before .before .before .before .before .before .before .before .before .before .before .before .before .before .before .before .before .before .before .before .before .before .before .before .before .before .before .pre .1 .1 .1 .1 .1 .1 .1 .0) (c .before .before .before .before .before .before .before .before .before .before .before .before .before .before .before .before .before .before .before .before .before .before .before .before .before .before .before .before .before .before .before .before .before .pre .0) _ _ _ _ (c .before .before .before .before .before .before .before .before .before .before .before .before .before .before .before .before .before .before .merge-counted .ensures) (c .before .before .before .before .before .before .before .before .property-rows .ensures)
+returns c = subject-rows-of (c .before .before .before .before .before .before .before .before .before .before .before .before .before .before .before .before .before .before .before .before .before .before .before .before .before .before .before .before .before .before .before .args .f .now) (count (c .before .before .before .before .before .before .before .before .before .before .before .before .before .before .before .before .before .before .before .before .before .before .before .before .before .before .before .before .before .before .before .args .f .now)) (c .before .before .before .before .before .before .before .before .before .before .before .before .before .before .before .before .before .before .before .before .before .before .before .before .before .before .before .before .before .before .before .args .task .own .term) (c .before .before .before .before .before .before .before .before .before .before .before .before .before .before .before .before .before .before .before .before .before .before .before .before .before .before .before .before .before .before .before .args .task .own .first) (c .before .before .before .before .before .before .before .before .before .before .before .before .before .before .before .before .before .before .before .first-from .result) (c .before .before .before .before .before .before .before .before .before .before .before .before .before .before .before .before .before .before .before .before .before .before .before .before .before .before .before .before .before .before .before .args .task .own .end) (c .before .before .before .before .before .before .before .before .before .before .before .before .before .before .before .before .before .before .before .before .before .before .before .before .before .before .before .before .before .before .before .pre .1 .0) (c .before .before .before .before .before .before .before .before .before .before .before .before .before .before .before .before .before .before .before .before .before .before .before .before .before .before .before .before .before .before .before .pre .1 .1 .1 .1 .1 .0) (c .before .before .before .before .before .before .before .before .before .before .before .before .before .before .before .before .before .before .before .first-from .ensures) (c .before .before .before .before .before .before .before .before .before .before .before .before .before .before .before .before .before .before .before .before .before .before .before .before .before .before .before .before .before .before .before .args .statements .now) (c .before .before .before .before .before .before .before .before .before .before .before .before .before .before .before .before .before .before .before .before .before .before .before .before .before .before .before .before .before .before .before .args .task .sizes .statements) (c .before .before .before .before .before .before .before .before .before .before .before .before .before .before .before .before .before .before .before .before .before .before .before .before .before .before .before .before .before .before .before .args .domains .now) (c .before .before .before .before .before .before .before .before .before .before .before .before .before .before .before .before .before .before .before .before .before .before .before .before .before .before .before .before .before .before .before .args .ranges .now) (c .before .before .before .before .before .before .before .before .before .before .before .before .before .before .before .before .before .before .before .before .before .before .before .before .before .before .before .before .before .before .before .args .keys .now) (c .before .before .before .before .before .before .before .before .before .before .before .before .before .before .before .before .before .before .before .before .before .before .before .before .before .before .before .before .before .before .before .args .task .sizes .classes) (c .before .before .before .before .before .before .before .before .before .before .before .before .before .before .before .before .before .before .before .before .before .before .before .before .before .before .before .before .before .before .before .args .task .sizes .columns) (c .before .before .before .before .before .before .before .before .before .before .before .before .before .before .before .before .before .before .before .before .counts-of .result) (c .before .before .before .before .before .before .before .before .before .before .before .before .before .before .before .before .before .before .before .before .before .before .before .before .before .before .before .before .before .before .before .pre .0 .keyed) (c .before .before .before .before .before .before .before .before .before .before .before .before .before .before .before .before .before .before .before .before .counts-of .ensures) (c .before .before .before .before .before .before .before .before .before .before .before .before .before .before .before .before .before .before .before .before .before .before .before .before .before .before .before .before .before .before .before .pre .1 .1 .1 .1 .1 .1 .1 .0) (c .before .before .before .before .before .before .before .before .before .before .before .before .before .before .before .before .before .before .before .before .before .before .before .before .before .before .before .before .before .before .before .pre .0) _ _ _ _ (c .before .before .before .before .before .before .before .before .before .before .before .before .before .before .before .merge-counted .ensures) (c .before .before .before .before .before .before .property-rows .ensures)
 
 pub subject-rows-spec : {M : Type 1} → statement M
 subject-rows-spec =
@@ -47,5 +44,4 @@ subject-rows-spec =
     same-length
     same-length-2
     same-length-3
-    same-length-4
     returns)

@@ -2,10 +2,10 @@
 use mathlib.Core.Path.{refl}
 use native.Mathlib.Omega.{arith}
 use lib.ListN.{length-set}
-use Rattle.update_kept.specs.inside.Entries.{putRow}
+use Rattle.table.specs.inside.Words.{putRow}
 use borrow.Author.Needs.{needs}
-use Rattle.update_kept.proofs.put_entry.Statement.{statement}
-use Rattle.update_kept.proofs.put_entry.Tie as tie
+use Rattle.table.proofs.put_entry.Statement.{statement}
+use Rattle.table.proofs.put_entry.Tie as tie
 
 mul-at : tie.Need-mul-at
 mul-at c = search needs
