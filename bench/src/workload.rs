@@ -150,6 +150,8 @@ pub fn questions(facts: &[Triple]) -> Vec<(&'static str, Vec<u32>)> {
         ("all properties of the members of a class", question(&[[x, 1, CLASS + 26], [x, y, z]], &[x, y, z])),
         ("y is of class z, where x has y", question(&[[x, PROPERTY + 3, y], [y, 1, z]], &[y, z])),
         ("a zigzag over two shared objects", question(&[[x, PROPERTY + 1, u], [y, PROPERTY + 1, u], [y, PROPERTY + 2, v], [z, PROPERTY + 2, v]], &[x, z])),
+        ("x has y, and z is related to y", question(&[[x, PROPERTY + 3, y], [z, u, y]], &[x, z])),
+        ("x is of a class of a thing", question(&[[THING + 17, 1, y], [x, 1, y]], &[x])),
         ("a chain from a known end", question(&[[z, PROPERTY + 1, end], [y, PROPERTY + 2, z], [x, PROPERTY + 1, y]], &[x])),
     ]
 }

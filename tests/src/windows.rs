@@ -36,7 +36,7 @@ const VU: u32 = VARIABLE + 4;
 type Case = fn(&mut Session, u32) -> Result<(), Failure>;
 
 /// All cases, by name.
-pub const CASES: [(&str, fn(&mut Harness) -> Result<(), Failure>); 10] = [
+pub const CASES: [(&str, fn(&mut Harness) -> Result<(), Failure>); 14] = [
     ("windows of objects, the kept way", |h| run(h, kept_objects)),
     ("windows of objects, the rewritten way", |h| run(h, objects)),
     ("windows of one object", |h| run(h, one_object)),
@@ -47,6 +47,10 @@ pub const CASES: [(&str, fn(&mut Harness) -> Result<(), Failure>); 10] = [
     ("windows of a zigzag", |h| run(h, zigzag)),
     ("windows of a chain from a known end", |h| run(h, known_end)),
     ("windows of things of two variables", |h| run(h, two_variables)),
+    ("windows of things by their class", |h| run(h, by_class)),
+    ("windows of any property", |h| run(h, by_any_property)),
+    ("windows of any property, which is known", |h| run(h, by_known_property)),
+    ("windows of few matches", |h| run(h, few_matches)),
 ];
 
 /// Runs a case with little to gather beside the model, and with more than fits by itself.
@@ -288,6 +292,87 @@ fn two_variables(session: &mut Session, n: u32) -> Result<(), Failure> {
     for (property, rows) in [(A, all), (B, few.map(|[x, _, y]| [x, y]).collect())] {
         let atoms = [[VX, TYPE, CLASS], [VY, TYPE, CLASS + 1], [VX, property, VY]];
         ask(session, way, &atoms, [VX, VY], rows)?;
+    }
+    Ok(())
+}
+
+/// Two things are of each class, and some classes are objects of B, each of one fact: facts, and what
+/// each such fact is joined to, the number of the class and the two things.
+fn classified(things: u32, of_b: u32) -> (Vec<Triple>, Vec<[u32; 2]>) {
+    let step = things / 2 / of_b;
+    let mut facts: Vec<Triple> = (0..things).map(|i| [X + i, TYPE, Z + (things - 1 - i) / 2]).collect();
+    facts.extend((0..of_b).map(|j| [Y + j, B, Z + j * step]));
+    let of = |j: u32| [0, 1].map(|k| [Y + j, X + things - 1 - 2 * j * step - k]);
+    (facts, (0..of_b).flat_map(of).collect())
+}
+
+/// By each way many things and few facts of B, and as many facts of B as classes.
+fn sizes(n: u32) -> [(Way, u32, u32); 4] {
+    let small = n / 2;
+    [
+        (Way::Kept, 2 * n, 5),
+        (Way::Kept, 2 * n, n),
+        (Way::Rewritten, n - 9, 5),
+        (Way::Rewritten, small, small / 2),
+    ]
+}
+
+/// The class of a thing is looked up by the class, which is known.
+fn by_class(session: &mut Session, n: u32) -> Result<(), Failure> {
+    for (way, things, of_b) in sizes(n) {
+        let (facts, rows) = classified(things, of_b);
+        lend(session, &[], way, facts)?;
+        let atoms = [[VY, B, VZ], [VX, TYPE, VZ]];
+        ask(session, way, &atoms, [VY, VX], rows)?;
+    }
+    Ok(())
+}
+
+/// Facts of any property, and statements, are looked up by the object, which is known.
+fn by_any_property(session: &mut Session, n: u32) -> Result<(), Failure> {
+    for (way, things, of_b) in sizes(n) {
+        let (facts, rows) = classified(things, of_b);
+        lend(session, &[[CLASS, SUBCLASS, Z]], way, facts)?;
+        let mut rows: Vec<[u32; 3]> = rows.iter().map(|[y, x]| [*y, TYPE, *x]).collect();
+        rows.extend((0..of_b).map(|j| [Y + j, B, Y + j]));
+        rows.push([Y, SUBCLASS, CLASS]);
+        let atoms = [[VY, B, VZ], [VX, VU, VZ]];
+        ask(session, way, &atoms, [VY, VU, VX], rows)?;
+    }
+    Ok(())
+}
+
+/// The same by a property that is known too: thing i and its neighbour share an object of A or B.
+fn by_known_property(session: &mut Session, n: u32) -> Result<(), Failure> {
+    let n = n + n / 2;
+    let by = |i: u32| if i / 2 % 2 == 0 { A } else { B };
+    let facts = (0..n).map(|i| [X + i, by(i), Z + (n - 1 - i) / 4]).collect();
+    lend(session, &[], Way::Kept, facts)?;
+    let alike = |i: u32, k: u32| by(i) == by(k) && (n - 1 - i) / 4 == (n - 1 - k) / 4;
+    let near = |i: u32| i.saturating_sub(3)..n.min(i + 4);
+    let of = |i: u32| near(i).filter(move |&k| alike(i, k)).map(move |k| [X + i, X + k]);
+    let rows = (0..n).flat_map(of).collect();
+    let atoms = [[VX, VU, VZ], [VY, VU, VZ]];
+    ask(session, Way::Kept, &atoms, [VX, VY], rows)
+}
+
+/// A named thing has a few objects, or some more, that many facts have too: of one property, of
+/// rdf:type and of any.
+fn few_matches(session: &mut Session, n: u32) -> Result<(), Failure> {
+    for (way, n) in [(Way::Kept, 3 * n + 7), (Way::Rewritten, n / 2 + 90)] {
+        for few in [3, 16, 17, 40] {
+            for property in [A, TYPE] {
+                let mut facts: Vec<Triple> = (0..n).map(|i| [X + i, property, Z + i / 2]).collect();
+                let step = (n - 2) / 2 / few;
+                facts.extend((0..few).map(|j| [W, B, Z + j * step]));
+                lend(session, &[], way, facts)?;
+                let things = (0..few).flat_map(|j| [0, 1].map(|k| [X + 2 * j * step + k]));
+                let mut rows: Vec<[u32; 1]> = things.collect();
+                ask(session, way, &[[W, B, VZ], [VX, property, VZ]], [VX], rows.clone())?;
+                rows.push([W]);
+                ask(session, way, &[[W, B, VZ], [VX, VU, VZ]], [VX], rows)?;
+            }
+        }
     }
     Ok(())
 }
