@@ -8,7 +8,7 @@ use native.Mathlib.Decide.{ℕ-discrete, decLt}
 use lib.ListN.{getD}
 use Rattle.spec.specs.declared.Triple.{Triple}
 use Rattle.spec.specs.Terms.{triple}
-use Rattle.spec.specs.Order.{Less, by-subject, by-property, by-object}
+use Rattle.spec.specs.inside.Comparison.{Less, by-subject, by-property, by-object}
 use Rattle.spec.specs.Tables.{rowAt}
 use Rattle.table.specs.inside.Bounds.{Below}
 use Rattle.table.proofs.SearchLaws.{rows-less}

@@ -5,7 +5,8 @@ use mathlib.Core.Bool.{Bool, true, false}
 use mathlib.Core.List.{List}
 use lib.ListN.{length, drop}
 use Rattle.spec.specs.declared.Triple.{Triple}
-use Rattle.spec.specs.Order.{Less, isAscending}
+use Rattle.spec.specs.Order.{isAscending}
+use Rattle.spec.specs.inside.Comparison.{Less}
 use Rattle.spec.specs.Tables.{rowAt, firstRows}
 
 -- The test r tells whether P holds.
