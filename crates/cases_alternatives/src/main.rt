@@ -1,6 +1,7 @@
 // Runs document 01's cases about alternatives: prints each reply, and every word of the output, which was all 7 before the call.
 use cases_printing::print_replied;
 use query_alternatives::alternatives;
+use report::no_statements;
 use spec::Triple;
 ghost use mathlib.Core.Path.{_≡_};
 ghost use Prim.Native.Nat.{_≤_};
@@ -75,13 +76,6 @@ fn steps() {
     );
 }
 
-// Room for 512 statements.
-fn no_statements() -> [u32; 1537]
-    ensures { λ r. ⌜ r ≡ replicate 1537 0 ⌝ }
-{
-    [0u32; 1537]
-}
-
 // Room for 513 rows, all 7.
 fn sevens() -> [u32; 1539]
     ensures { λ r. ⌜ r ≡ replicate 1539 7 ⌝ }
@@ -89,14 +83,14 @@ fn sevens() -> [u32; 1539]
     [7u32; 1539]
 }
 
-// A chain of 512 subclass steps: each class but the last is a source. The last two rows alone are printed.
+// A chain of 512 subclass steps: each class but the last is a source.
 fn chain() {
     let mut statements = no_statements();
     fill_chain(&mut statements);
     let mut out = sevens();
     io::write_all(1, b"chain of 512 steps\n");
     let reply = alternatives(&statements, atom(V0, 1, 528), &mut out);
-    print_replied(reply, &out[1533..], 3);
+    print_replied(reply, &out, 3);
 }
 
 // The statements 16 2 17, 17 2 18, .. of a chain of 512 steps.

@@ -1,9 +1,11 @@
 // Runs document 01's cases about updates: prints each answer, and the kept rows with their supports after each case.
+use report::no_facts;
+use report::no_kept;
+use report::no_statements;
+use report::no_supports;
 use spec::Answer;
 use spec::Triple;
-ghost use mathlib.Core.Path.{_≡_};
 ghost use Prim.Native.Nat.{_*_, _≤_};
-ghost use lib.ListN.{replicate};
 
 // The worked example's statements and facts, three words each.
 const EXAMPLE: [u32; 21] = [
@@ -76,34 +78,6 @@ fn main() {
     case(b"two subproperty steps\n", &STEPS);
     case(b"refused and idle\n", &REFUSED);
     full();
-}
-
-// Room for 512 statements.
-fn no_statements() -> [u32; 1537]
-    ensures { λ r. ⌜ r ≡ replicate 1537 0 ⌝ }
-{
-    [0u32; 1537]
-}
-
-// Room for 1,024 facts.
-fn no_facts() -> [u32; 3073]
-    ensures { λ r. ⌜ r ≡ replicate 3073 0 ⌝ }
-{
-    [0u32; 3073]
-}
-
-// Room for 4,096 kept facts.
-fn no_kept() -> [u32; 12289]
-    ensures { λ r. ⌜ r ≡ replicate 12289 0 ⌝ }
-{
-    [0u32; 12289]
-}
-
-// Room for their supports.
-fn no_supports() -> [u16; 4096]
-    ensures { λ r. ⌜ r ≡ replicate 4096 0 ⌝ }
-{
-    [0u16; 4096]
 }
 
 // The worked example, then 32 1 16 withdrawn, and withdrawn again.
