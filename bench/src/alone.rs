@@ -132,16 +132,28 @@ fn cell(duration: Duration, unit: Duration) -> String {
     format!("{} ({})", time(duration), times(duration, unit))
 }
 
-/// All questions by both ways on stores of several sizes. The last column has the growth of the time from the first store to the last,
-/// divided by that of the rows that the way is lent.
+/// A store, and the questions that it is asked, by name.
+pub type Asked = (Ours, Vec<(&'static str, Vec<u32>)>);
+
+/// A store of these statements and facts, saturated, with questions.
+pub fn asked(statements: &[Triple], facts: &[Triple], questions: Vec<(&'static str, Vec<u32>)>) -> Asked {
+    let mut ours = Ours::new();
+    ours.store = saturated(statements, facts);
+    (ours, questions)
+}
+
+/// All questions by both ways on stores of several sizes.
 pub fn questions_by_size(scale: &Scale, statements: &[Triple], mix: Mix) -> Outcome<String> {
-    let mut stores = Vec::new();
-    for &n in &scale.sizes {
+    let store = |&n: &usize| {
         let facts = workload::facts(n, statements.len(), mix, 7);
-        let mut ours = Ours::new();
-        ours.store = saturated(statements, &facts);
-        stores.push((ours, workload::questions(&facts)));
-    }
+        asked(statements, &facts, workload::questions(&facts))
+    };
+    by_size(scale, scale.sizes.iter().map(store).collect())
+}
+
+/// The same questions by both ways on stores of several sizes. The last column has the growth of the time from the first store to the last,
+/// divided by that of the rows that the way is lent.
+pub fn by_size(scale: &Scale, mut stores: Vec<Asked>) -> Outcome<String> {
     let mut out = String::new();
     for (title, way, unit) in [("The kept way", Way::Kept, "kept rows"), ("The rewritten way", Way::Rewritten, "facts")] {
         progress(&format!("our library: questions by size: {}", title.to_lowercase()));

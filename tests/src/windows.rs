@@ -36,7 +36,7 @@ const VU: u32 = VARIABLE + 4;
 type Case = fn(&mut Session, u32) -> Result<(), Failure>;
 
 /// All cases, by name.
-pub const CASES: [(&str, fn(&mut Harness) -> Result<(), Failure>); 14] = [
+pub const CASES: [(&str, fn(&mut Harness) -> Result<(), Failure>); 16] = [
     ("windows of objects, the kept way", |h| run(h, kept_objects)),
     ("windows of objects, the rewritten way", |h| run(h, objects)),
     ("windows of one object", |h| run(h, one_object)),
@@ -51,6 +51,8 @@ pub const CASES: [(&str, fn(&mut Harness) -> Result<(), Failure>); 14] = [
     ("windows of any property", |h| run(h, by_any_property)),
     ("windows of any property, which is known", |h| run(h, by_known_property)),
     ("windows of few matches", |h| run(h, few_matches)),
+    ("a thing with many facts", many_facts),
+    ("an object of many facts", popular_object),
 ];
 
 /// Runs a case with little to gather beside the model, and with more than fits by itself.
@@ -375,4 +377,72 @@ fn few_matches(session: &mut Session, n: u32) -> Result<(), Failure> {
         }
     }
     Ok(())
+}
+
+/// How many facts of one property stand one behind the other: less than the library passes at once, as many, and more.
+const RUNS: [u32; 7] = [1, 31, 32, 33, 34, 65, 300];
+
+/// One thing has facts of few and of many properties, so many of each, also of rdf:type; a property
+/// is below another that has a domain and a range. Each question knows the thing, beside its
+/// neighbours, which have few facts.
+fn many_facts(harness: &mut Harness) -> Result<(), Failure> {
+    let statements = [
+        [A, SUBPROPERTY, B],
+        [B, DOMAIN, CLASS],
+        [A, RANGE, CLASS + 1],
+        [CLASS, SUBCLASS, CLASS + 2],
+    ];
+    for (properties, each) in RUNS.map(|each| (3, each)).into_iter().chain([(40, 3), (9, 40)]) {
+        let mut facts: Vec<Triple> = vec![[X - 1, A, Z], [X + 1, A, Z], [X, TYPE, CLASS + 3]];
+        let of = |p: u32| (0..each).map(move |i| [X, A + p, Z + i * 2]);
+        facts.extend((0..properties).flat_map(of));
+        facts.extend((0..each).map(|i| [X, TYPE, CLASS + 4 + i]));
+        for way in [Way::Kept, Way::Rewritten] {
+            let session = &mut Session::new(harness);
+            lend(session, &statements, way, facts.clone())?;
+            for object in [Z - 2, Z, Z + 1, Z + each - each % 2, Z + each * 2 - 2, Z + each * 2, CLASS, CLASS + 4] {
+                judged(session, way, &[[X, VY, object]], &[VY])?;
+                judged(session, way, &[[X, A + 1, object], [X, VY, object]], &[VY])?;
+            }
+            judged(session, way, &[[X, A + properties - 1, VY]], &[VY])?;
+            judged(session, way, &[[X, A + properties, VY]], &[VY])?;
+            judged(session, way, &[[X, TYPE, VY]], &[VY])?;
+            judged(session, way, &[[X, VY, VZ]], &[VY, VZ])?;
+            judged(session, way, &[[VX, A, VY], [VX, VZ, VY]], &[VX, VY, VZ])?;
+            judged(session, way, &[[VX, A, VY], [VX, TYPE, VZ]], &[VX, VZ])?;
+        }
+    }
+    Ok(())
+}
+
+/// One object has many facts of few and of many properties, of which some give it classes.
+fn popular_object(harness: &mut Harness) -> Result<(), Failure> {
+    for (properties, each) in [(1, 300), (4, 33), (60, 3)] {
+        let mut statements: Vec<Triple> = (0..properties)
+            .filter(|p| p % 3 != 1)
+            .map(|p| [A + p, RANGE, CLASS + p])
+            .collect();
+        statements.push([CLASS, SUBCLASS, CLASS + 100]);
+        let of = |p: u32| (0..each).map(move |i| [X + i, A + p, Z + p % 2 * (i % 2)]);
+        let facts: Vec<Triple> = (0..properties).flat_map(of).collect();
+        let way = Way::Rewritten;
+        let session = &mut Session::new(harness);
+        lend(session, &statements, way, facts)?;
+        for p in [0, properties - 1] {
+            judged(session, way, &[[VX, A + p, VY], [VY, TYPE, VZ]], &[VX, VY, VZ])?;
+            judged(session, way, &[[VX, A + p, VY], [VY, VW, VZ]], &[VX, VY, VW, VZ])?;
+        }
+        judged(session, way, &[[Z, TYPE, VY]], &[VY])?;
+        judged(session, way, &[[Z + 1, VW, VY]], &[VW, VY])?;
+    }
+    Ok(())
+}
+
+/// Asks by a way beside the model, which alone knows the rows.
+fn judged(session: &mut Session, way: Way, atoms: &[Triple], head: &[u32]) -> Result<(), Failure> {
+    let output = Output {
+        words: 20_000,
+        fill: 99,
+    };
+    session.expect(Call::Ask(way, question(atoms, head), output), 0)
 }

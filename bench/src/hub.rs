@@ -1,0 +1,56 @@
+//! Our library by itself where one thing has half of the facts, and where one object is that of half of the facts.
+
+use crate::alone::{asked, by_size, Asked};
+use crate::contest::Outcome;
+use crate::scale::Scale;
+use families::Triple;
+use workload::{question, variable, GROWING, THING};
+
+/// The thing with half of the facts, or the object of half of them.
+const HUB: u32 = 9;
+
+/// A property of these facts, one that it is below, a domain of the first and a range of the second.
+const PROPERTY: u32 = 20;
+const GENERAL: u32 = 21;
+const DOMAIN: u32 = 30;
+const RANGE: u32 = 31;
+
+/// What is stated of them; the range is below a class.
+const STATEMENTS: [Triple; 4] = [[PROPERTY, 3, GENERAL], [PROPERTY, 4, DOMAIN], [GENERAL, 5, RANGE], [RANGE, 2, RANGE + 1]];
+
+/// A store of so many facts, of which half are made of their number.
+fn store(n: usize, fact: impl Fn(u32) -> Triple, questions: Vec<(&'static str, Vec<u32>)>) -> Asked {
+    let mut facts = workload::facts(n - n / 2, 200, GROWING, 7);
+    facts.extend((0..n as u32 / 2).map(fact));
+    asked(&STATEMENTS, &facts, questions)
+}
+
+/// Questions about a thing with half of the facts.
+fn one_thing(n: usize) -> Asked {
+    let [x, y, z] = [0, 1, 2].map(variable);
+    let questions = vec![
+        ("x has a property y, and x is related to y by z", question(&[[x, PROPERTY, y], [x, z, y]], &[x, y, z])),
+        ("x has a property y, and x is of class z", question(&[[x, PROPERTY, y], [x, 1, z]], &[x, z])),
+    ];
+    store(n, |i| [HUB, PROPERTY, THING + i], questions)
+}
+
+/// Questions about an object of half of the facts.
+fn one_object(n: usize) -> Asked {
+    let [x, y, z, u] = [0, 1, 2, 3].map(variable);
+    let questions = vec![
+        ("x has a property y, and y is of class z", question(&[[x, PROPERTY, y], [y, 1, z]], &[x, z])),
+        ("x has a property y, and y is related to z by u", question(&[[x, PROPERTY, y], [y, u, z]], &[x, z, u])),
+    ];
+    store(n, |i| [THING + i, PROPERTY, HUB], questions)
+}
+
+/// Both, on stores of several sizes.
+pub fn hubs(scale: &Scale) -> Outcome<String> {
+    let mut out = String::new();
+    let of_object = "One object is that of half of the facts";
+    for (title, of) in [("One thing has half of the facts", one_thing as fn(usize) -> Asked), (of_object, one_object)] {
+        out += &format!("{title}.\n\n{}", by_size(scale, scale.sizes.iter().map(|&n| of(n)).collect())?);
+    }
+    Ok(out)
+}
