@@ -5,6 +5,7 @@ use mathlib.Core.Path.{_≡_, refl}
 use mathlib.Core.List.{List, [], _∷_, _++_, flatMap}
 use mathlib.Core.Logic.{Dec·and}
 use native.Mathlib.Decide.{ℕ-discrete, decLt}
+use Rattle.spec.specs.declared.Triple.{Triple}
 use Rattle.spec.specs.Terms.{isUri, isBlank, isLiteral, isVariable, isVocabulary, triple, isTriple, isStatement, areSidesAllowed, isAllowedStatement, isAllowedFact}
 use Rattle.spec.specs.Order.{compareNumbers, compareTriples, equalTriples, choose, byOrder, isAbove, isAscending, insert, remove, ascend}
 use Rattle.spec.specs.Rows.{less, insertOnce, ordered, flat}
@@ -16,7 +17,7 @@ use Rattle.spec.specs.declared.Reply.the-variants.{Rows, Refused as NotG
 use Rattle.spec.specs.Outputs.{areFitting, filled, Replied, replied, give}
 use Rattle.spec.specs.Questions.{atoms, head, isAtom, isLaidOut, isQuestion, standsInOne, isHeadBound, boundTo, isBound, bind, matchWord, matchTriple, solutions, answers, ask, askKept, askRewritten}
 use Rattle.spec.specs.Alternatives.{select, toClasses, toProperties, without, alternativesFrom, alternatives, reformulate}
-use Rattle.spec.specs.Deliveries.{short, word, entriesFrom, sectionEnd, sectionStart, fieldEnd, fieldsFrom, fieldsEnd, numberFields, read, isWhole, areSectionsRight, isNumberRight, numberOf, tally, tallied, runEntry, runEntries, runMessage, delivered, conclude, deliver}
+use Rattle.spec.specs.Deliveries.{Message, Update, progress, short, word, entriesFrom, sectionEnd, sectionStart, fieldEnd, fieldsFrom, fieldsEnd, numberFields, read, isWhole, areSectionsRight, isNumberRight, numberOf, tally, tallied, runEntry, runEntries, runMessage, delivered, conclude, deliver}
 use Rattle.spec.specs.Ledger.{Call, Ledger, ledger, entering, leaving, isMember, isBelow, isFitting, settle, enter, remit, receive, Given, answered, resulted, run, call, calls}
 use Rattle.spec.specs.Demand3.{ledgerRun}
 use Rattle.spec.specs.Runs.{callOf, callsFrom, encoded}
@@ -95,6 +96,29 @@ worked-ledger = refl
 pub worked-malformed : deliver (tables [] [] [] []) brokenDelivery ≡ (delivered 1 0 (tally 0 0 0), tables [] [] [] [])
 unfolding compute
 worked-malformed = refl
+
+-- ---- the sections of a delivery
+
+-- A message with one entry in each section.
+abbrev pub workedMessage : Message
+workedMessage =
+    record {
+      statementsWithdrawn = triple 16 2 17 ∷ [];
+      factsWithdrawn = triple 32 1 16 ∷ [];
+      statementsAdded = triple 19 3 20 ∷ [];
+      factsAdded = triple 32 19 33 ∷ [];
+      fields = [];
+    }
+
+-- An update that only notes, behind a mark, what it was asked.
+abbrev pub noted : ℕ → Update (List (ℕ × Triple))
+noted mark h t = (Applied, (mark, t) ∷ h)
+
+-- What is noted last stands in front: the sections run in their order, the first two as withdrawals, the others as additions.
+pub worked-sections : runMessage (noted 1) (noted 0) workedMessage (progress [] (tally 0 0 0)) ≡
+    progress ((1, triple 32 19 33) ∷ (1, triple 19 3 20) ∷ (0, triple 32 1 16) ∷ (0, triple 16 2 17) ∷ []) (tally 4 0 0)
+unfolding compute
+worked-sections = refl
 
 -- ---- questions after these calls
 
