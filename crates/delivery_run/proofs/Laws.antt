@@ -5,11 +5,11 @@ use mathlib.Core.Bool.{true}
 use mathlib.Core.List.{List, _∷_}
 use native.Mathlib.Omega.{arith}
 use lib.ListN.{length}
-use Rattle.spec.specs.Refusals.{firstNo}
+use Rattle.spec.specs.Refusals.{firstRefusal}
 use Rattle.spec.specs.Tables.{Tables, areFormed}
 use Rattle.spec.specs.declared.Change.the-variants.{Addition, Withdrawal}
 use Rattle.spec.specs.Updates.{update}
-use Rattle.spec.specs.Deliveries.{Message, read, isWhole, numberFields, numberOf, tally, Update, Progress, progress, runEntries, runMessage, delivered, messageQuestions, conclude, deliver}
+use Rattle.spec.specs.Deliveries.{Message, read, isWhole, numberFields, numberOf, tally, Update, Progress, progress, runEntries, runMessage, delivered, messageChecks, conclude, deliver}
 use Rattle.delivery_format.specs.Encoding.{Agree}
 use Rattle.delivery_format.proofs.Unknown.{unknown-sections, unknown-number}
 use Rattle.delivery_tally.specs.inside.Totals.{total}
@@ -26,7 +26,7 @@ conclude-refused f (suc k) m h n e = ap (λ (i : ℕ). (delivered i 0 (tally 0 0
 -- A refused delivery changes no word and reports zeros.
 pub deliver-refused : (T : Tables) (bs : List ℕ) (n : ℕ) → deliver T bs .0 .refusal ≡ suc n → deliver T bs ≡ (delivered (suc n) 0 (tally 0 0 0), T)
 unfolding deliver
-deliver-refused T bs n e = conclude-refused update (firstNo ((1, areFormed T) ∷ messageQuestions bs)) (read bs) T n e
+deliver-refused T bs n e = conclude-refused update (firstRefusal ((1, areFormed T) ∷ messageChecks bs)) (read bs) T n e
 
 -- ---- tallies
 
@@ -51,7 +51,7 @@ conclude-total f (suc k) m h e = absurd (omega arith)
 -- The tallies of a delivery that is not refused add up to the number of its entries.
 pub deliver-total : (T : Tables) (bs : List ℕ) → deliver T bs .0 .refusal ≡ 0 → deliver T bs .0 .applied + deliver T bs .0 .idle + deliver T bs .0 .refused ≡ entryCount (read bs)
 unfolding deliver
-deliver-total T bs e = conclude-total update (firstNo ((1, areFormed T) ∷ messageQuestions bs)) (read bs) T e
+deliver-total T bs e = conclude-total update (firstRefusal ((1, areFormed T) ∷ messageChecks bs)) (read bs) T e
 
 -- ---- unknown fields
 
@@ -71,5 +71,5 @@ module _ {m m' : Message} (S : Agree m m') where
 pub unknown-fields : (T : Tables) (bs cs : List ℕ) → isWhole bs ≡ true → isWhole cs ≡ true → Agree (read bs) (read cs) → deliver T bs ≡ deliver T cs
 unfolding deliver
 unknown-fields T bs cs e f S =
-    let q : firstNo ((1, areFormed T) ∷ messageQuestions bs) ≡ firstNo ((1, areFormed T) ∷ messageQuestions cs) = rw (e, f, unknown-sections (read bs) (read cs) S, S .numbers) refl in
-    rw q (same-conclusion S update (firstNo ((1, areFormed T) ∷ messageQuestions cs)) T)
+    let q : firstRefusal ((1, areFormed T) ∷ messageChecks bs) ≡ firstRefusal ((1, areFormed T) ∷ messageChecks cs) = rw (e, f, unknown-sections (read bs) (read cs) S, S .numbers) refl in
+    rw q (same-conclusion S update (firstRefusal ((1, areFormed T) ∷ messageChecks cs)) T)

@@ -5,7 +5,7 @@ use mathlib.Core.List.{List, [], _∷_}
 use Prim.Native.Nat.{ℕ}
 use Rattle.spec.specs.declared.Triple.{Triple}
 use Rattle.spec.specs.Terms.{variable, triple}
-use Rattle.spec.specs.Refusals.{firstNo, tripleQuestions}
+use Rattle.spec.specs.Refusals.{firstRefusal, tripleChecks}
 use Rattle.spec.specs.Order.{remove}
 use Rattle.spec.specs.Saturation.{Kept, lowerAll, saturation}
 use Rattle.spec.specs.computed.Carried.{carried, support}
@@ -40,7 +40,7 @@ Shown (supports S F t n) = (support S F t ≡ n) × (lookup (saturation S F) t �
 Shown (carries S f ts) = carried S f ≡ ts
 Shown (answersWith S F ps vs rows) = answers (rewrittenGraph S F) ps vs ≡ rows
 Shown (hasAlternatives S a ts) = alternatives S a ≡ ts
-Shown (isRefused t n) = firstNo (tripleQuestions t) ≡ n
+Shown (isRefused t n) = firstRefusal (tripleChecks t) ≡ n
 
 -- What is claimed of a table of examples.
 abbrev pub AllShown : List Example → Type 0

@@ -10,7 +10,7 @@ use Rattle.spec.specs.declared.Triple.{Triple}
 use Rattle.spec.specs.Terms.{isStatement}
 use Rattle.spec.specs.Order.{insert}
 use Rattle.spec.specs.inside.Comparison.{Ascending}
-use Rattle.spec.specs.Refusals.{firstNo, tripleQuestions}
+use Rattle.spec.specs.Refusals.{firstRefusal, tripleChecks}
 use Rattle.spec.proofs.Lists.{by-test}
 use Rattle.spec.proofs.Ascending.{insert-asc, insert-old, insert-cases, ascending-ext}
 use Rattle.spec.specs.Tables.{capacity, Tables, areFormed, capacitiesOf, Ledger, ledger, Contents, contentsOf, put}
@@ -18,11 +18,11 @@ use Rattle.table.proofs.Change.{remove-absent}
 use Rattle.spec.specs.declared.Answer.{Answer}
 use Rattle.spec.specs.declared.Change.{Change}
 use Rattle.spec.specs.declared.Change.the-variants.{Addition, Withdrawal}
-use Rattle.spec.specs.Updates.{isMember, changed, applying, isChange, isAdmitted, settle, contentsAfter, isKeptFitting, updateQuestions, update}
+use Rattle.spec.specs.Updates.{isMember, changed, applying, isChange, isAdmitted, settle, contentsAfter, isKeptFitting, updateChecks, update}
 use Rattle.store.proofs.Fitting.{contentsOf-put, Fitting, SameLengths, formed-fitting}
 use Rattle.store.proofs.Laws.{member-false, member-true, after-saturated, Saturated, update-lengths, Sound, update-sound}
-use Rattle.spec.specs.Deliveries.{messageQuestions, deliver, read}
-use Rattle.spec.specs.Ledger.{isFitting, entryQuestions, ledgerUpdate, receive, ledgerEntries}
+use Rattle.spec.specs.Deliveries.{messageChecks, deliver, read}
+use Rattle.spec.specs.Ledger.{isFitting, entryChecks, ledgerUpdate, receive, ledgerEntries}
 use Rattle.spec.specs.Demand3.{storeEntries, emptyStore}
 use Rattle.ledger.proofs.Alike.{Same, conclude-alike, EntriesAlike}
 
@@ -80,14 +80,14 @@ applying-fits d T t G =
     changed-fits e = rw (after-explicit d t (contentsOf T)) (fitting-saturated (contentsAfter d t (contentsOf T)) T (after-saturated d t (contentsOf T) e (G .saturated)))
 
 -- A question that is answered yes refuses nothing.
-yes-passed : (n : ℕ) (b : Bool) (qs : List (ℕ × Bool)) → b ≡ true → firstNo qs ≡ firstNo ((n, b) ∷ qs)
-unfolding firstNo
+yes-passed : (n : ℕ) (b : Bool) (qs : List (ℕ × Bool)) → b ≡ true → firstRefusal qs ≡ firstRefusal ((n, b) ∷ qs)
+unfolding firstRefusal
 yes-passed n b qs e = rw e refl
 
 -- Store and ledger refuse an update by the same number.
-alike-asked : (d : Change) (T : Tables) (t : Triple) → Sound T → firstNo (entryQuestions (capacitiesOf T) d (contentsOf T .explicit) t) ≡ firstNo (updateQuestions d t T)
+alike-asked : (d : Change) (T : Tables) (t : Triple) → Sound T → firstRefusal (entryChecks (capacitiesOf T) d (contentsOf T .explicit) t) ≡ firstRefusal (updateChecks d t T)
 alike-asked d T t G =
-    ap (λ (b : Bool). firstNo (tripleQuestions t ++ ((4, isAdmitted (capacitiesOf T) d t (contentsOf T .explicit)) ∷ (5, b) ∷ []))) (applying-fits d T t G)
+    ap (λ (b : Bool). firstRefusal (tripleChecks t ++ ((4, isAdmitted (capacitiesOf T) d t (contentsOf T .explicit)) ∷ (5, b) ∷ []))) (applying-fits d T t G)
     ∙ yes-passed 1 (areFormed T) _ (G .formed)
 
 -- ---- updates
@@ -146,8 +146,8 @@ module _ (s f k u : ℕ) where
   deliver-alike : (T : Tables) (L : Ledger) (bs : List ℕ) → Agrees s f k u T L → Same (Agrees s f k u) (deliver T bs) (receive (capacitiesOf (emptyStore s f k u)) L bs)
   unfolding deliver receive
   deliver-alike T L bs A =
-      rw (← yes-passed 1 (areFormed T) (messageQuestions bs) (A .sound .formed))
-      (conclude-alike (Agrees s f k u) update (ledgerUpdate (capacitiesOf (emptyStore s f k u))) update-alike (firstNo (messageQuestions bs)) (read bs) T L A)
+      rw (← yes-passed 1 (areFormed T) (messageChecks bs) (A .sound .formed))
+      (conclude-alike (Agrees s f k u) update (ledgerUpdate (capacitiesOf (emptyStore s f k u))) update-alike (firstRefusal (messageChecks bs)) (read bs) T L A)
 
   -- So updates and deliveries do.
   pub entries-agree : EntriesAlike (Agrees s f k u) storeEntries (ledgerEntries (capacitiesOf (emptyStore s f k u)))

@@ -7,7 +7,7 @@ use native.Mathlib.Omega.{arith}
 use lib.ListN.{length, getD, drop, replicate, length-replicate}
 use borrow.Author.Tests.{leb-true, le-leb, lt-leb}
 use Rattle.spec.specs.declared.Triple.{Triple}
-use Rattle.spec.specs.Refusals.{firstNo}
+use Rattle.spec.specs.Refusals.{firstRefusal}
 use Rattle.spec.specs.Tables.{count, rows}
 use Rattle.spec.specs.inside.Laid.{WellFormed}
 use Rattle.spec.proofs.TableRows.{length-rows}
@@ -46,24 +46,24 @@ output-room {ws} {order} len L o h = omega (arith, leb-true (length (listingRows
 
 -- Refused by 1: the table is not well formed.
 pub refuses-table : (formed : Bool) (order len : ℕ) (ws s : List ℕ) → formed ≡ false → s ≡ replicate len 0 → replied (Refused 1) s ≡ listing formed order ws len
-unfolding listing firstNo give
+unfolding listing firstRefusal give
 refuses-table formed order len ws s f e = rw (f, e)
 
 -- Refused by 12: there is no such order.
 pub refuses-order : (formed : Bool) (order len : ℕ) (ws s : List ℕ) → formed ≡ true → 5 < order → s ≡ replicate len 0 → replied (Refused 12) s ≡ listing formed order ws len
-unfolding listing firstNo give
+unfolding listing firstRefusal give
 refuses-order formed order len ws s f o e = rw (f, e, lt-leb order 5 o)
 
 -- Refused by 8: the rows do not fit.
 pub refuses-room : (formed : Bool) (order len : ℕ) (ws s : List ℕ) → formed ≡ true → order ≤ 5 → areFitting 3 len (listingRows order (rows ws)) ≡ false → s ≡ replicate len 0
     → replied (Refused 8) s ≡ listing formed order ws len
-unfolding listing firstNo give
+unfolding listing firstRefusal give
 refuses-room formed order len ws s f o h e = rw (f, e, le-leb order 5 o, h)
 
 -- The rows are given, with their number.
 pub gives-rows : (formed : Bool) (order len n : ℕ) (ws s : List ℕ) → formed ≡ true → order ≤ 5 → areFitting 3 len (listingRows order (rows ws)) ≡ true
     → length (listingRows order (rows ws)) ≡ n → s ≡ filled len (listingRows order (rows ws)) → replied (Rows n) s ≡ listing formed order ws len
-unfolding listing firstNo give
+unfolding listing firstRefusal give
 gives-rows formed order len n ws s f o h c e = rw (f, e, le-leb order 5 o, h, ← c)
 
 -- Rows written over a cleared output and sorted fill it.

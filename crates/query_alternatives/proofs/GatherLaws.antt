@@ -9,7 +9,7 @@ use lib.Dec.{eqb}
 use borrow.Author.Tests.{eqb-true}
 use Rattle.spec.specs.declared.Triple.{Triple}
 use Rattle.spec.specs.Terms.{isVocabulary, triple, isAllowedStatement}
-use Rattle.spec.specs.Refusals.{firstNo}
+use Rattle.spec.specs.Refusals.{firstRefusal}
 use Rattle.spec.proofs.Order.{of-subject}
 use Rattle.spec.specs.Tables.{count, tripleFrom, rowAt, firstRows, rows, flatten, mostStatements, isStatementTable}
 use Rattle.spec.specs.inside.Laid.{WellFormed}
@@ -125,15 +125,15 @@ module _ (S : List ℕ) (a : Triple) where
   module _ (len : ℕ) where
     -- Statements that are not well formed.
     pub refused-1 : isStatementTable S ≡ false → replied (Refused 1) (replicate len 0) ≡ reformulate S a len
-    unfolding reformulate firstNo give
+    unfolding reformulate firstRefusal give
     refused-1 e = rw e
 
     -- No atom.
     pub refused-6 : isStatementTable S ≡ true → isAtom a ≡ false → replied (Refused 6) (replicate len 0) ≡ reformulate S a len
-    unfolding reformulate firstNo give
+    unfolding reformulate firstRefusal give
     refused-6 e f = rw (e, f)
 
     -- Neither.
     pub passed : isStatementTable S ≡ true → isAtom a ≡ true → giveAlternatives S a len ≡ reformulate S a len
-    unfolding reformulate firstNo
+    unfolding reformulate firstRefusal
     passed e f = rw (e, f)

@@ -2,13 +2,13 @@
 use Prim.Native.Nat.{ℕ, zero, suc}
 use mathlib.Core.List.{List, [], _∷_}
 use Rattle.spec.specs.declared.Triple.{Triple}
-use Rattle.spec.specs.Refusals.{firstNo}
+use Rattle.spec.specs.Refusals.{firstRefusal}
 use Rattle.spec.specs.Tables.{Tables, areFormed}
 use Rattle.spec.specs.declared.Change.{Change}
 use Rattle.spec.specs.declared.Change.the-variants.{Addition, Withdrawal}
 use Rattle.spec.specs.Updates.{update}
 use Rattle.store.proofs.Laws.{Sound, update-sound}
-use Rattle.spec.specs.Deliveries.{Message, read, tally, Progress, progress, runEntry, runEntries, runMessage, messageQuestions, conclude, deliver}
+use Rattle.spec.specs.Deliveries.{Message, read, tally, Progress, progress, runEntry, runEntries, runMessage, messageChecks, conclude, deliver}
 
 -- Entries each leave it so,
 entries-sound : (d : Change) (ts : List Triple) (g : Progress Tables) → Sound (g .holder) → Sound (runEntries (update d) ts g .holder)
@@ -33,4 +33,4 @@ conclude-sound (suc n) m T G = G
 
 pub deliver-sound : (T : Tables) (bs : List ℕ) → Sound T → Sound (deliver T bs .1)
 unfolding deliver
-deliver-sound T bs G = conclude-sound (firstNo ((1, areFormed T) ∷ messageQuestions bs)) (read bs) T G
+deliver-sound T bs G = conclude-sound (firstRefusal ((1, areFormed T) ∷ messageChecks bs)) (read bs) T G

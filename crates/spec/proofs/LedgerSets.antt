@@ -10,7 +10,7 @@ use lib.ListN.{length}
 use Rattle.spec.specs.declared.Triple.{Triple}
 use Rattle.spec.specs.Terms.{isTriple, isStatement, areSidesAllowed, isAllowedStatement, isAllowedFact}
 use Rattle.spec.specs.inside.Comparison.{Ascending}
-use Rattle.spec.specs.Refusals.{firstNo, tripleQuestions}
+use Rattle.spec.specs.Refusals.{firstRefusal, tripleChecks}
 use Rattle.spec.proofs.Lists.{by-test}
 use Rattle.spec.proofs.Ascending.{insert-asc, insert-cases, remove-asc, remove-sub, isAscending-iff}
 use Rattle.spec.specs.inside.Entailment.{NoVocabulary}
@@ -78,17 +78,17 @@ module _ {L : Ledger} (A : Allowed L) where
 -- ---- updates
 
 -- A triple that 2 and 3 pass may stand in its set.
-passed : (a b : Bool) → firstNo ((2, a) ∷ (3, b) ∷ []) ≡ 0 → (a ≡ true) × (b ≡ true)
-unfolding firstNo
+passed : (a b : Bool) → firstRefusal ((2, a) ∷ (3, b) ∷ []) ≡ 0 → (a ≡ true) × (b ≡ true)
+unfolding firstRefusal
 passed true true e = (refl, refl)
 passed true false e = absurd (omega arith)
 passed false b e = absurd (omega arith)
 
-passed-statement : (t : Triple) → firstNo (tripleQuestions t) ≡ 0 → isStatement t ≡ true → isAllowedStatement t ≡ true
+passed-statement : (t : Triple) → firstRefusal (tripleChecks t) ≡ 0 → isStatement t ≡ true → isAllowedStatement t ≡ true
 unfolding isAllowedStatement
 passed-statement t e s = let p = passed (isTriple t) (cond (isStatement t) (areSidesAllowed t) true) e in rw (p .0, s) (rw s at (p .1))
 
-passed-fact : (t : Triple) → firstNo (tripleQuestions t) ≡ 0 → isStatement t ≡ false → isAllowedFact t ≡ true
+passed-fact : (t : Triple) → firstRefusal (tripleChecks t) ≡ 0 → isStatement t ≡ false → isAllowedFact t ≡ true
 unfolding isAllowedFact
 passed-fact t e s = let p = passed (isTriple t) (cond (isStatement t) (areSidesAllowed t) true) e in rw (p .0, s) refl
 
@@ -105,7 +105,7 @@ changed-passes Addition test t F e h u m = ⊎-elim (λ (q : u ≡ t). rw q e) (
 changed-passes Withdrawal test t F e h u m = h u (remove-sub t F m)
 
 -- So an update of such a triple keeps the sets allowed.
-pub applying-allowed : (d : Change) (t : Triple) (L : Ledger) → Allowed L → firstNo (tripleQuestions t) ≡ 0 → Allowed (applying d t L)
+pub applying-allowed : (d : Change) (t : Triple) (L : Ledger) → Allowed L → firstRefusal (tripleChecks t) ≡ 0 → Allowed (applying d t L)
 unfolding applying
 applying-allowed d t L A e =
     by-test (isStatement t)

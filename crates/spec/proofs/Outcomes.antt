@@ -6,7 +6,7 @@ use mathlib.Core.List.{List, _∷_, _++_, List·Memᴰ}
 use borrow.Author.Tests.{not-false}
 use Rattle.spec.specs.declared.Triple.{Triple}
 use Rattle.spec.specs.Terms.{isTriple, isStatement, areSidesAllowed}
-use Rattle.spec.specs.Refusals.{firstNo, tripleQuestions}
+use Rattle.spec.specs.Refusals.{firstRefusal, tripleChecks}
 use Rattle.spec.proofs.Tests.{isIn-iff, isIn-no}
 use Rattle.spec.specs.declared.Answer.the-variants.{Applied, Idle, Refused}
 use Rattle.spec.specs.declared.Change.{Change}
@@ -17,8 +17,8 @@ use Rattle.spec.specs.Updates.{setOf, isMember, isChange, isAdmitted, se
 -- ---- the first "no" of numbered questions
 
 -- A question answered yes is passed over,
-no-yes : (n : ℕ) (b : Bool) (qs : List (ℕ × Bool)) → b ≡ true → firstNo ((n, b) ∷ qs) ≡ firstNo qs
-unfolding firstNo
+no-yes : (n : ℕ) (b : Bool) (qs : List (ℕ × Bool)) → b ≡ true → firstRefusal ((n, b) ∷ qs) ≡ firstRefusal qs
+unfolding firstRefusal
 no-yes n b qs e = rw e refl
 
 -- Questions 1 to 3 are passed.
@@ -27,24 +27,24 @@ pub record Passes (T : Tables) (t : Triple) : Type 0 where
   pub is-triple : isTriple t ≡ true
   pub sides : cond (isStatement t) (areSidesAllowed t) true ≡ true
 
-three-passed : {T : Tables} {t : Triple} → Passes T t → (qs : List (ℕ × Bool)) → firstNo ((1, areFormed T) ∷ (tripleQuestions t ++ qs)) ≡ firstNo qs
+three-passed : {T : Tables} {t : Triple} → Passes T t → (qs : List (ℕ × Bool)) → firstRefusal ((1, areFormed T) ∷ (tripleChecks t ++ qs)) ≡ firstRefusal qs
 three-passed {T} {t} P qs =
-    no-yes 1 (areFormed T) (tripleQuestions t ++ qs) (P .formed)
+    no-yes 1 (areFormed T) (tripleChecks t ++ qs) (P .formed)
     ∙ no-yes 2 (isTriple t) ((3, cond (isStatement t) (areSidesAllowed t) true) ∷ qs) (P .is-triple)
     ∙ no-yes 3 (cond (isStatement t) (areSidesAllowed t) true) qs (P .sides)
 
 -- ---- questions 1 to 3
 
 pub update-malformed : (d : Change) (T : Tables) (t : Triple) → areFormed T ≡ false → update d T t ≡ outcome (Refused 1) T
-unfolding update settle firstNo
+unfolding update settle firstRefusal
 update-malformed d T t e = rw e refl
 
 pub update-no-triple : (d : Change) (T : Tables) (t : Triple) → areFormed T ≡ true → isTriple t ≡ false → update d T t ≡ outcome (Refused 2) T
-unfolding update settle firstNo
+unfolding update settle firstRefusal
 update-no-triple d T t e f = rw (e, f) refl
 
 pub update-wrong-sides : (d : Change) (T : Tables) (t : Triple) → areFormed T ≡ true → isTriple t ≡ true → cond (isStatement t) (areSidesAllowed t) true ≡ false → update d T t ≡ outcome (Refused 3) T
-unfolding update settle firstNo
+unfolding update settle firstRefusal
 update-wrong-sides d T t e f g = rw (e, f, g) refl
 
 -- ---- questions 4 and 5
@@ -58,22 +58,22 @@ idle-admitted Withdrawal C t L e = refl
 module _ (d : Change) {T : Tables} {t : Triple} (P : Passes T t) where
   -- What changes nothing is idle.
   pub update-idle : isChange d t (contentsOf T .explicit) ≡ false → update d T t ≡ outcome Idle T
-  unfolding update settle firstNo
+  unfolding update settle firstRefusal
   update-idle e = rw (three-passed P, idle-admitted d (capacitiesOf T) t (contentsOf T .explicit) e, e) refl
 
   -- A full table.
   pub update-full : isAdmitted (capacitiesOf T) d t (contentsOf T .explicit) ≡ false → update d T t ≡ outcome (Refused 4) T
-  unfolding update settle firstNo
+  unfolding update settle firstRefusal
   update-full e = rw (three-passed P, e) refl
 
   module _ (c : isChange d t (contentsOf T .explicit) ≡ true) (e : isAdmitted (capacitiesOf T) d t (contentsOf T .explicit) ≡ true) where
     -- Kept facts that do not fit.
     pub update-unfit : isKeptFitting (contentsAfter d t (contentsOf T)) T ≡ false → update d T t ≡ outcome (Refused 5) T
-    unfolding update settle firstNo
+    unfolding update settle firstRefusal
     update-unfit f = rw (three-passed P, c, e, f) refl
 
     pub update-applied : isKeptFitting (contentsAfter d t (contentsOf T)) T ≡ true → update d T t ≡ outcome Applied (put (contentsAfter d t (contentsOf T)) T)
-    unfolding update settle firstNo
+    unfolding update settle firstRefusal
     update-applied f = rw (three-passed P, c, e, f) refl
 
 -- ---- what is in its set

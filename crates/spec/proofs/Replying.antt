@@ -9,7 +9,7 @@ use native.Mathlib.Omega.{arith}
 use lib.ListN.{length, replicate}
 use borrow.Author.Tests.{leb-true, leb-false}
 use Rattle.spec.specs.declared.Triple.{Triple}
-use Rattle.spec.specs.Refusals.{firstNo}
+use Rattle.spec.specs.Refusals.{firstRefusal}
 use Rattle.spec.proofs.Lists.{by-test, le-or}
 use Rattle.spec.specs.declared.Reply.the-variants.{Rows, Refused}
 use Rattle.spec.specs.Outputs.{areFitting, replied, filled, give}
@@ -53,12 +53,12 @@ module _ (K : List Triple) (G : Triple → Type 0) (same : (t : Triple) → List
 
   -- Rows that fit are given,
   asked-given : isQuestion q ≡ true → isHeadBound q ≡ true → areFitting (headCount q) len (questionRows K q) ≡ true → replied (Rows (length (questionRows K q))) (filled len (questionRows K q)) ≡ ask true K q len
-  unfolding ask firstNo give
+  unfolding ask firstRefusal give
   asked-given e f g = rw (e, f, g)
 
   -- and those that do not are refused by 8.
   asked-8 : isQuestion q ≡ true → isHeadBound q ≡ true → areFitting (headCount q) len (questionRows K q) ≡ false → replied (Refused 8) (replicate len 0) ≡ ask true K q len
-  unfolding ask firstNo give
+  unfolding ask firstRefusal give
   asked-8 e f g = rw (e, f, g)
 
   -- So a question put to well-formed tables gets its reply.

@@ -9,7 +9,7 @@ use Rattle.spec.specs.Terms.{type, subClassOf, subPropertyOf, domain, ra
 use Rattle.spec.specs.Atoms.{admits, admitsClass, admitsProperty}
 use Rattle.spec.specs.Rules.{Reach}
 use Rattle.spec.specs.computed.Reformulated.{alternatives}
-use Rattle.spec.specs.Refusals.{firstNo}
+use Rattle.spec.specs.Refusals.{firstRefusal}
 use Rattle.spec.specs.Tables.{rows, isStatementTable}
 use Rattle.spec.specs.Rows.{words}
 use Rattle.spec.specs.Outputs.{areFitting, Replied, give}
@@ -62,8 +62,8 @@ abbrev pub alternativeRows : List Triple → Triple → List (List ℕ)
 alternativeRows S a = map words (alternatives S a)
 
 -- What is asked: 1, 6 and, last, 8.
-abbrev pub reformulateQuestions : List ℕ → Triple → ℕ → List (ℕ × Bool)
-reformulateQuestions S a len =
+abbrev pub reformulateChecks : List ℕ → Triple → ℕ → List (ℕ × Bool)
+reformulateChecks S a len =
     (1, isStatementTable S)
     ∷ (6, isAtom a)
     ∷ (8, areFitting 3 len (alternativeRows (rows S) a))
@@ -71,4 +71,4 @@ reformulateQuestions S a len =
 
 -- The alternatives of an atom under a table of statements, into an output of len words.
 unfoldable pub reformulate : List ℕ → Triple → ℕ → Replied
-reformulate S a len = give (firstNo (reformulateQuestions S a len)) (alternativeRows (rows S) a) len
+reformulate S a len = give (firstRefusal (reformulateChecks S a len)) (alternativeRows (rows S) a) len

@@ -14,7 +14,7 @@ use Rattle.spec.specs.declared.Tally.{Tally}
 use Rattle.spec.specs.declared.Change.{Change}
 use Rattle.spec.specs.declared.Change.the-variants.{Addition, Withdrawal}
 use Rattle.spec.specs.Updates.{update}
-use Rattle.spec.specs.Refusals.{firstNo}
+use Rattle.spec.specs.Refusals.{firstRefusal}
 use Rattle.spec.specs.declared.Delivered.{Delivered}
 
 -- ---- numbers
@@ -186,8 +186,8 @@ abbrev pub delivered : ℕ → ℕ → Tally → Delivered
 delivered refusal number y = record { refusal = refusal; number = number; applied = y .applied; idle = y .idle; refused = y .refused }
 
 -- The questions of a delivery's bytes: 9, 10, 11.
-abbrev pub messageQuestions : List ℕ → List (ℕ × Bool)
-messageQuestions bs =
+abbrev pub messageChecks : List ℕ → List (ℕ × Bool)
+messageChecks bs =
     (9, isWhole bs)
     ∷ (10, areSectionsRight (read bs))
     ∷ (11, isNumberRight (numberFields (read bs .fields)))
@@ -203,4 +203,4 @@ conclude update zero m h =
 
 -- A delivery of bytes to a store: asked 1, 9, 10 and 11.
 unfoldable pub deliver : Tables → List ℕ → Delivered × Tables
-deliver T bs = conclude update (firstNo ((1, areFormed T) ∷ messageQuestions bs)) (read bs) T
+deliver T bs = conclude update (firstRefusal ((1, areFormed T) ∷ messageChecks bs)) (read bs) T

@@ -8,7 +8,7 @@ use lib.ListN.{length, replicate}
 use lib.Dec.{leb}
 use Rattle.spec.specs.declared.Triple.{Triple}
 use Rattle.spec.specs.Order.{isAscending}
-use Rattle.spec.specs.Refusals.{firstNo, tripleQuestions}
+use Rattle.spec.specs.Refusals.{firstRefusal, tripleChecks}
 use Rattle.spec.specs.Tables.{layout, supportLayout, Tables, tables, capacitiesOf, Ledger}
 use Rattle.spec.specs.Rules.{Follows, FollowsAsFact, Carries}
 use Rattle.spec.specs.declared.Reply.the-variants.{Rows, Refused}
@@ -100,7 +100,7 @@ pub record Demand3 (s f k u : ℕ) (L : Run Ledger) (T : Run Tables) : Type 0 wh
   -- Order and zeros being as under Tables, this fixes every word."
   pub words : T .after ≡ tables (layout s (L .after .statements)) (layout f (L .after .facts)) (layout k kept) (supportLayout u supports)
   -- Any update that 2 and 3 pass is then asked 5 on what follows after it, whether it is refused or not.
-  pub fits : (d : Change) (t : Triple) → firstNo (tripleQuestions t) ≡ 0
+  pub fits : (d : Change) (t : Triple) → firstRefusal (tripleChecks t) ≡ 0
       → FitsBy (capacitiesOf (emptyStore s f k u) .kept) (applying d t (L .after)) (isFitting (capacitiesOf (emptyStore s f k u)) (applying d t (L .after)))
   -- "Any question is then put by both ways, into outputs apart from the store."
   pub kept-way : (q : List ℕ) (len : ℕ) → Replies (Follows (graphOf (L .after))) q len (askKept (T .after .statements) (T .after .kept) q len)

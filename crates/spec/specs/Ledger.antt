@@ -6,13 +6,13 @@ use mathlib.Core.List.{List, [], _∷_, _++_}
 use lib.ListN.{length}
 use lib.Dec.{leb}
 use Rattle.spec.specs.declared.Triple.{Triple}
-use Rattle.spec.specs.Refusals.{firstNo, tripleQuestions}
+use Rattle.spec.specs.Refusals.{firstRefusal, tripleChecks}
 use Rattle.spec.specs.Tables.{Capacities, Ledger, ledger}
 use Rattle.spec.specs.Saturation.{saturation}
 use Rattle.spec.specs.declared.Answer.{Answer}
 use Rattle.spec.specs.declared.Change.{Change}
 use Rattle.spec.specs.Updates.{applying, isChange, isAdmitted, settle}
-use Rattle.spec.specs.Deliveries.{read, Update, messageQuestions, conclude}
+use Rattle.spec.specs.Deliveries.{read, Update, messageChecks, conclude}
 use Rattle.spec.specs.declared.Delivered.{Delivered}
 
 -- "Each call (addition, withdrawal or delivery) with its words or bytes."
@@ -32,16 +32,16 @@ isFitting C L = leb (length (saturation (L .statements) (L .facts))) (C .kept)
 
 -- "An update is asked 2 to 5 on them: 4 whether an added triple is in its set or that set is below capacity, 5 whether the facts
 -- after it, with all that follow, fit the kept capacity."
-abbrev pub entryQuestions : Capacities → Change → Ledger → Triple → List (ℕ × Bool)
-entryQuestions C d L t = tripleQuestions t ++ ((4, isAdmitted C d t L) ∷ (5, isFitting C (applying d t L)) ∷ [])
+abbrev pub entryChecks : Capacities → Change → Ledger → Triple → List (ℕ × Bool)
+entryChecks C d L t = tripleChecks t ++ ((4, isAdmitted C d t L) ∷ (5, isFitting C (applying d t L)) ∷ [])
 
 -- The ledger's update. "The first "no" refuses it by that number, and both sets stay."
 unfoldable pub ledgerUpdate : Capacities → Update Ledger
-ledgerUpdate C d L t = settle (firstNo (entryQuestions C d L t)) (isChange d t L) (applying d t L) L
+ledgerUpdate C d L t = settle (firstRefusal (entryChecks C d L t)) (isChange d t L) (applying d t L) L
 
 -- "A delivery is asked 9 to 11 on its bytes .. Otherwise its entries run in order as updates, each raising its tally by 1."
 unfoldable pub receive : Capacities → Ledger → List ℕ → Delivered × Ledger
-receive C L bs = conclude (ledgerUpdate C) (firstNo (messageQuestions bs)) (read bs) L
+receive C L bs = conclude (ledgerUpdate C) (firstRefusal (messageChecks bs)) (read bs) L
 
 -- ---- lists of calls
 

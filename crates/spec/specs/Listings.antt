@@ -5,7 +5,7 @@ use mathlib.Core.List.{List, [], _∷_, map}
 use lib.ListN.{getD}
 use lib.Dec.{leb}
 use Rattle.spec.specs.declared.Triple.{Triple}
-use Rattle.spec.specs.Refusals.{firstNo}
+use Rattle.spec.specs.Refusals.{firstRefusal}
 use Rattle.spec.specs.Tables.{rows}
 use Rattle.spec.specs.Rows.{ordered}
 use Rattle.spec.specs.Outputs.{areFitting, Replied, give}
@@ -36,8 +36,8 @@ unfoldable pub listingRows : ℕ → List Triple → List (List ℕ)
 listingRows order ts = ordered (map (arranged order) ts)
 
 -- The questions of a listing, in their order: 1, 12, 8.
-abbrev pub listingQuestions : Bool → ℕ → List ℕ → ℕ → List (ℕ × Bool)
-listingQuestions formed order ws len =
+abbrev pub listingChecks : Bool → ℕ → List ℕ → ℕ → List (ℕ × Bool)
+listingChecks formed order ws len =
     (1, formed)
     ∷ (12, leb order 5)
     ∷ (8, areFitting 3 len (listingRows order (rows ws)))
@@ -45,4 +45,4 @@ listingQuestions formed order ws len =
 
 -- A listing of a table's words, which are formed or not, into an output of len words.
 unfoldable pub listing : Bool → ℕ → List ℕ → ℕ → Replied
-listing formed order ws len = give (firstNo (listingQuestions formed order ws len)) (listingRows order (rows ws)) len
+listing formed order ws len = give (firstRefusal (listingChecks formed order ws len)) (listingRows order (rows ws)) len

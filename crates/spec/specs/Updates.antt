@@ -7,7 +7,7 @@ use lib.Dec.{leb, ltb}
 use Rattle.spec.specs.declared.Triple.{Triple}
 use Rattle.spec.specs.Terms.{isStatement}
 use Rattle.spec.specs.Order.{isIn, insert, remove}
-use Rattle.spec.specs.Refusals.{firstNo, tripleQuestions}
+use Rattle.spec.specs.Refusals.{firstRefusal, tripleChecks}
 use Rattle.spec.specs.Saturation.{Kept, raiseAll, lowerAll, saturation}
 use Rattle.spec.specs.computed.Carried.{carried}
 use Rattle.spec.specs.declared.Answer.{Answer}
@@ -74,17 +74,17 @@ unfoldable pub isKeptFitting : Contents → Tables → Bool
 isKeptFitting c T = leb (length (c .kept)) (capacitiesOf T .kept)
 
 -- The questions of an update, 1 to 5. Where nothing changes, what is lent fits.
-abbrev pub updateQuestions : Change → Triple → Tables → List (ℕ × Bool)
-updateQuestions d t T =
+abbrev pub updateChecks : Change → Triple → Tables → List (ℕ × Bool)
+updateChecks d t T =
     (1, areFormed T)
-    ∷ (tripleQuestions t
+    ∷ (tripleChecks t
     ++ ((4, isAdmitted (capacitiesOf T) d t (contentsOf T .explicit))
     ∷ (5, not (isChange d t (contentsOf T .explicit)) || isKeptFitting (contentsAfter d t (contentsOf T)) T)
     ∷ []))
 
 -- The update of a store: its answer, and the words of the tables after it. A refusal changes no word.
 unfoldable pub update : Change → Tables → Triple → Answer × Tables
-update d T t = settle (firstNo (updateQuestions d t T)) (isChange d t (contentsOf T .explicit)) (put (contentsAfter d t (contentsOf T)) T) T
+update d T t = settle (firstRefusal (updateChecks d t T)) (isChange d t (contentsOf T .explicit)) (put (contentsAfter d t (contentsOf T)) T) T
 
 -- The addition of a triple to a store.
 abbrev pub add : Tables → Triple → Answer × Tables

@@ -22,7 +22,7 @@ use Rattle.spec.proofs.Carried.{carried-ascends, carried-iff}
 use Rattle.spec.proofs.Kept.{counts-of, support-of, kept-positive, kept-ascends, lookup-kept}
 use Rattle.spec.proofs.Saturation.{among-bound, raiseAll-counts, lookup-raiseAll, lookup-lowerAll, lowerAll-counts, lowerAll-length, saturation-ascends, saturation-allowed, saturation-supports, lower-saturation}
 use Rattle.spec.specs.Tables.{Tables, Contents, contents, Capacities, capacitiesOf, Ledger}
-use Rattle.spec.specs.Refusals.{firstNo, tripleQuestions}
+use Rattle.spec.specs.Refusals.{firstRefusal, tripleChecks}
 use Rattle.spec.specs.declared.Change.{Change}
 use Rattle.spec.specs.declared.Change.the-variants.{Addition, Withdrawal}
 use Rattle.spec.specs.Updates.{setOf, isMember, changed, applying, isChange, isAdmitted, keptAfter, contentsAfter}
@@ -87,7 +87,7 @@ saturation-fitting L A s f k = record {
 
 -- ---- the contents after each update
 
-module _ {c : Contents} {T : Tables} (X : Fitting c T) (t : Triple) (p : firstNo (tripleQuestions t) ≡ 0) where
+module _ {c : Contents} {T : Tables} (X : Fitting c T) (t : Triple) (p : firstRefusal (tripleChecks t) ≡ 0) where
   -- A statement enters or goes: 4 admits it, and the kept facts fit.
   pub statement-changes : (d : Change) → isStatement t ≡ true → isChange d t (c .explicit) ≡ true → isAdmitted (capacitiesOf T) d t (c .explicit) ≡ true
       → length (contentsAfter d t c .kept) ≤ capacitiesOf T .kept → Fitting (contentsAfter d t c) T
@@ -150,7 +150,7 @@ pub fitting-counts : {c : Contents} {T : Tables} → Fitting c T → Counts (c .
 fitting-counts {c} X = counts-of (c .kept) (X .kept-ascend) (λ m i. let b = X .supports-between m i in omega (arith, b .0))
 
 -- What is left fits where no support is above the number of facts left.
-pub fact-leaves : {c : Contents} {T : Tables} → Fitting c T → (t : Triple) → firstNo (tripleQuestions t) ≡ 0 → isStatement t ≡ false → isChange Withdrawal t (c .explicit) ≡ true
+pub fact-leaves : {c : Contents} {T : Tables} → Fitting c T → (t : Triple) → firstRefusal (tripleChecks t) ≡ 0 → isStatement t ≡ false → isChange Withdrawal t (c .explicit) ≡ true
     → ((n : ℕ) → List·Memᴰ n (keptSupports (contentsAfter Withdrawal t c .kept)) → n ≤ length (contentsAfter Withdrawal t c .explicit .facts)) → Fitting (contentsAfter Withdrawal t c) T
 unfolding contentsAfter keptAfter isAdmitted
 fact-leaves {c} {T} X t p s b h =

@@ -9,7 +9,7 @@ use lib.ListN.{length, replicate}
 use borrow.Author.Tests.{not-true, leb-true}
 use Rattle.spec.specs.declared.Triple.{Triple}
 use Rattle.spec.specs.Terms.{isTriple, isStatement, areSidesAllowed}
-use Rattle.spec.specs.Refusals.{firstNo, tripleQuestions}
+use Rattle.spec.specs.Refusals.{firstRefusal, tripleChecks}
 use Rattle.spec.proofs.Tests.{isIn-iff}
 use Rattle.spec.proofs.Lists.{true-not-false, by-test, or-cases}
 use Rattle.spec.specs.Tables.{rows, Tables, tables, areFormed, capacitiesOf, Ledger, ledger, Contents, contents, contentsOf, keptOf, put}
@@ -21,7 +21,7 @@ use Rattle.spec.specs.declared.Answer.{Answer}
 use Rattle.spec.specs.declared.Answer.the-variants.{Applied, Idle, Refused}
 use Rattle.spec.specs.declared.Change.{Change}
 use Rattle.spec.specs.declared.Change.the-variants.{Addition, Withdrawal}
-use Rattle.spec.specs.Updates.{setOf, isMember, changed, applying, isChange, isAdmitted, settle, keptAfter, contentsAfter, isKeptFitting, updateQuestions, update, add}
+use Rattle.spec.specs.Updates.{setOf, isMember, changed, applying, isChange, isAdmitted, settle, keptAfter, contentsAfter, isKeptFitting, updateChecks, update, add}
 use Rattle.spec.proofs.Outcomes.{member-yes}
 use Rattle.store.proofs.Passing.{fact-allowed}
 use Rattle.store.proofs.Fitting.{contentsOf-put, Fitting, SameLengths, put-formed, put-lengths, formed-fitting, formed-worded}
@@ -39,18 +39,18 @@ settle-elim Q zero false x y r a i = i refl refl
 
 -- and so of an update.
 pub update-elim : (Q : Answer × Tables → Type 0) (d : Change) (T : Tables) (t : Triple)
-    → ((n : ℕ) → firstNo (updateQuestions d t T) ≡ suc n → Q (Refused (suc n), T))
-    → (firstNo (updateQuestions d t T) ≡ 0 → isChange d t (contentsOf T .explicit) ≡ true → Q (Applied, put (contentsAfter d t (contentsOf T)) T))
-    → (firstNo (updateQuestions d t T) ≡ 0 → isChange d t (contentsOf T .explicit) ≡ false → Q (Idle, T)) → Q (update d T t)
+    → ((n : ℕ) → firstRefusal (updateChecks d t T) ≡ suc n → Q (Refused (suc n), T))
+    → (firstRefusal (updateChecks d t T) ≡ 0 → isChange d t (contentsOf T .explicit) ≡ true → Q (Applied, put (contentsAfter d t (contentsOf T)) T))
+    → (firstRefusal (updateChecks d t T) ≡ 0 → isChange d t (contentsOf T .explicit) ≡ false → Q (Idle, T)) → Q (update d T t)
 unfolding update
-update-elim Q d T t r a i = settle-elim Q (firstNo (updateQuestions d t T)) (isChange d t (contentsOf T .explicit)) (put (contentsAfter d t (contentsOf T)) T) T r a i
+update-elim Q d T t r a i = settle-elim Q (firstRefusal (updateChecks d t T)) (isChange d t (contentsOf T .explicit)) (put (contentsAfter d t (contentsOf T)) T) T r a i
 
 -- What the answer of an update says, whatever it is.
 abbrev Says : Change → Tables → Triple → Answer × Tables → Type 0
 Says d T t o =
-    ((n : ℕ) → o .0 ≡ Refused n → (firstNo (updateQuestions d t T) ≡ n) × (0 < n) × (o .1 ≡ T))
-    × (o .0 ≡ Idle → (firstNo (updateQuestions d t T) ≡ 0) × (isChange d t (contentsOf T .explicit) ≡ false) × (o .1 ≡ T))
-    × (o .0 ≡ Applied → (firstNo (updateQuestions d t T) ≡ 0) × (isChange d t (contentsOf T .explicit) ≡ true) × (o .1 ≡ put (contentsAfter d t (contentsOf T)) T))
+    ((n : ℕ) → o .0 ≡ Refused n → (firstRefusal (updateChecks d t T) ≡ n) × (0 < n) × (o .1 ≡ T))
+    × (o .0 ≡ Idle → (firstRefusal (updateChecks d t T) ≡ 0) × (isChange d t (contentsOf T .explicit) ≡ false) × (o .1 ≡ T))
+    × (o .0 ≡ Applied → (firstRefusal (updateChecks d t T) ≡ 0) × (isChange d t (contentsOf T .explicit) ≡ true) × (o .1 ≡ put (contentsAfter d t (contentsOf T)) T))
 
 -- Two constructors are never equal.
 no-path : {A : Type 0} → _≡_ {A = ℕ} 0 1 → A
@@ -64,15 +64,15 @@ says d T t =
     (λ e f. (λ m p. no-path (cc), λ p. (e, f, refl), λ p. no-path (cc)))
 
 -- An update is refused with n only where n is the number of the first "no", and then changes no word.
-pub update-refused : (d : Change) (T : Tables) (t : Triple) (n : ℕ) → update d T t .0 ≡ Refused n → (firstNo (updateQuestions d t T) ≡ n) × (0 < n) × (update d T t .1 ≡ T)
+pub update-refused : (d : Change) (T : Tables) (t : Triple) (n : ℕ) → update d T t .0 ≡ Refused n → (firstRefusal (updateChecks d t T) ≡ n) × (0 < n) × (update d T t .1 ≡ T)
 update-refused d T t n e = says d T t .0 n e
 
 -- It is idle only where every answer is yes and it would change nothing, and then changes no word.
-pub update-idle-only : (d : Change) (T : Tables) (t : Triple) → update d T t .0 ≡ Idle → (firstNo (updateQuestions d t T) ≡ 0) × (isChange d t (contentsOf T .explicit) ≡ false) × (update d T t .1 ≡ T)
+pub update-idle-only : (d : Change) (T : Tables) (t : Triple) → update d T t .0 ≡ Idle → (firstRefusal (updateChecks d t T) ≡ 0) × (isChange d t (contentsOf T .explicit) ≡ false) × (update d T t .1 ≡ T)
 update-idle-only d T t e = says d T t .1 e
 
 -- It is applied only where every answer is yes and it changes the contents, and then the tables hold these.
-pub update-applied-only : (d : Change) (T : Tables) (t : Triple) → update d T t .0 ≡ Applied → (firstNo (updateQuestions d t T) ≡ 0) × (isChange d t (contentsOf T .explicit) ≡ true) × (update d T t .1 ≡ put (contentsAfter d t (contentsOf T)) T)
+pub update-applied-only : (d : Change) (T : Tables) (t : Triple) → update d T t .0 ≡ Applied → (firstRefusal (updateChecks d t T) ≡ 0) × (isChange d t (contentsOf T .explicit) ≡ true) × (update d T t .1 ≡ put (contentsAfter d t (contentsOf T)) T)
 update-applied-only d T t e = says d T t .2 e
 
 -- What the tables hold after an applied update.
@@ -82,8 +82,8 @@ update-contents d T t e = ap contentsOf (update-applied-only d T t e .2) ∙ con
 -- ---- what the answers to the questions say
 
 -- Where every question is answered yes, so is the first, and so are the rest.
-yes-first : (n : ℕ) (b : Bool) (qs : List (ℕ × Bool)) → firstNo ((suc n, b) ∷ qs) ≡ 0 → (b ≡ true) × (firstNo qs ≡ 0)
-unfolding firstNo
+yes-first : (n : ℕ) (b : Bool) (qs : List (ℕ × Bool)) → firstRefusal ((suc n, b) ∷ qs) ≡ 0 → (b ≡ true) × (firstRefusal qs ≡ 0)
+unfolding firstRefusal
 yes-first n true qs e = (refl, e)
 yes-first n false qs e = absurd (omega arith)
 
@@ -99,7 +99,7 @@ member-true t L = isIn-iff t (setOf t L) .0
 -- The answers to the questions of an update, where all are yes and it changes something.
 pub record Asked (d : Change) (t : Triple) (T : Tables) : Type 0 where
   pub is-triple : isTriple t ≡ true
-  pub passed : firstNo (tripleQuestions t) ≡ 0
+  pub passed : firstRefusal (tripleChecks t) ≡ 0
   pub admitted : isAdmitted (capacitiesOf T) d t (contentsOf T .explicit) ≡ true
   pub few : length (contentsAfter d t (contentsOf T) .kept) ≤ capacitiesOf T .kept
 
@@ -112,14 +112,14 @@ fitting-le : (c : Contents) (T : Tables) → isKeptFitting c T ≡ true → leng
 unfolding isKeptFitting
 fitting-le c T e = leb-true (length (c .kept)) (capacitiesOf T .kept) e
 
-pub asked : (d : Change) (t : Triple) (T : Tables) → firstNo (updateQuestions d t T) ≡ 0 → isChange d t (contentsOf T .explicit) ≡ true → Asked d t T
-unfolding firstNo
+pub asked : (d : Change) (t : Triple) (T : Tables) → firstRefusal (updateChecks d t T) ≡ 0 → isChange d t (contentsOf T .explicit) ≡ true → Asked d t T
+unfolding firstRefusal
 asked d t T e b =
     let c : Contents = contentsOf T in
     let sides : Bool = cond (isStatement t) (areSidesAllowed t) true in
     let admitted : Bool = isAdmitted (capacitiesOf T) d t (c .explicit) in
     let fits : Bool = not (isChange d t (c .explicit)) || isKeptFitting (contentsAfter d t c) T in
-    let q₁ = yes-first 0 (areFormed T) (tripleQuestions t ++ ((4, admitted) ∷ (5, fits) ∷ [])) e in
+    let q₁ = yes-first 0 (areFormed T) (tripleChecks t ++ ((4, admitted) ∷ (5, fits) ∷ [])) e in
     let q₂ = yes-first 1 (isTriple t) ((3, sides) ∷ (4, admitted) ∷ (5, fits) ∷ []) (q₁ .1) in
     let q₃ = yes-first 2 sides ((4, admitted) ∷ (5, fits) ∷ []) (q₂ .1) in
     let q₄ = yes-first 3 admitted ((5, fits) ∷ []) (q₃ .1) in

@@ -1,7 +1,7 @@
 -- Where `compute` unfolds, the definitions of the store compute on closed terms. Definitions only.
 use mathlib.Core.List.{flatMap}
 use Rattle.spec.specs.Terms.{isUri, isBlank, isLiteral, isVariable, isVocabulary, isTriple, isStatement, areSidesAllowed}
-use Rattle.spec.specs.Refusals.{firstNo}
+use Rattle.spec.specs.Refusals.{firstRefusal}
 use Rattle.spec.specs.Order.{isSame, insert, remove, ascend}
 use Rattle.spec.specs.Saturation.{raise, oneLess, lower, raiseAll, lowerAll, saturation}
 use Rattle.spec.specs.computed.Carried.{leaves, steps, spread, reach, objects, properties, subjectClasses, objectClasses, conclusions, carried, carriers, support}
@@ -13,5 +13,5 @@ use Rattle.spec.specs.computed.Reformulated.{toClasses, toProperties, without, 
 
 -- The definitions that an example needs, by one name.
 unfoldable pub compute : Unit {0}
-unfolding flatMap isUri isBlank isLiteral isVariable isVocabulary isTriple isStatement areSidesAllowed firstNo any isSame insert remove ascend leaves steps spread reach objects properties subjectClasses objectClasses conclusions carried carriers support lookup raise oneLess lower raiseAll lowerAll saturation less insertOnce ordered boundTo isBound bind matchWord matchTriple solutions answers select toClasses toProperties without alternativesFrom alternatives
+unfolding flatMap isUri isBlank isLiteral isVariable isVocabulary isTriple isStatement areSidesAllowed firstRefusal any isSame insert remove ascend leaves steps spread reach objects properties subjectClasses objectClasses conclusions carried carriers support lookup raise oneLess lower raiseAll lowerAll saturation less insertOnce ordered boundTo isBound bind matchWord matchTriple solutions answers select toClasses toProperties without alternativesFrom alternatives
 compute = tt
