@@ -1,0 +1,4 @@
+pub mod Same
+pub mod Numbers
+pub mod Hashing
+pub mod Entry

@@ -1,0 +1,4 @@
+pub mod Decoding
+pub mod Marking
+pub mod Scanning
+pub mod Parting

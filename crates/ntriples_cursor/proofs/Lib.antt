@@ -1,0 +1,9 @@
+pub mod Widths
+pub mod Readers
+pub mod Escaped
+pub mod Terms
+pub mod Following
+pub mod Stepping
+pub mod Placing
+pub mod Comparing
+pub mod Literals

@@ -1,0 +1,3 @@
+pub mod Readers
+pub mod Coming
+pub mod Letters

@@ -1,0 +1,57 @@
+use native.Mathlib.Omega.{arith}
+use mathlib.Core.Path.{_≡_, refl, sym, _∙_, ap}
+use Prim.Native.Char.{code}
+use lib.Dec.{eqb}
+use Rattle.ntriples_bytes.specs.inside.Places.{charsAt}
+use Rattle.ntriples_bytes.proofs.Decoding.{chars-are, some-at}
+use Rattle.ntriples_terminals.specs.inside.Ends.{behindHead, behindRead}
+use Rattle.ntriples_terminals.proofs.Ending.{end-same}
+use Rattle.ntriples_lines.proofs.Ends.{there, not-there, missing, found, behind-utf8}
+use Rattle.ntriples_lines.proofs.Heads.{blank-none, blank-some}
+use borrow.Author.Needs.{needs}
+use Rattle.ntriples_lines.proofs.terms.blank_end.Statement.{statement}
+use Rattle.ntriples_lines.proofs.terms.blank_end.Tie as tie
+use Rattle.ntriples_lines.proofs.terms.blank_end.Reads as reads
+use Rattle.ntriples_lines.proofs.terms.blank_end.Lts as lts
+use Rattle.ntriples_lines.proofs.terms.labelled_end.Reads as labelled-end-reads
+use Rattle.ntriples_terminals.proofs.mark_end.Reads as mark-end-reads
+
+-- src/terms.rt:37:30
+cast-mark-end : tie.Need-cast-mark-end
+cast-mark-end c = search needs
+
+-- src/terms.rt:37:11
+mark-end-requires : tie.Need-mark-end-requires
+mark-end-requires c κs = search needs
+
+-- src/terms.rt:38:27
+enum-told : tie.Need-enum-told
+enum-told c = search needs
+
+-- src/terms.rt:39:20
+enum-known-next : tie.Need-enum-known-next
+enum-known-next c = search needs
+
+-- src/terms.rt:39:29
+labelled-end-requires : tie.Need-labelled-end-requires
+labelled-end-requires c κs = behind-utf8 (λ x. eqb x (code ":")) (c .before .before .before .before .before .args .line .now) (c .before .before .before .before .before .args .at) (c .before .before .before .mark-end .result) (c .before .before .before .mark-end .ensures) _ (c .before .next .given .1)
+
+-- src/terms.rt:33:1
+returns : tie.Need-returns
+returns c = blank-none _ (missing (λ x. eqb x (code ":")) (c .before .before .before .before .args .line .now) (c .before .before .before .before .args .at) (c .before .before .mark-end .result) (c .before .before .mark-end .ensures) (c .enum-told .given .1))
+
+-- src/terms.rt:33:1
+returns-2 : tie.Need-returns-2
+returns-2 c = end-same (c .before .before .before .before .before .before .args .line .now) _ _ (c .labelled-end .result) (blank-some _ _ (found (λ x. eqb x (code ":")) (c .before .before .before .before .before .before .args .line .now) (c .before .before .before .before .before .before .args .at) (c .before .before .before .before .mark-end .result) (c .before .before .before .before .mark-end .ensures) _ (c .before .before .next .given .1))) (c .labelled-end .ensures)
+
+pub blank-end-spec : {M : Type 1} → statement M
+blank-end-spec =
+    tie.close
+    (tie.spec
+    cast-mark-end
+    mark-end-requires
+    enum-told
+    enum-known-next
+    labelled-end-requires
+    returns
+    returns-2)

@@ -1,0 +1,4 @@
+pub mod Testing
+pub mod Reading
+pub mod Ending
+pub mod Naming

@@ -1,0 +1,14 @@
+pub mod Utf8
+pub mod Characters
+pub mod Terminals
+pub mod Texts
+pub mod Lines
+pub mod Expressions
+pub mod Productions
+pub mod Meaning
+pub mod Faults
+pub mod Dictionary
+pub mod Reading
+pub mod Sights
+pub mod Promises
+pub mod inside
