@@ -10,6 +10,14 @@ ghost use Rattle.dictionary_bytes.specs.inside.Hashes.{hashOn, hashFrom,
 // The bytes of an entry in front of its text: its term and the text's length.
 pub const HEADER: usize = 12;
 
+// How far a dictionary is filled: the index behind its last entry, and the next number of each kind.
+pub struct Filled {
+    pub end: usize,
+    pub uris: u32,
+    pub blanks: u32,
+    pub literals: u32,
+}
+
 const TERM_BYTES: usize = 4;
 
 const LENGTH_BYTES: usize = 8;

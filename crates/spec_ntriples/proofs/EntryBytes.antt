@@ -13,6 +13,7 @@ use Rattle.spec.proofs.Ascending.{and-left}
 use Rattle.delivery_format.specs.Encoding.{Each}
 use Rattle.spec_ntriples.specs.Texts.{isSame}
 use Rattle.spec_ntriples.specs.Dictionary.{Entry, numberBytes, entryBytes, entriesBytes, dictionaryBytes, bytesNumber, frontTerm, frontLength, entriesAtMost, entries, kindOf, areNumbered, areNumbersEnough, areTexts, isDictionary}
+use Rattle.spec_ntriples.specs.inside.Entries.{Writable}
 use Rattle.spec_ntriples.proofs.Canonical.{same-bytes}
 use Rattle.spec_ntriples.proofs.Numbers.{first-positive, Numbered, kind-least}
 
@@ -41,12 +42,6 @@ zeros-number (suc n) zero = refl
 zeros-number (suc n) (suc z) = omega (arith, zeros-number n z)
 
 -- ---- entries
-
--- An entry that can be written: a term of 32 bits that is not 0, and a length of 64.
-pub record Writable (e : Entry) : Type 0 where
-  pub some : 0 < e .term
-  pub word : e .term < 2 ^ 32
-  pub size : length (e .text) < 2 ^ 64
 
 -- The bytes before its text.
 abbrev header : Entry → List ℕ
