@@ -3,6 +3,7 @@ mod extra; // extra.rt: the walk of the extra fields
 
 use extra::walked_end;
 use spec::Triple;
+use terms::is_statement;
 ghost use mathlib.Core.Path.{_≡_};
 ghost use mathlib.Core.Bool.{true};
 ghost use Prim.Native.Nat.{_+_, _*_, _^_, _≤_, _<_};
@@ -130,9 +131,9 @@ fn is_right_in(statements: bool, x: Triple) -> bool
     ensures { λ r. ⌜ r ≡ isRightIn statements x ⌝ }
 {
     if statements {
-        x.is_statement()
+        is_statement(x)
     } else {
-        !x.is_statement()
+        !is_statement(x)
     }
 }
 

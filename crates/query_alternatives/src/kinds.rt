@@ -1,6 +1,6 @@
 // Which alternatives qualify for an atom. An alternative is a triple of kind, source and target.
-use spec::Term;
 use spec::Triple;
+use terms::Term;
 ghost use mathlib.Core.Path.{_≡_};
 ghost use Rattle.spec.specs.Atoms.{admits};
 ghost use Rattle.query_alternatives.specs.inside.Putting.{alternativeBy, admitsTarget, qualifies};

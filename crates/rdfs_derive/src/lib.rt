@@ -2,9 +2,9 @@
 use rdfs_reach::append_all;
 use rdfs_reach::close;
 use rdfs_reach::no_marks;
-use spec::Term;
 use spec::Triple;
 use table::MOST_STATEMENTS;
+use terms::Term;
 ghost use mathlib.Core.Path.{_≡_};
 ghost use mathlib.Core.Bool.{true, cond};
 ghost use mathlib.Core.List.{[], _∷_, List·Memᴰ};

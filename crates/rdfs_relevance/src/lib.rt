@@ -1,7 +1,7 @@
 // What a property or a class leads to. Each answer is remembered at a place that its question determines, so that it is worked out
 // once for each property or class that is met.
-use spec::Term;
 use spec::Triple;
+use terms::Term;
 ghost use mathlib.Core.Path.{_≡_};
 ghost use mathlib.Core.Bool.{true};
 ghost use mathlib.Core.List.{List, [], List·Memᴰ};

@@ -3,9 +3,9 @@
 // which it is the object. The same run counts the rows and, where they fit, writes them. About linear in facts times columns.
 use saturate_schema::MOST_COLUMNS;
 use saturate_schema::Sizes;
-use spec::Term;
 use table::MOST_FACTS;
 use table::MOST_STATEMENTS;
+use terms::Term;
 ghost use mathlib.Core.Path.{_≡_};
 ghost use mathlib.Core.Bool.{true};
 ghost use Prim.Native.Nat.{ℕ, _*_, _≤_, _<_};

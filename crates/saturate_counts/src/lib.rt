@@ -1,10 +1,10 @@
 // What the facts about a thing add to the counts of the columns: the classes that they give it, and the properties that they lead to.
 use saturate_schema::MOST_COLUMNS;
 use saturate_schema::Sizes;
-use spec::Term;
 use table::object_at;
 use table::property_at;
 use table::subject_at;
+use terms::Term;
 ghost use mathlib.Core.Path.{_≡_};
 ghost use mathlib.Core.Bool.{cond};
 ghost use Prim.Native.Nat.{ℕ, _+_, _-_, _*_, _^_, _≤_, _<_};

@@ -1,11 +1,11 @@
 // Rows with their supports, put one after the other: merged from ascending streams of objects, or from objects and counted keys.
 // What a function puts is said of every list K of kept facts whose supports are those that the function sees: it puts a part of K.
-use spec::Term;
 use spec::Triple;
 use table::MOST_STATEMENTS;
 use table::WORDS;
 use table::object_at;
 use table::wide;
+use terms::Term;
 ghost use mathlib.Core.Path.{_≡_};
 ghost use Prim.Native.Nat.{ℕ, _+_, _-_, _*_, _^_, _≤_, _<_};
 ghost use lib.ListN.{length, getD};

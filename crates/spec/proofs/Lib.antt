@@ -1,4 +1,3 @@
-pub mod Sides
 pub mod Lists
 pub mod Order
 pub mod Tests
@@ -27,3 +26,4 @@ pub mod TableAll
 pub mod TableFormed
 pub mod TableRows
 pub mod Worked
+pub mod WorkedTerms

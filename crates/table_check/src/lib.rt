@@ -5,6 +5,8 @@ use table::MOST_KEPT;
 use table::MOST_STATEMENTS;
 use table::capacity;
 use table::row_at;
+use terms::is_allowed_fact;
+use terms::is_allowed_statement;
 ghost use mathlib.Core.Path.{_≡_};
 ghost use Prim.Native.Nat.{ℕ, _*_, _^_, _≤_, _<_};
 ghost use lib.ListN.{length, take, drop};
@@ -27,7 +29,7 @@ fn are_statement_rows(t: &[u32], n: usize) -> bool
     'rows: while i < n {
         let row = i;
         i += 1;
-        if !row_at(t, row).is_allowed_statement() {
+        if !is_allowed_statement(row_at(t, row)) {
             return false;
         }
         if row == 0 {
@@ -71,7 +73,7 @@ fn are_facts_between(t: &[u32], a: usize, b: usize) -> bool
     let mut i = a;
     while i < b {
         let x = row_at(t, i);
-        ok = ok & (x.is_allowed_fact() & is_less(row_at(t, i - 1), x));
+        ok = ok & (is_allowed_fact(x) & is_less(row_at(t, i - 1), x));
         i += 1;
     }
     ok
@@ -85,7 +87,7 @@ fn are_fact_rows(t: &[u32], n: usize) -> bool
     if n == 0 {
         return true;
     }
-    if !row_at(t, 0).is_allowed_fact() {
+    if !is_allowed_fact(row_at(t, 0)) {
         return false;
     }
     let mut i = 1;

@@ -1,0 +1,18 @@
+-- The result is the definition's, by what the calls ensure. Assumes nothing.
+use Rattle.spec.specs.Terms.{isBlank}
+use borrow.Author.Needs.{needs}
+use Rattle.terms.proofs.Term.is_blank.Statement.{statement}
+use Rattle.terms.proofs.Term.is_blank.Tie as tie
+
+kind-requires : tie.Need-kind-requires
+kind-requires c κs = search needs
+
+number-requires : tie.Need-number-requires
+number-requires c κs = search needs
+
+returns : tie.Need-returns
+unfolding isBlank
+returns c = cc
+
+pub is-blank-spec : {M : Type 1} → statement M
+is-blank-spec = tie.close (tie.spec kind-requires number-requires returns)
