@@ -1,8 +1,8 @@
 // The characters of IRIs and strings, escapes resolved, in lines whose terms were found.
 use ntriples_bytes::Mark;
 use ntriples_bytes::char_at;
-use ntriples_terminals::chars::echar;
-use ntriples_terminals::chars::hex_value;
+use ntriples_chars::echar;
+use ntriples_chars::hex_value;
 ghost use mathlib.Core.List.{List};
 ghost use Prim.Native.Nat.{ℕ, _≤_};
 ghost use Rattle.spec_ntriples.specs.Terminals.{State, Step, slash, digits, outside};

@@ -16,11 +16,11 @@ use Rattle.ntriples_bytes.specs.declared.Mark.{Mark}
 use Rattle.ntriples_bytes.specs.inside.Places.{At, Utf8From, charsAt, Marks}
 use Rattle.ntriples_bytes.proofs.Decoding.{chars-end, chars-stand, chars-marked, from-marked}
 use Rattle.ntriples_bytes.proofs.Marking.{by-test}
-use Rattle.ntriples_terminals.proofs.Testing.{neither, either}
-use Rattle.ntriples_terminals.specs.inside.Pieces.{stepOf, IsPiece}
+use Rattle.ntriples_chars.proofs.Testing.{neither, either}
+use Rattle.ntriples_pieces.specs.inside.Pieces.{stepOf, IsPiece}
 use Rattle.ntriples_terminals.specs.inside.Ends.{Behind, nowhere, behind, behindWhere, behindGot, behindRead, Ended, IsEnd}
-use Rattle.ntriples_terminals.specs.declared.pieces.Piece.{Piece}
-use Rattle.ntriples_terminals.specs.declared.pieces.Piece.the-variants.{Broken, Ends, Gives}
+use Rattle.ntriples_pieces.specs.declared.Piece.{Piece}
+use Rattle.ntriples_pieces.specs.declared.Piece.the-variants.{Broken, Ends, Gives}
 use Rattle.ntriples_terminals.specs.declared.Found.{Found}
 use Rattle.ntriples_terminals.specs.declared.Found.the-variants.{Nothing, End}
 

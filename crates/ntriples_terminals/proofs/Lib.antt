@@ -1,4 +1,2 @@
-pub mod Testing
-pub mod Reading
 pub mod Ending
 pub mod Naming

@@ -1,17 +1,14 @@
 // The terminals of N-Triples in bytes of UTF-8: where each ends.
-pub mod chars; // chars.rt: the sets of characters
-pub mod pieces; // pieces.rt: the characters of IRIs and strings
-
-use chars::is_digit;
-use chars::is_letter;
-use chars::is_letter_or_digit;
-use chars::is_pn_chars;
-use chars::is_pn_chars_u;
-use chars::is_scheme_char;
 use ntriples_bytes::char_at;
-use pieces::Piece;
-use pieces::is_plain;
-use pieces::piece_at;
+use ntriples_chars::is_digit;
+use ntriples_chars::is_letter;
+use ntriples_chars::is_letter_or_digit;
+use ntriples_chars::is_pn_chars;
+use ntriples_chars::is_pn_chars_u;
+use ntriples_chars::is_scheme_char;
+use ntriples_pieces::Piece;
+use ntriples_pieces::is_plain;
+use ntriples_pieces::piece_at;
 ghost use mathlib.Core.Path.{_≡_};
 ghost use mathlib.Core.Bool.{Bool, true, false, _||_};
 ghost use Prim.Native.Nat.{ℕ, _<_};
@@ -22,7 +19,7 @@ ghost use Rattle.spec_ntriples.specs.Terminals.{outside, stringStep, scan, labe
 ghost use Rattle.spec_ntriples.specs.Texts.{isScheme, isAbsolute};
 ghost use Rattle.spec_ntriples.specs.Lines.{readIri};
 ghost use Rattle.ntriples_bytes.specs.inside.Places.{At, Utf8From, charsAt};
-ghost use Rattle.ntriples_terminals.specs.inside.Pieces.{stepOf};
+ghost use Rattle.ntriples_pieces.specs.inside.Pieces.{stepOf};
 ghost use Rattle.ntriples_terminals.specs.inside.Ends.{behindHead, behindWhere, behindGot, behindRead, Ended, IsEnd, goesOn};
 
 // Where something ends; or nothing, where it does not stand there.

@@ -11,8 +11,8 @@ use Rattle.ntriples_terminals.proofs.absolute_end.Statement.{statement}
 use Rattle.ntriples_terminals.proofs.absolute_end.Tie as tie
 use Rattle.ntriples_terminals.proofs.absolute_end.Reads as reads
 use Rattle.ntriples_terminals.proofs.absolute_end.Lts as lts
-use Rattle.ntriples_terminals.proofs.chars.is_letter.Reads as is-letter-reads
-use Rattle.ntriples_terminals.proofs.pieces.piece_at.Reads as piece-at-reads
+use Rattle.ntriples_chars.proofs.is_letter.Reads as is-letter-reads
+use Rattle.ntriples_pieces.proofs.piece_at.Reads as piece-at-reads
 use Rattle.ntriples_terminals.proofs.scheme_end.Reads as scheme-end-reads
 
 -- src/lib.rt:121:9

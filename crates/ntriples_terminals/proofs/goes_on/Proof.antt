@@ -6,8 +6,8 @@ use Rattle.ntriples_terminals.proofs.goes_on.Statement.{statement}
 use Rattle.ntriples_terminals.proofs.goes_on.Tie as tie
 use Rattle.ntriples_terminals.proofs.goes_on.Reads as reads
 use Rattle.ntriples_terminals.proofs.goes_on.Lts as lts
-use Rattle.ntriples_terminals.proofs.chars.is_letter.Reads as is-letter-reads
-use Rattle.ntriples_terminals.proofs.chars.is_letter_or_digit.Reads as is-letter-or-digit-reads
+use Rattle.ntriples_chars.proofs.is_letter.Reads as is-letter-reads
+use Rattle.ntriples_chars.proofs.is_letter_or_digit.Reads as is-letter-or-digit-reads
 
 -- src/lib.rt:192:18
 is-letter-requires : tie.Need-is-letter-requires

@@ -15,8 +15,8 @@ use Rattle.ntriples_terminals.proofs.label_begin.Tie as tie
 use Rattle.ntriples_terminals.proofs.label_begin.Reads as reads
 use Rattle.ntriples_terminals.proofs.label_begin.Lts as lts
 use Rattle.ntriples_bytes.proofs.char_at.Reads as char-at-reads
-use Rattle.ntriples_terminals.proofs.chars.is_digit.Reads as is-digit-reads
-use Rattle.ntriples_terminals.proofs.chars.is_pn_chars_u.Reads as is-pn-chars-u-reads
+use Rattle.ntriples_chars.proofs.is_digit.Reads as is-digit-reads
+use Rattle.ntriples_chars.proofs.is_pn_chars_u.Reads as is-pn-chars-u-reads
 
 -- src/lib.rt:177:9
 returns : tie.Need-returns

@@ -11,7 +11,7 @@ use Rattle.ntriples_terminals.proofs.label_end.Tie as tie
 use Rattle.ntriples_terminals.proofs.label_end.Reads as reads
 use Rattle.ntriples_terminals.proofs.label_end.Lts as lts
 use Rattle.ntriples_bytes.proofs.char_at.Reads as char-at-reads
-use Rattle.ntriples_terminals.proofs.chars.is_pn_chars.Reads as is-pn-chars-reads
+use Rattle.ntriples_chars.proofs.is_pn_chars.Reads as is-pn-chars-reads
 
 abbrev Inv-loop : tie.InvT-loop
 Inv-loop line from end₀ at₀ end at = InLabel line from end at

@@ -11,9 +11,9 @@ use Rattle.ntriples_terminals.proofs.scheme_end.Statement.{statement}
 use Rattle.ntriples_terminals.proofs.scheme_end.Tie as tie
 use Rattle.ntriples_terminals.proofs.scheme_end.Reads as reads
 use Rattle.ntriples_terminals.proofs.scheme_end.Lts as lts
-use Rattle.ntriples_terminals.proofs.chars.is_scheme_char.Reads as is-scheme-char-reads
+use Rattle.ntriples_chars.proofs.is_scheme_char.Reads as is-scheme-char-reads
 use Rattle.ntriples_terminals.proofs.closing_end.Reads as closing-end-reads
-use Rattle.ntriples_terminals.proofs.pieces.piece_at.Reads as piece-at-reads
+use Rattle.ntriples_pieces.proofs.piece_at.Reads as piece-at-reads
 
 abbrev Inv-loop : tie.InvT-loop
 Inv-loop line from at₀ at = Utf8From line at × (inScheme line from ≡ inScheme line at)

@@ -1,6 +1,6 @@
 use native.Mathlib.Omega.{arith}
 use mathlib.Core.Path.{_≡_, refl, sym, _∙_, ap}
-use Rattle.ntriples_terminals.specs.inside.Pieces.{stepOf}
+use Rattle.ntriples_pieces.specs.inside.Pieces.{stepOf}
 use borrow.Author.Needs.{needs}
 use Rattle.ntriples_terminals.proofs.string_end.Statement.{statement}
 use Rattle.ntriples_terminals.proofs.string_end.Tie as tie

@@ -17,7 +17,7 @@ use Rattle.ntriples_cursor.proofs.chars.escape_at.Reads as reads
 use Rattle.ntriples_cursor.proofs.chars.escape_at.Lts as lts
 use Rattle.ntriples_bytes.proofs.char_at.Reads as char-at-reads
 use Rattle.ntriples_cursor.proofs.chars.number_char.Reads as number-char-reads
-use Rattle.ntriples_terminals.proofs.chars.echar.Reads as echar-reads
+use Rattle.ntriples_chars.proofs.echar.Reads as echar-reads
 
 -- src/chars.rt:43:9
 char-at-requires : tie.Need-char-at-requires

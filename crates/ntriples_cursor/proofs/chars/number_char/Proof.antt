@@ -16,7 +16,7 @@ use Rattle.ntriples_cursor.proofs.chars.number_char.Tie as tie
 use Rattle.ntriples_cursor.proofs.chars.number_char.Reads as reads
 use Rattle.ntriples_cursor.proofs.chars.number_char.Lts as lts
 use Rattle.ntriples_bytes.proofs.char_at.Reads as char-at-reads
-use Rattle.ntriples_terminals.proofs.chars.hex_value.Reads as hex-value-reads
+use Rattle.ntriples_chars.proofs.hex_value.Reads as hex-value-reads
 
 abbrev Inv-loop : tie.InvT-loop
 Inv-loop line at count left₀ value₀ place₀ left value place = ((left ≤ count) × (value < 16 ^ (count - left)) × (at + (count - left) ≤ place)) × ((step : State → ℕ → Step) (close : ℕ) (ds rest : List ℕ) → IsReader step close → Reads line at step (digits count 0) ds rest → DigitsDue line place step left value ds rest)
