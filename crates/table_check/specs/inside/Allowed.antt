@@ -1,19 +1,9 @@
--- The rows of each kind of table, as the test of a table asks for them. Definitions only.
-use Prim.Native.Nat.{ℕ, _-_}
-use mathlib.Core.Bool.{Bool, true, false, _&&_}
-use mathlib.Core.List.{List}
-use lib.ListN.{drop}
+-- The rows of each kind of table. Definitions only.
+use mathlib.Core.Bool.{Bool, true, false}
 use Rattle.spec.specs.declared.Triple.{Triple}
 use Rattle.spec.specs.Terms.{isAllowedStatement, isAllowedFact}
-use Rattle.spec.specs.Order.{isAscending}
-use Rattle.spec.specs.Tables.{firstRows}
-use Rattle.spec.specs.Lists.{all}
 
 -- Which rows may stand in a table: statements, or facts.
 abbrev pub allowedIn : Bool → Triple → Bool
 allowedIn true = isAllowedStatement
 allowedIn false = isAllowedFact
-
--- Whether of the first n rows of a table those from row i on are allowed in it and ascend from the row before them.
-unfoldable pub areRowsFrom : (Triple → Bool) → List ℕ → ℕ → ℕ → Bool
-areRowsFrom allowed ws n i = isAscending (drop (i - 1) (firstRows n (drop 1 ws))) && all allowed (drop i (firstRows n (drop 1 ws)))

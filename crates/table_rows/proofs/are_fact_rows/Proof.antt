@@ -6,10 +6,10 @@ use native.Mathlib.Omega.{arith}
 use borrow.Author.Tests.{not-true, not-false}
 use Rattle.spec.specs.Terms.{isAllowedFact}
 use Rattle.spec.proofs.TableAll.{answered}
-use Rattle.table_check.specs.inside.Allowed.{areRowsFrom}
-use Rattle.table_check.proofs.Scan.{refused, passed, no-row, first-part}
-use Rattle.table_check.proofs.are_fact_rows.Statement.{statement}
-use Rattle.table_check.proofs.are_fact_rows.Tie as tie
+use Rattle.table_rows.specs.inside.Rows.{areRowsFrom}
+use Rattle.table_rows.proofs.Scan.{refused, passed, no-row, first-part}
+use Rattle.table_rows.proofs.are_fact_rows.Statement.{statement}
+use Rattle.table_rows.proofs.are_fact_rows.Tie as tie
 
 abbrev Inv-loop : tie.InvT-loop
 Inv-loop t n i₀ i = (0 < i) × (i ≤ n) × (areRowsFrom isAllowedFact t n 0 ≡ areRowsFrom isAllowedFact t n i)

@@ -5,11 +5,11 @@ use mathlib.Core.Path.{_≡_, refl, sym, _∙_}
 use mathlib.Core.Bool.{_&&_}
 use native.Mathlib.Omega.{arith}
 use Rattle.spec.specs.Terms.{isAllowedFact}
-use Rattle.table_check.specs.inside.Allowed.{areRowsFrom}
-use Rattle.table_check.proofs.Scan.{no-row}
-use Rattle.table_check.proofs.Tests.{fold-end, row-fold}
-use Rattle.table_check.proofs.are_facts_between.Statement.{statement}
-use Rattle.table_check.proofs.are_facts_between.Tie as tie
+use Rattle.table_rows.specs.inside.Rows.{areRowsFrom}
+use Rattle.table_zeros.proofs.Folds.{fold-end}
+use Rattle.table_rows.proofs.Scan.{no-row, row-fold}
+use Rattle.table_rows.proofs.are_facts_between.Statement.{statement}
+use Rattle.table_rows.proofs.are_facts_between.Tie as tie
 
 abbrev Inv-loop : tie.InvT-loop
 Inv-loop t a b ok₀ i₀ ok i = (0 < i) × (i ≤ b) × (areRowsFrom isAllowedFact t b a ≡ (ok && areRowsFrom isAllowedFact t b i))

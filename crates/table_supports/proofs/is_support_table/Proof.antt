@@ -1,9 +1,9 @@
 -- By the tests of `isSupportTable`, one by one.
 use mathlib.Core.Path.{sym}
-use Rattle.table_check.proofs.Tests.{too-few, enough-places}
+use Rattle.table_supports.proofs.Tests.{too-few, enough-places}
 use borrow.Author.Needs.{needs}
-use Rattle.table_check.proofs.is_support_table.Statement.{statement}
-use Rattle.table_check.proofs.is_support_table.Tie as tie
+use Rattle.table_supports.proofs.is_support_table.Statement.{statement}
+use Rattle.table_supports.proofs.is_support_table.Tie as tie
 
 returns : tie.Need-returns
 returns c =

@@ -1,7 +1,7 @@
 -- By the comparison of two triples, case by case.
-use Rattle.table_check.proofs.Scan.{tested-isLess}
-use Rattle.table_check.proofs.is_less.Statement.{statement}
-use Rattle.table_check.proofs.is_less.Tie as tie
+use Rattle.table_rows.proofs.Scan.{tested-isLess}
+use Rattle.table_rows.proofs.is_less.Statement.{statement}
+use Rattle.table_rows.proofs.is_less.Tie as tie
 
 returns : tie.Need-returns
 returns c = tested-isLess (c .before .before .before .before .before .before .before .before .before .before .args .x) (c .before .before .before .before .before .before .before .before .before .before .args .y)

@@ -18,7 +18,7 @@ use Rattle.spec.specs.Tables.{tripleFrom, rowAt, firstRows}
 use Rattle.spec.specs.Lists.{all}
 use Rattle.spec.proofs.TableRows.{length-firstRows, getD-rowAt}
 use Rattle.spec.proofs.TableAll.{and-false, and-assoc, all-next, all-end}
-use Rattle.table_check.specs.inside.Allowed.{areRowsFrom}
+use Rattle.table_rows.specs.inside.Rows.{areRowsFrom}
 
 -- ---- a turn, over a list of rows
 
@@ -101,6 +101,12 @@ in-parts test ws (suc k) a b n p e h =
 -- The first part's answer is known.
 pub first-part : (test : Triple → Bool) (ws : List ℕ) (k a n : ℕ) {r x : Bool} → 0 < a → a + k ≤ n → r ≡ areRowsFrom test ws (a + k) a → r ≡ x → areRowsFrom test ws n a ≡ (x && areRowsFrom test ws n (a + k))
 first-part test ws k a n p h e q = rw (← q, e) (in-parts test ws k a (a + k) n p refl h)
+
+-- ok is the answer so far: row i passes and is above the row before it, as two rows that were read say.
+pub row-fold : (ok : Bool) (test : Triple → Bool) (ws : List ℕ) (n i : ℕ) {x y : Triple} {passes less : Bool} → x ≡ rowAt ws i → passes ≡ test x → y ≡ rowAt ws (i - 1) → less ≡ isLess y x → 0 < i → i < n
+    → (ok && areRowsFrom test ws n i) ≡ ((ok && (passes && less)) && areRowsFrom test ws n (i + 1))
+row-fold ok test ws n i a b c d p h =
+    rw (b, d, a, c, next-row test ws n i p h) (and-assoc ok (test (rowAt ws i) && isLess (rowAt ws (i - 1)) (rowAt ws i)) (areRowsFrom test ws n (i + 1)))
 
 -- ---- two rows, word by word
 

@@ -6,11 +6,11 @@ use native.Mathlib.Omega.{arith}
 use borrow.Author.Tests.{not-true, not-false}
 use borrow.Author.Count.{below-more}
 use Rattle.spec.specs.Terms.{isAllowedStatement}
-use Rattle.table_check.specs.inside.Allowed.{areRowsFrom}
+use Rattle.table_rows.specs.inside.Rows.{areRowsFrom}
 use Rattle.spec.proofs.TableAll.{answered}
-use Rattle.table_check.proofs.Scan.{refused, passed, ascended, not-ascended, no-row, Same, less-before, more-before, same-before}
-use Rattle.table_check.proofs.are_statement_rows.Statement.{statement}
-use Rattle.table_check.proofs.are_statement_rows.Tie as tie
+use Rattle.table_rows.proofs.Scan.{refused, passed, ascended, not-ascended, no-row, Same, less-before, more-before, same-before}
+use Rattle.table_rows.proofs.are_statement_rows.Statement.{statement}
+use Rattle.table_rows.proofs.are_statement_rows.Tie as tie
 
 abbrev Inv-words : tie.InvT-words
 Inv-words t n i row at before k₀ k = (k ≤ 3) × Same t before at k

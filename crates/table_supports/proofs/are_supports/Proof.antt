@@ -7,9 +7,10 @@ use native.Mathlib.Omega.{arith}
 use lib.ListN.{take, drop, getD}
 use Rattle.spec.specs.Tables.{isSupport}
 use Rattle.spec.specs.Lists.{all}
-use Rattle.table_check.proofs.Tests.{fold-end, support-fold, support-end}
-use Rattle.table_check.proofs.are_supports.Statement.{statement}
-use Rattle.table_check.proofs.are_supports.Tie as tie
+use Rattle.table_zeros.proofs.Folds.{fold-end}
+use Rattle.table_supports.proofs.Tests.{support-fold, support-end}
+use Rattle.table_supports.proofs.are_supports.Statement.{statement}
+use Rattle.table_supports.proofs.are_supports.Tie as tie
 
 abbrev Inv-loop : tie.InvT-loop
 Inv-loop u facts n highest ok₀ i₀ ok i = (i ≤ n) × (all (isSupport facts) (take n u) ≡ (ok && all (isSupport facts) (drop i (take n u))))
