@@ -13,7 +13,7 @@ use Rattle.spec.specs.inside.Laid.{WellFormed}
 use Rattle.spec.proofs.TableRows.{length-rows}
 use Rattle.spec.specs.inside.Sorting.{sort}
 use Rattle.rows.specs.inside.Rows as sort
-use Rattle.rows_quicksort.specs.inside.Effects.{SortedRows}
+use Rattle.rows.specs.inside.Effects.{SortedRows}
 use Rattle.rows.proofs.RowWords.{drop-ext}
 use Rattle.spec.specs.declared.Reply.the-variants.{Rows, Refused}
 use Rattle.spec.specs.Outputs.{areFitting, filled, replied, give}
