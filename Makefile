@@ -2,7 +2,7 @@
 # these install.  make crate NAME=x: one crate and its edits.
 SHELL := /bin/bash
 .SHELLFLAGS := -eu -o pipefail -c
-.PHONY: run test crate trial bench bench-docs library deps jena prolog postgres valgrind cargo toolchain
+.PHONY: run test crate trial bench bench-docs library deps jena rapper prolog postgres valgrind cargo toolchain
 
 run: toolchain
 	@tools/progress target/run.log rt check families
@@ -10,7 +10,7 @@ run: toolchain
 
 # Standard error shows how far it is; all that the gate prints goes to test.log (it removes target/), and what the trial prints to
 # target/trial.log. The last line is that of the toolchain's gate, which is held back until the trial of the library has passed too.
-test: toolchain cargo jena valgrind
+test: toolchain cargo jena rapper valgrind
 	@tools/progress test.log rt ci
 	@$(MAKE) --no-print-directory trial
 	@tail -n 1 test.log
@@ -19,7 +19,8 @@ test: toolchain cargo jena valgrind
 crate: toolchain
 	@tools/crate "$(NAME)"
 
-# The exported library beside an independent model, beside Apache Jena, and under valgrind.
+# The exported library beside an independent model, beside Apache Jena, and under valgrind; and the model's reader of N-Triples beside those of
+# Jena and of raptor.
 TRIAL := CARGO_TARGET_DIR=target/tests cargo run --release --offline --quiet --manifest-path tests/Cargo.toml --
 TRIAL_LOG := target/trial.log
 
@@ -27,14 +28,15 @@ TRIAL_LOG := target/trial.log
 SHELF := CARGO_TARGET_DIR=target/tests cargo run --release --offline --quiet --manifest-path bindings/rust/Cargo.toml --example shelf
 SHELF_STDOUT := bindings/rust/examples/shelf.stdout
 
-trial: library cargo jena valgrind
+trial: library cargo jena rapper valgrind
 	@tools/chain >$(TRIAL_LOG) || exit 1
 	@$(call try,1,beside the model,)
 	@$(call try,2,beside Apache Jena,--part jena)
 	@$(call try,3,under valgrind,--part memory)
+	@$(call try,4,readers of N-Triples,--part readers)
 	@echo "trial, the example of bindings/rust" >&2; $(SHELF) | diff $(SHELF_STDOUT) - || { echo "the example of bindings/rust does not print $(SHELF_STDOUT)" >&2; exit 1; }
 
-try = echo "trial, part $(1) of 3, $(2): its log is $(TRIAL_LOG)" >&2; $(TRIAL) $(3) >>$(TRIAL_LOG) 2>&1 \
+try = echo "trial, part $(1) of 4, $(2): its log is $(TRIAL_LOG)" >&2; $(TRIAL) $(3) >>$(TRIAL_LOG) 2>&1 \
 	|| { tail -n 40 $(TRIAL_LOG) >&2; echo "the trial failed: $(TRIAL_LOG) has all that it printed" >&2; exit 1; }
 
 # The exported library beside the peers named, and alone: target/bench/report.md and target/bench/plot.svg. `make bench BENCH_PEERS=` runs
@@ -53,7 +55,7 @@ library: toolchain
 	@tools/progress target/library.log rt staticlib capi
 
 # All that the other targets install: each also installs what it needs by itself.
-deps: cargo jena valgrind prolog postgres
+deps: cargo jena rapper valgrind prolog postgres
 
 # Apache Jena as a server on standard input and output, for comparisons (peers/jena); `java @target/jena/server` starts it. Debian's
 # package has Xerces' texts under another path than its classes, so they are laid out again in front of the class path.
@@ -72,6 +74,10 @@ $(JENA)/server: peers/jena/rdfs.rules $(wildcard peers/jena/peer/*.java)
 	@cd $(JENA)/texts && jar xf $(JAVA)/jena-core.jar org/apache/jena/ext/xerces && mv org/apache/jena/ext/xerces . && rm -r org
 	@javac -Xlint:all,-path -cp $(JENA_PATH) -d $(JENA)/classes peers/jena/peer/*.java
 	@echo "-cp $(JENA_PATH) peer.Server peers/jena/rdfs.rules" >$@
+
+# Raptor's reader of N-Triples, for comparisons.
+rapper:
+	@command -v rapper >/dev/null || $(call install,raptor2-utils,raptor's program rapper)
 
 # The two other peers of the bench.
 prolog:

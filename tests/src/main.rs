@@ -1,12 +1,14 @@
 //! Tries the exported library in three parts: against an independent model on random and directed
-//! calls, against Apache Jena on what holds and on questions, and under valgrind.
+//! calls, against Apache Jena on what holds and on questions, and under valgrind; and, in a fourth,
+//! the model's reader of N-Triples beside Jena's and rapper.
 //!
-//!     trial [--part model|jena|memory] [--seed N] [--histories N] [--fault NAME] [--replay FILE]
+//!     trial [--part model|jena|memory|readers] [--seed N] [--histories N] [--fault NAME] [--replay FILE]
 
 mod binding;
 mod comparison;
 mod exhaustive;
 mod fence;
+mod files;
 mod generate;
 mod histories;
 mod library;
@@ -16,6 +18,7 @@ mod model;
 mod outcome;
 mod peer;
 mod random;
+mod readers;
 mod script;
 mod session;
 mod store;
@@ -38,12 +41,19 @@ enum Part {
     Model,
     Jena,
     Memory,
+    Readers,
     /// What valgrind runs for `Memory`.
     Sample,
 }
 
 impl Part {
-    const ALL: [Part; 4] = [Part::Model, Part::Jena, Part::Memory, Part::Sample];
+    const ALL: [Part; 5] = [
+        Part::Model,
+        Part::Jena,
+        Part::Memory,
+        Part::Readers,
+        Part::Sample,
+    ];
 
     /// The name by which the command line calls a part.
     fn name(self) -> &'static str {
@@ -51,6 +61,7 @@ impl Part {
             Part::Model => "model",
             Part::Jena => "jena",
             Part::Memory => "memory",
+            Part::Readers => "readers",
             Part::Sample => "sample",
         }
     }
@@ -61,6 +72,7 @@ impl Part {
             Part::Model => Fault::ALL.map(Fault::name).to_vec(),
             Part::Jena => comparison::FAULTS.map(|fault| fault.0).to_vec(),
             Part::Memory => Vec::new(),
+            Part::Readers => files::Fault::ALL.map(files::Fault::name).to_vec(),
             Part::Sample => library::Fault::ALL.map(library::Fault::name).to_vec(),
         }
     }
@@ -90,8 +102,8 @@ fn usage() -> ! {
     eprintln!(
         "usage: trial [--part NAME] [--seed N] [--histories N] [--fault NAME] [--replay FILE]"
     );
-    eprintln!("parts: model, jena, memory");
-    for part in [Part::Model, Part::Jena] {
+    eprintln!("parts: model, jena, memory, readers");
+    for part in [Part::Model, Part::Jena, Part::Readers] {
         eprintln!("faults of {}: {}", part.name(), part.faults().join(", "));
     }
     exit(2)
@@ -399,6 +411,31 @@ fn sample_part(harness: &mut Harness, options: &Options) {
     );
 }
 
+/// The part `Readers`: the model's reader of N-Triples beside Jena's and rapper.
+fn readers_part(options: &Options) {
+    let start = Instant::now();
+    let folder = beside_program("readers");
+    std::fs::create_dir_all(&folder).expect("the folder of the files cannot be made");
+    let mut desk = readers::Desk::new(&folder);
+    for fault in files::Fault::ALL {
+        if !readers::finds(&mut desk, options.seed, fault) {
+            println!("the planted fault {} was not found", fault.name());
+            exit(1);
+        }
+    }
+    println!("planted faults: {0} of {0} found", files::Fault::ALL.len());
+    match readers::run(&mut desk, options.seed) {
+        Ok(read) => {
+            let time = start.elapsed().as_secs_f64();
+            println!("no difference in reading N-Triples in {time:.0} s: {read}");
+        }
+        Err(difference) => {
+            println!("DIFFERENCE: {difference}");
+            exit(1)
+        }
+    }
+}
+
 /// The harness of a part, with the fault that is asked for.
 fn harness(options: &Options) -> Harness {
     let fault = Fault::ALL.into_iter().find(|f| options.plants(f.name()));
@@ -436,6 +473,9 @@ fn main() {
     let options = options();
     if options.part == Part::Memory {
         return memory::run(options.seed);
+    }
+    if options.part == Part::Readers {
+        return readers_part(&options);
     }
     if !options.watched {
         watch();

@@ -83,6 +83,13 @@ impl Jena {
         Ok(answer.times()[1..].to_vec())
     }
 
+    /// Reads a file of N-Triples, and writes its triples to another, in file order.
+    pub fn read(&mut self, file: &Path, written: &Path) -> Outcome<()> {
+        let request = format!("read {} {}\n", file.display(), written.display());
+        self.pipe.call(&request)?;
+        Ok(())
+    }
+
     /// The SPARQL text that Jena is given for the words of a question.
     pub fn text(&mut self, words: &[u32]) -> Outcome<String> {
         Ok(self.pipe.call(&format!("text {}\n", joined(words)))?.last)

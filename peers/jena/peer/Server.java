@@ -5,6 +5,7 @@ import java.io.BufferedReader;
 import java.io.IOException;
 import java.io.InputStreamReader;
 import java.io.PrintStream;
+import java.nio.file.Path;
 import java.util.ArrayList;
 import java.util.Arrays;
 import java.util.List;
@@ -30,6 +31,7 @@ import org.apache.jena.reasoner.rulesys.Rule;
  * text WORDS        the SPARQL text of a question                             ok TEXT
  * ask WORDS         a row of words for each answer of a question              ok COUNT
  * time N WORDS      answers a question N times, without giving its rows       ok COUNT NANOSECONDS, N of them
+ * read FILE OUT     reads a file of N-Triples, and writes its triples in order  ok COUNT
  * ask-explicit TEXT, time-explicit N TEXT   likewise for SPARQL among the explicit triples, where w and a word stand for a node
  * </pre>
  *
@@ -105,6 +107,8 @@ public final class Server {
                 return "ok " + ask(question(arguments));
             case "time":
                 return "ok " + time(Integer.parseInt(arguments.get(0)), question(arguments.subList(1, arguments.size())));
+            case "read":
+                return "ok " + Reader.read(Path.of(arguments.get(0)), Path.of(arguments.get(1)));
             case "ask-explicit":
                 return "ok " + ask(new Question(arguments));
             case "time-explicit":

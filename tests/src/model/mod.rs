@@ -5,8 +5,10 @@
 
 pub mod alternatives;
 pub mod deliveries;
+pub mod dictionary;
 pub mod ledger;
 pub mod listings;
+pub mod ntriples;
 pub mod questions;
 pub mod rules;
 pub mod tables;
