@@ -28,7 +28,8 @@ use Rattle.spec.specs.declared.Answer.the-variants.{Applied, Idle, Refused}
 use Rattle.spec.specs.declared.Change.{Change}
 use Rattle.spec.specs.declared.Change.the-variants.{Addition, Withdrawal}
 use Rattle.spec.specs.Updates.{isMember, changed, applying, isChange, isAdmitted, contentsAfter, isKeptFitting, update, add, withdraw, outcome}
-use Rattle.saturate.specs.inside.Saturated.{Result, result, written, saturated}
+use Rattle.saturate_write.specs.inside.Written.{Result, result, written}
+use Rattle.saturate.specs.inside.Saturated.{saturated}
 use Rattle.spec.proofs.Outcomes.{Passes, update-idle, update-full, update-unfit, update-applied, member-yes, member-no}
 
 -- What `saturate` asks of the room, and the capacity of the kept facts gives.
