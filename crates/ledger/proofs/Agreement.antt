@@ -14,7 +14,7 @@ use Rattle.spec.specs.Refusals.{firstRefusal, tripleChecks}
 use Rattle.spec.proofs.Lists.{by-test}
 use Rattle.spec.proofs.Ascending.{insert-asc, insert-old, insert-cases, ascending-ext}
 use Rattle.spec.specs.Tables.{capacity, Tables, areFormed, capacitiesOf, Ledger, ledger, Contents, contentsOf, put}
-use Rattle.table.proofs.Change.{remove-absent}
+use Rattle.table_change.proofs.Change.{remove-absent}
 use Rattle.spec.specs.declared.Answer.{Answer}
 use Rattle.spec.specs.declared.Change.{Change}
 use Rattle.spec.specs.declared.Change.the-variants.{Addition, Withdrawal}

@@ -20,7 +20,8 @@ use Rattle.saturate_schema.proofs.Counted.{marks-even, no-type, class-support, 
 use Rattle.saturate_schema.proofs.Made.{compiled-made, keyed-made}
 use Rattle.saturate_counts.specs.inside.Prepared.{Prepared, Facts}
 use Rattle.saturate_counts.specs.inside.Supported.{Supported, Small}
-use Rattle.saturate.specs.inside.Saturated.{Exists, Domains, Ranges}
+use Rattle.saturate_write.specs.inside.Written.{Exists}
+use Rattle.saturate.specs.inside.Saturated.{Domains, Ranges}
 
 -- The facts of a well-formed table.
 pub facts-are : (f : List ℕ) → WellFormed isAllowedFact mostFacts f → Facts f (count f)

@@ -1,3 +1,1 @@
-pub mod Running
-pub mod Passes
 pub mod Known

@@ -3,6 +3,7 @@
 // which it is the object. The same run counts the rows and, where they fit, writes them. About linear in facts times columns.
 use saturate_schema::MOST_COLUMNS;
 use saturate_schema::Sizes;
+use saturate_write::put_all;
 use table::MOST_FACTS;
 use table::MOST_STATEMENTS;
 use terms::Term;
@@ -11,18 +12,12 @@ ghost use mathlib.Core.Bool.{true};
 ghost use Prim.Native.Nat.{ℕ, _*_, _≤_, _<_};
 ghost use lib.ListN.{length};
 ghost use Rattle.spec.specs.Tables.{isStatementTable, isFactTable, count};
-ghost use Rattle.spec.specs.Saturation.{Kept};
-ghost use Rattle.spec.specs.inside.Counts.{Counts};
 ghost use Rattle.saturate_schema.specs.inside.Nodes.{Columns};
 ghost use Rattle.saturate_schema.specs.inside.Squares.{at};
 ghost use Rattle.saturate_index.specs.inside.Index.{Index, Once, Sorted};
-ghost use Rattle.saturate_counts.specs.inside.Prepared.{Prepared, Facts};
-ghost use Rattle.saturate_counts.specs.inside.Supported.{Supported, Small};
-ghost use Rattle.saturate.specs.inside.Saturated.{result, written, saturated, Exists, zeroFrom, Domains, Ranges};
-
-mod run; // run.rt: the run over the subjects
-
-use run::put_rows;
+ghost use Rattle.saturate_counts.specs.inside.Prepared.{Facts};
+ghost use Rattle.saturate_write.specs.inside.Written.{result};
+ghost use Rattle.saturate.specs.inside.Saturated.{saturated, Domains, Ranges};
 
 // How many bits a square has: a row for each statement.
 const SQUARE: usize = MOST_STATEMENTS * MOST_COLUMNS;
@@ -81,7 +76,7 @@ fn fill_square(
     ensures { λ _. ⌜ Ranges (now (statements .entry)) m (now (columns .entry)) ns via (now (square .exit)) ⌝ }
 {
     let mut gain = no_gain();
-    saturate_schema::close(statements, m, columns, ns, via, square, &mut gain);
+    saturate_squares::close(statements, m, columns, ns, via, square, &mut gain);
 }
 
 // Fills a square of 0: what the statements lead to by subclasses, subproperties and domains, themselves left out.
@@ -92,7 +87,7 @@ fn fill_domains(statements: &[u32], m: usize, columns: &[u64], ns: usize, square
     ensures { λ _. ⌜ Domains (now (statements .entry)) m (now (columns .entry)) ns (now (square .exit)) ⌝ }
 {
     fill_square(statements, m, columns, ns, Term::DOMAIN, square);
-    saturate_schema::clear_own(statements, m, columns, ns, square);
+    saturate_squares::clear_own(statements, m, columns, ns, square);
 }
 
 // Fills the places of the facts, in the order of their objects.
@@ -102,85 +97,6 @@ fn fill_places(facts: &[u32], ix: &mut [u32])
     ensures { λ _. ⌜ Index (now (facts .entry)) (now (ix .exit)) (count (now (facts .entry))) × Once (count (now (facts .entry))) (now (ix .exit)) × Sorted (now (facts .entry)) (now (ix .exit)) (count (now (facts .entry))) ⌝ }
 {
     saturate_index::by_object(facts, ix, facts[0] as usize);
-}
-
-// Sets the words from index a on to 0.
-fn zero_words(t: &mut [u32], a: usize)
-    requires { ⌜ a ≤ length (now t) ⌝ }
-    ensures { λ _. ⌜ now (t .exit) ≡ zeroFrom a (now (t .entry)) ⌝ }
-{
-    let mut i = t.len();
-    while a < i {
-        i -= 1;
-        t[i] = 0;
-    }
-}
-
-// Sets the supports from index a on to 0.
-fn zero_supports(t: &mut [u16], a: usize)
-    requires { ⌜ a ≤ length (now t) ⌝ }
-    ensures { λ _. ⌜ now (t .exit) ≡ zeroFrom a (now (t .entry)) ⌝ }
-{
-    let mut i = t.len();
-    while a < i {
-        i -= 1;
-        t[i] = 0;
-    }
-}
-
-// Puts all rows in two passes: the first counts them and writes nothing; where they fit room, the second writes them, and then come the
-// count and the zeros. True where they fit.
-fn put_all(
-    statements: &[u32],
-    domains: &[u8],
-    ranges: &[u8],
-    keys: &[u32; MOST_COLUMNS],
-    facts: &[u32],
-    ix: &[u32],
-    kept: &mut [u32],
-    supports: &mut [u16],
-    sizes: Sizes,
-    room: usize,
-) -> bool
-    requires { ⌜ Prepared (now statements) (sizes .statements) (now keys) (sizes .classes) (sizes .columns) (now domains) (now ranges) ⌝ }
-    requires { ⌜ Facts (now facts) (count (now facts)) ⌝ }
-    requires { ⌜ Index (now facts) (now ix) (count (now facts)) × Once (count (now facts)) (now ix) × Sorted (now facts) (now ix) (count (now facts)) ⌝ }
-    requires { ⌜ Small (now statements) (sizes .statements) (now domains) (now ranges) (now keys) (sizes .classes) (now facts) (count (now facts)) ⌝ }
-    requires { ⌜ Exists (now statements) (sizes .statements) (now domains) (now ranges) (now keys) (sizes .classes) (sizes .columns) (now facts) (count (now facts)) ⌝ }
-    requires { ⌜ (room * 3 < length (now kept)) × (room ≤ length (now supports)) × (room ≤ 262143) ⌝ }
-    ensures { λ r. ⌜ ((K : Kept) → Counts K → Supported K (now (statements .entry)) (sizes .statements) (now (domains .entry)) (now (ranges .entry)) (now (keys .entry)) (sizes .classes) (sizes .columns) (now (facts .entry)) (count (now (facts .entry))) → result r (now (kept .exit)) (now (supports .exit)) ≡ written K room (now (kept .entry)) (now (supports .entry))) ⌝ }
-{
-    let k = put_rows(
-        statements,
-        domains,
-        ranges,
-        keys,
-        facts,
-        ix,
-        kept,
-        supports,
-        sizes,
-        0,
-    );
-    if room < k {
-        return false;
-    }
-    let n = put_rows(
-        statements,
-        domains,
-        ranges,
-        keys,
-        facts,
-        ix,
-        kept,
-        supports,
-        sizes,
-        room,
-    );
-    kept[0] = n as u32;
-    zero_words(kept, n * 3 + 1);
-    zero_supports(supports, n);
-    true
 }
 
 // Works the kept facts and their supports out afresh. True: they are in kept and supports. False: they do not fit room, and no word has changed.
@@ -198,10 +114,10 @@ pub fn saturate(
 {
     let m = statements[0] as usize;
     let mut columns = no_columns();
-    let ns = saturate_schema::columns(statements, m, &mut columns);
-    let nc = saturate_schema::classes(&columns, ns);
+    let ns = saturate_columns::columns(statements, m, &mut columns);
+    let nc = saturate_columns::classes(&columns, ns);
     let mut keys = no_keys();
-    saturate_schema::terms(&columns, ns, &mut keys);
+    saturate_columns::terms(&columns, ns, &mut keys);
     let mut domains = no_bits();
     fill_domains(statements, m, &columns, ns, &mut domains);
     let mut ranges = no_bits();

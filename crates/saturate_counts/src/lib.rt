@@ -98,13 +98,13 @@ fn count_fact(
     let p = property_at(f, y);
     let o = object_at(f, y);
     if p == Term::TYPE {
-        let a = saturate_schema::class_group(statements, m, o);
+        let a = saturate_groups::class_group(statements, m, o);
         if a < m {
             add_row(counts, domains, a, ns);
         }
         return;
     }
-    let g = saturate_schema::property_group(statements, m, p);
+    let g = saturate_groups::property_group(statements, m, p);
     if g < m {
         if o == x {
             add_either(counts, domains, ranges, g, nc, ns);
@@ -160,7 +160,7 @@ fn count_other(
     if subject_at(f, y) == x {
         return;
     }
-    let g = saturate_schema::property_group(statements, m, property_at(f, y));
+    let g = saturate_groups::property_group(statements, m, property_at(f, y));
     if g < m {
         add_row(counts, ranges, g, sizes.classes);
     }

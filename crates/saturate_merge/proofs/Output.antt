@@ -7,7 +7,7 @@ use borrow.Author.Tests.{lt-ltb, le-ltb}
 use Rattle.spec.specs.declared.Triple.{Triple}
 use Rattle.spec.specs.Terms.{triple}
 use Rattle.spec.specs.Saturation.{Kept}
-use Rattle.table.specs.inside.Words.{Entered}
+use Rattle.table_change.specs.inside.Words.{Entered}
 use Rattle.saturate_merge.specs.inside.Output.{Output, output, oneMore, putOne, putAll}
 
 pub put-append : (room : ℕ) (j k : Kept) (out : Output) → putAll room (j ++ k) out ≡ putAll room k (putAll room j out)

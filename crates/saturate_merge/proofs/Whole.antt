@@ -14,7 +14,7 @@ use Rattle.spec.specs.Saturation.{Kept, keptRows, keptSupports}
 use Rattle.spec.specs.inside.Counts.{KeptAbove, Counts, lookup}
 use Rattle.spec.proofs.Kept.{lookup-nil, lookup-same, lookup-other, kept-ext}
 use Rattle.spec.specs.Tables.{flatten}
-use Rattle.table.specs.inside.Words.{putRow}
+use Rattle.table_change.specs.inside.Words.{putRow}
 use Rattle.saturate_merge.specs.inside.Output.{Output, output, oneMore, putOne, putAll}
 use Rattle.saturate_merge.specs.inside.Between.{lessThan, Within, within, between}
 use Rattle.saturate_merge.proofs.Output.{put-here}

@@ -47,7 +47,7 @@ pub fn put(
             property: p,
             object: o,
         };
-        table::put_entry(kept, supports, n, row, support);
+        table_change::put_entry(kept, supports, n, row, support);
         return n + 1;
     }
     if n < MOST_COUNTED {

@@ -21,7 +21,7 @@ fn leads_to(statements: &[u32], sizes: Sizes, domains: &[u8], p: u32, c: usize) 
     ensures { λ r. ⌜ r ≡ eqb (nodeBit (now (statements .entry)) (sizes .statements) (now (domains .entry)) (propertyNode p) c) 1 ⌝ }
 {
     let m = sizes.statements;
-    let g = saturate_schema::property_group(statements, m, p);
+    let g = saturate_groups::property_group(statements, m, p);
     if g < m {
         return domains[g * MOST_COLUMNS + c] == 1;
     }

@@ -16,7 +16,7 @@ use Rattle.spec.proofs.Ascending.{isAscending-iff}
 use Rattle.spec.specs.Tables.{count, rowAt, firstRows, rows, flatten, layout, supportLayout, keptOf}
 use Rattle.spec.proofs.TableRows.{length-firstRows, firstRows-rows, getD-rowAt, flatten-firstRows, length-flatten, length-rows}
 use Rattle.spec.specs.Saturation.{keptRows, keptSupports}
-use Rattle.table.specs.inside.Words.{putRow}
+use Rattle.table_change.specs.inside.Words.{putRow}
 use Rattle.update_kept.specs.inside.Entries.{entries, Room, KeptTables, Sought}
 
 -- ---- zip

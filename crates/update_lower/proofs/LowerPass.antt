@@ -13,7 +13,7 @@ use Rattle.spec.specs.inside.Comparison.{Less, Above, Ascending}
 use Rattle.spec.specs.Tables.{count, tripleFrom, rowAt, firstRows, rows, keptOf}
 use Rattle.spec.proofs.TableRows.{length-firstRows, getD-firstRows, length-rows}
 use Rattle.spec.specs.Saturation.{Kept, lowerAll, keptRows}
-use Rattle.table.specs.inside.Words.{Entered}
+use Rattle.table_change.specs.inside.Words.{Entered}
 use Rattle.update_kept.specs.inside.Entries.{entries, Room, Holding}
 use Rattle.update_kept.proofs.Entries.{noEntry, length-entries, getD-entries, keptRows-entries, keptOf-entries, take-entries, length-putRow, count-putRow, drop-putRow-here, entries-put, room-put, room-rows, room-supports, kept-room}
 use Rattle.update_kept.proofs.Less.{AllLess, ascending-drop}

@@ -1,8 +1,8 @@
 // Supports of kept facts lowered in place, a row at 0 going (document 01, "Tables").
 use spec::Triple;
-use table::Ordering;
-use table::put_entry;
 use table::row_from;
+use table_change::put_entry;
+use table_find::Ordering;
 ghost use mathlib.Core.List.{_++_};
 ghost use Prim.Native.Nat.{_*_, _≤_, _<_};
 ghost use lib.ListN.{length, take, drop};
@@ -45,7 +45,7 @@ fn lower_rows(kept: &mut [u32], supports: &mut [u16], list: &[u32], c: usize, fr
             return Moved { read: i, write: k };
         }
         let x = row_from(list, j);
-        match table::compare_at(kept, i, x) {
+        match table_find::compare_at(kept, i, x) {
             Ordering::Lower => {
                 let row = table::row_at(kept, i);
                 let support = supports[i];

@@ -12,13 +12,14 @@ use Rattle.spec.specs.Terms.{triple}
 use Rattle.spec.specs.Order.{isLess, isSame, insert}
 use Rattle.spec.specs.inside.Comparison.{less-irrefl, Above, Ascending}
 use Rattle.spec.proofs.Ascending.{above-member, insert-asc, insert-old, insert-cases}
-use Rattle.table.specs.declared.Found.{Found}
-use Rattle.table.specs.declared.Found.the-variants.{At, Gap}
+use Rattle.table_find.specs.declared.Found.{Found}
+use Rattle.table_find.specs.declared.Found.the-variants.{At, Gap}
 use Rattle.spec.specs.Tables.{count, tripleFrom, firstRows, rows}
-use Rattle.table.specs.inside.Search.{place, insertAt}
+use Rattle.table_find.specs.inside.Search.{place}
+use Rattle.table_change.specs.inside.Words.{insertAt}
 use Rattle.spec.proofs.TableRows.{length-firstRows, length-rows, getD-firstRows, firstRows-rows}
-use Rattle.table.proofs.Place.{at-member, gap-absent, member-at, absent-gap}
-use Rattle.table.proofs.Change.{insertAt-gap, insert-at}
+use Rattle.table_find.proofs.Place.{at-member, gap-absent, member-at, absent-gap}
+use Rattle.table_change.proofs.Change.{insertAt-gap, insert-at}
 use Rattle.spec.specs.Saturation.{Kept, raise, raiseAll, keptRows}
 use Rattle.spec.proofs.Kept.{length-keptRows}
 use Rattle.update_kept.specs.inside.Entries.{Sought}

@@ -11,11 +11,11 @@ use Rattle.spec.specs.Order.{isLess, isSame}
 use Rattle.spec.proofs.Order.{less-trans}
 use Rattle.spec.proofs.Tests.{order-less, order-same, order-more}
 use Rattle.spec.proofs.Ascending.{above-asc}
-use Rattle.table.specs.declared.Ordering.{Ordering}
-use Rattle.table.specs.declared.Ordering.the-variants.{Lower, Equal, Higher}
+use Rattle.table_find.specs.declared.Ordering.{Ordering}
+use Rattle.table_find.specs.declared.Ordering.the-variants.{Lower, Equal, Higher}
 use Rattle.spec.specs.Tables.{rowAt}
-use Rattle.table.specs.inside.Search.{ordering}
-use Rattle.table.proofs.Place.{ordering-says}
+use Rattle.table_find.specs.inside.Search.{ordering}
+use Rattle.table_find.proofs.Place.{ordering-says}
 use Rattle.spec.specs.Saturation.{Kept, raise, raiseAll, keptRows}
 use Rattle.spec.proofs.Saturation.{raiseAll-length}
 use Rattle.update_kept.proofs.Less.{AllLess}

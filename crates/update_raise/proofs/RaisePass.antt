@@ -9,11 +9,11 @@ use lib.Seq.{take-suc, split-at, take-all, take-take, getD-take, drop-at, length
 use Rattle.spec.specs.declared.Triple.{Triple}
 use Rattle.spec.specs.Terms.{triple}
 use Rattle.spec.specs.inside.Comparison.{Less, Ascending}
-use Rattle.table.specs.declared.Ordering.the-variants.{Lower, Equal, Higher}
+use Rattle.table_find.specs.declared.Ordering.the-variants.{Lower, Equal, Higher}
 use Rattle.spec.specs.Tables.{count, tripleFrom, rowAt, firstRows, rows, keptOf}
 use Rattle.spec.proofs.TableRows.{length-firstRows, getD-firstRows, firstRows-snoc, length-rows}
 use Rattle.spec.specs.Saturation.{Kept, raiseAll, keptRows}
-use Rattle.table.specs.inside.Words.{Entered}
+use Rattle.table_change.specs.inside.Words.{Entered}
 use Rattle.update_kept.specs.inside.Entries.{entries, Room, Holding}
 use Rattle.update_kept.proofs.Entries.{noEntry, length-entries, getD-entries, keptRows-entries, keptOf-entries, take-entries, length-putRow, entries-put, room-put, room-rows, room-supports, kept-room}
 use Rattle.update_kept.proofs.Less.{AllLess}

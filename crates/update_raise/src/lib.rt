@@ -1,16 +1,16 @@
 // Supports of kept facts raised in place, missing rows entering with 1 (document 01, "Tables").
 use spec::Triple;
-use table::Found;
-use table::Ordering;
-use table::put_entry;
 use table::row_from;
+use table_change::put_entry;
+use table_find::Found;
+use table_find::Ordering;
 ghost use mathlib.Core.Path.{_≡_};
 ghost use mathlib.Core.Bool.{true};
 ghost use Prim.Native.Nat.{_+_, _*_, _<_};
 ghost use lib.ListN.{length, drop};
 ghost use Rattle.spec.specs.Order.{isAscending};
 ghost use Rattle.spec.specs.Tables.{firstRows, rows, keptOf};
-ghost use Rattle.table.specs.inside.Search.{place};
+ghost use Rattle.table_find.specs.inside.Search.{place};
 ghost use Rattle.spec.specs.Saturation.{Kept, keptRows, raiseAll};
 ghost use Rattle.update_kept.specs.inside.Entries.{Sought, Holding};
 ghost use Rattle.update_raise.specs.inside.Raising.{absence, lastOrdering, Raisable};
@@ -21,7 +21,7 @@ fn absent(t: &[u32], n: usize, x: Triple) -> usize
     requires { ⌜ isAscending (firstRows n (drop 1 (now t))) ≡ true ⌝ }
     ensures { λ r. ⌜ r ≡ absence (place x (firstRows n (drop 1 (now (t .entry))))) ⌝ }
 {
-    match table::find(t, n, x) {
+    match table_find::find(t, n, x) {
         Found::At(_) => 0,
         Found::Gap(_) => 1,
     }
@@ -50,7 +50,7 @@ fn compare_last(t: &[u32], i: usize, x: Triple) -> Ordering
     if i == 0 {
         return Ordering::Lower;
     }
-    table::compare_at(t, i - 1, x)
+    table_find::compare_at(t, i - 1, x)
 }
 
 // Raises the support of each of c ascending rows by 1; those missing, of which there are so many, enter with 1. One pass from the

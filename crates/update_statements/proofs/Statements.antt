@@ -14,20 +14,22 @@ use Rattle.spec.specs.Terms.{isTriple, isStatement, areSidesAllowed, isAllowedS
 use Rattle.spec.specs.Order.{isAscending, insert, remove}
 use Rattle.spec.proofs.Ascending.{and-left, and-right}
 use Rattle.spec.specs.Saturation.{keptRows, keptSupports, saturation}
-use Rattle.table.specs.declared.Found.the-variants.{At, Gap}
+use Rattle.table_find.specs.declared.Found.the-variants.{At, Gap}
 use Rattle.spec.specs.Tables.{capacity, mostStatements, mostKept, count, rows, firstRows, layout, supportLayout, isStatementTable, tables, capacitiesOf, contentsOf, put}
-use Rattle.table.specs.inside.Search.{place, insertAt, removeAt}
+use Rattle.table_find.specs.inside.Search.{place}
+use Rattle.table_change.specs.inside.Words.{insertAt, removeAt}
 use Rattle.spec.specs.inside.Laid.{Laid, Spare, WellFormed, FormedStore}
 use Rattle.spec.proofs.TableRows.{length-rows, rows-of, length-layout}
-use Rattle.table.proofs.Place.{at-member, gap-absent, missing-at, stands-at}
+use Rattle.table_find.proofs.Place.{at-member, gap-absent, missing-at, stands-at}
 use Rattle.spec.proofs.TableFormed.{capacity-fits, capacity-most, ready, spare, wellFormed-isTable}
-use Rattle.table.proofs.Change.{insertAt-gap, removeAt-at, length-insertAt, length-removeAt, wellFormed-insert, wellFormed-remove}
+use Rattle.table_change.proofs.Change.{insertAt-gap, removeAt-at, length-insertAt, length-removeAt, wellFormed-insert, wellFormed-remove}
 use Rattle.table.proofs.Store.{formed-isStore}
 use Rattle.spec.specs.declared.Answer.the-variants.{Applied, Idle, Refused}
 use Rattle.spec.specs.declared.Change.{Change}
 use Rattle.spec.specs.declared.Change.the-variants.{Addition, Withdrawal}
 use Rattle.spec.specs.Updates.{isMember, changed, applying, isChange, isAdmitted, contentsAfter, isKeptFitting, update, add, withdraw, outcome}
-use Rattle.saturate.specs.inside.Saturated.{Result, result, written, saturated}
+use Rattle.saturate_write.specs.inside.Written.{Result, result, written}
+use Rattle.saturate.specs.inside.Saturated.{saturated}
 use Rattle.spec.proofs.Outcomes.{Passes, update-idle, update-full, update-unfit, update-applied, member-yes, member-no}
 
 -- What `saturate` asks of the room, and the capacity of the kept facts gives.

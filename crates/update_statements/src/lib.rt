@@ -2,14 +2,14 @@
 use spec::Answer;
 use spec::Change;
 use spec::Triple;
-use table::Found;
+use table_find::Found;
 use update_kept::kept_capacity;
 ghost use mathlib.Core.Path.{_≡_};
 ghost use mathlib.Core.Bool.{true};
 ghost use Rattle.spec.specs.Terms.{isAllowedStatement};
-ghost use Rattle.table.specs.declared.Found.the-variants.{At, Gap};
+ghost use Rattle.table_find.specs.declared.Found.the-variants.{At, Gap};
 ghost use Rattle.spec.specs.Tables.{rows, tables};
-ghost use Rattle.table.specs.inside.Search.{place};
+ghost use Rattle.table_find.specs.inside.Search.{place};
 ghost use Rattle.spec.specs.inside.Laid.{FormedStore};
 ghost use Rattle.spec.specs.Updates.{outcome, update, add, withdraw};
 
@@ -33,11 +33,11 @@ fn add_new_statement(
         return Answer::Refused(4);
     }
     let room = kept_capacity(kept, supports);
-    table::insert_at(statements, at, statement);
+    table_change::insert_at(statements, at, statement);
     if saturate::saturate(statements, facts, kept, supports, room) {
         return Answer::Applied;
     }
-    table::remove_at(statements, at);
+    table_change::remove_at(statements, at);
     Answer::Refused(5)
 }
 
@@ -56,11 +56,11 @@ fn withdraw_old_statement(
     ensures { λ r. ⌜ outcome r (tables (now (statements .exit)) (now (facts .entry)) (now (kept .exit)) (now (supports .exit))) ≡ withdraw (tables (now (statements .entry)) (now (facts .entry)) (now (kept .entry)) (now (supports .entry))) statement ⌝ }
 {
     let room = kept_capacity(kept, supports);
-    table::remove_at(statements, at);
+    table_change::remove_at(statements, at);
     if saturate::saturate(statements, facts, kept, supports, room) {
         return Answer::Applied;
     }
-    table::insert_at(statements, at, statement);
+    table_change::insert_at(statements, at, statement);
     Answer::Refused(5)
 }
 
@@ -79,7 +79,7 @@ pub fn update_statement(
     ensures { λ r. ⌜ outcome r (tables (now (statements .exit)) (now (facts .entry)) (now (kept .exit)) (now (supports .exit))) ≡ update change (tables (now (statements .entry)) (now (facts .entry)) (now (kept .entry)) (now (supports .entry))) statement ⌝ }
 {
     let n = statements[0] as usize;
-    match table::find(statements, n, statement) {
+    match table_find::find(statements, n, statement) {
         Found::At(at) => match change {
             Change::Addition => Answer::Idle,
             Change::Withdrawal => withdraw_old_statement(

@@ -6,7 +6,7 @@ use lib.ListN.{set}
 use lib.Dec.{ltb}
 use Rattle.spec.specs.declared.Triple.{Triple}
 use Rattle.spec.specs.Saturation.{Kept}
-use Rattle.table.specs.inside.Words.{putRow}
+use Rattle.table_change.specs.inside.Words.{putRow}
 
 -- The words of the kept table, the supports, and how many rows were put.
 pub record Output : Type 0 where

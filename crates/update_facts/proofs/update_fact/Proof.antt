@@ -1,6 +1,6 @@
 -- By what the search among the facts found, and by the kind of update.
 use Rattle.update_kept.proofs.Found.{found-place}
-use Rattle.update_facts.proofs.Facts.{facts-ready, fact-there, fact-absent}
+use Rattle.update_fact_at.proofs.Facts.{facts-ready, fact-there, fact-absent}
 use borrow.Author.Needs.{needs}
 use Rattle.update_facts.proofs.update_fact.Statement.{statement}
 use Rattle.update_facts.proofs.update_fact.Tie as tie

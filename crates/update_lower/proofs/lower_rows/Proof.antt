@@ -4,9 +4,9 @@ use Prim.Native.Nat.{_+_, _-_}
 use mathlib.Core.Path.{sym, _∙_}
 use native.Mathlib.Omega.{arith}
 use lib.ListN.{length}
-use Rattle.table.specs.declared.Ordering.the-variants.{Lower, Equal, Higher}
+use Rattle.table_find.specs.declared.Ordering.the-variants.{Lower, Equal, Higher}
 use Rattle.spec.specs.Tables.{rows}
-use Rattle.table.proofs.Place.{ordering-says}
+use Rattle.table_find.proofs.Place.{ordering-says}
 use Rattle.update_lower.proofs.LowerPass.{Lowering, lowering-start, lowering-lower, lowering-higher, lowering-stays, lowering-goes, lowering-done, lowering-out}
 use Rattle.update_lower.proofs.lower_rows.Statement.{statement}
 use Rattle.update_lower.proofs.lower_rows.Tie as tie

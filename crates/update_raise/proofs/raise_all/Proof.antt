@@ -3,7 +3,7 @@ use borrow.Author.Needs.{needs}
 use Prim.Native.Nat.{_+_}
 use mathlib.Core.Path.{sym, _∙_}
 use native.Mathlib.Omega.{arith}
-use Rattle.table.specs.declared.Ordering.the-variants.{Lower, Equal, Higher}
+use Rattle.table_find.specs.declared.Ordering.the-variants.{Lower, Equal, Higher}
 use Rattle.update_raise.proofs.Raise.{last-says}
 use Rattle.update_raise.proofs.RaisePass.{Pass, code-start, code-higher, code-equal, code-room, code-lower, code-fits, code-end}
 use Rattle.update_raise.proofs.raise_all.Statement.{statement}

@@ -5,12 +5,12 @@ use mathlib.Core.List.{List}
 use lib.ListN.{length, getD}
 use Rattle.spec.specs.declared.Triple.{Triple}
 use Rattle.spec.specs.inside.Comparison.{Ascending}
-use Rattle.table.specs.declared.Ordering.{Ordering}
-use Rattle.table.specs.declared.Ordering.the-variants.{Lower}
-use Rattle.table.specs.declared.Found.{Found}
-use Rattle.table.specs.declared.Found.the-variants.{At, Gap}
+use Rattle.table_find.specs.declared.Ordering.{Ordering}
+use Rattle.table_find.specs.declared.Ordering.the-variants.{Lower}
+use Rattle.table_find.specs.declared.Found.{Found}
+use Rattle.table_find.specs.declared.Found.the-variants.{At, Gap}
 use Rattle.spec.specs.Tables.{rowAt, firstRows, rows, keptOf}
-use Rattle.table.specs.inside.Search.{ordering}
+use Rattle.table_find.specs.inside.Search.{ordering}
 use Rattle.spec.specs.Saturation.{raiseAll}
 use Rattle.update_kept.specs.inside.Entries.{KeptTables}
 

@@ -2,7 +2,7 @@
 use mathlib.Core.Path.{refl}
 use native.Mathlib.Omega.{arith}
 use Rattle.spec.proofs.TableRows.{length-rows}
-use Rattle.table.proofs.Place.{missing-at}
+use Rattle.table_find.proofs.Place.{missing-at}
 use Rattle.spec.proofs.TableFormed.{wellFormed-isTable}
 use Rattle.update_statements.proofs.Statements.{kept-room, statements-full, statement-spare, with-table, with-laid, statement-added, statement-unfit}
 use borrow.Author.Needs.{needs}
@@ -13,8 +13,8 @@ use Rattle.update_statements.proofs.add_new_statement.Lts as lts
 use Rattle.update_kept.proofs.kept_capacity.Reads as kept-capacity-reads
 use Rattle.saturate.proofs.saturate.Reads as saturate-reads
 use Rattle.table.proofs.capacity.Reads as capacity-reads
-use Rattle.table.proofs.insert_at.Reads as insert-at-reads
-use Rattle.table.proofs.remove_at.Reads as remove-at-reads
+use Rattle.table_change.proofs.insert_at.Reads as insert-at-reads
+use Rattle.table_change.proofs.remove_at.Reads as remove-at-reads
 
 slice-read-n : tie.Need-slice-read-n
 slice-read-n c = search needs

@@ -8,8 +8,8 @@ use Rattle.update_statements.proofs.withdraw_old_statement.Reads as rea
 use Rattle.update_statements.proofs.withdraw_old_statement.Lts as lts
 use Rattle.update_kept.proofs.kept_capacity.Reads as kept-capacity-reads
 use Rattle.saturate.proofs.saturate.Reads as saturate-reads
-use Rattle.table.proofs.insert_at.Reads as insert-at-reads
-use Rattle.table.proofs.remove_at.Reads as remove-at-reads
+use Rattle.table_change.proofs.insert_at.Reads as insert-at-reads
+use Rattle.table_change.proofs.remove_at.Reads as remove-at-reads
 
 kept-capacity-requires : tie.Need-kept-capacity-requires
 kept-capacity-requires c κs = search needs

@@ -1,0 +1,4 @@
+pub mod Shift
+pub mod Insert
+pub mod Remove
+pub mod Change
