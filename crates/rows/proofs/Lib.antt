@@ -2,3 +2,4 @@ pub mod Tables
 pub mod SortLaws
 pub mod RowWords
 pub mod HeldWords
+pub mod Zeroed

@@ -1,6 +1,8 @@
 // The kept facts and their supports, worked out afresh from the statements and the facts. Each statement's subject is compiled into rows of
 // bits that say which classes and properties it leads to; then the rows of each subject are put in order, from its facts and from those of
 // which it is the object. The same run counts the rows and, where they fit, writes them. About linear in facts times columns.
+use rows::zero_supports;
+use rows::zero_words;
 use saturate_schema::MOST_COLUMNS;
 use saturate_schema::Sizes;
 use spec::Term;
@@ -18,7 +20,7 @@ ghost use Rattle.saturate_schema.specs.inside.Squares.{at};
 ghost use Rattle.saturate_index.specs.inside.Index.{Index, Once, Sorted};
 ghost use Rattle.saturate_counts.specs.inside.Prepared.{Prepared, Facts};
 ghost use Rattle.saturate_counts.specs.inside.Supported.{Supported, Small};
-ghost use Rattle.saturate.specs.inside.Saturated.{result, written, saturated, Exists, zeroFrom, Domains, Ranges};
+ghost use Rattle.saturate.specs.inside.Saturated.{result, written, saturated, Exists, Domains, Ranges};
 
 mod run; // run.rt: the run over the subjects
 
@@ -104,30 +106,6 @@ fn fill_places(facts: &[u32], ix: &mut [u32])
     saturate_index::by_object(facts, ix, facts[0] as usize);
 }
 
-// Sets the words from index a on to 0.
-fn zero_words(t: &mut [u32], a: usize)
-    requires { ⌜ a ≤ length (now t) ⌝ }
-    ensures { λ _. ⌜ now (t .exit) ≡ zeroFrom a (now (t .entry)) ⌝ }
-{
-    let mut i = t.len();
-    while a < i {
-        i -= 1;
-        t[i] = 0;
-    }
-}
-
-// Sets the supports from index a on to 0.
-fn zero_supports(t: &mut [u16], a: usize)
-    requires { ⌜ a ≤ length (now t) ⌝ }
-    ensures { λ _. ⌜ now (t .exit) ≡ zeroFrom a (now (t .entry)) ⌝ }
-{
-    let mut i = t.len();
-    while a < i {
-        i -= 1;
-        t[i] = 0;
-    }
-}
-
 // Puts all rows in two passes: the first counts them and writes nothing; where they fit room, the second writes them, and then come the
 // count and the zeros. True where they fit.
 fn put_all(
@@ -178,8 +156,8 @@ fn put_all(
         room,
     );
     kept[0] = n as u32;
-    zero_words(kept, n * 3 + 1);
-    zero_supports(supports, n);
+    zero_words(kept, n * 3 + 1, kept.len());
+    zero_supports(supports, n, supports.len());
     true
 }
 

@@ -1,5 +1,6 @@
 pub mod Sides
 pub mod Lists
+pub mod Each
 pub mod Order
 pub mod Tests
 pub mod Ascending

@@ -5,8 +5,10 @@ use mathlib.Core.List.{List, _++_}
 use Prim.Native.Nat.{ℕ, _+_, _-_}
 use lib.ListN.{length, take, replicate}
 use lib.Dec.{leb}
-use Rattle.spec.specs.Tables.{rows, layout, supportLayout}
-use Rattle.spec.specs.Saturation.{Kept, saturation, keptRows, keptSupports}
+use Rattle.spec.specs.Tables.{rows, layout}
+use Rattle.spec.specs.Lists.{padded}
+use Rattle.spec.specs.Saturation.{Kept, keptRows, keptSupports}
+use Rattle.spec.specs.computed.Saturated.{saturation}
 use Rattle.spec.specs.inside.Counts.{Counts}
 use Rattle.saturate_schema.specs.inside.Nodes.{edges}
 use Rattle.saturate_schema.specs.inside.Squares.{Bits, Closed, Cleared}
@@ -25,7 +27,7 @@ result b ws us = record { fits = b; kept = ws; supports = us }
 -- The kept facts K in tables with these words: all of them if they fit room, else the words as they were.
 unfoldable pub written : Kept → ℕ → List ℕ → List ℕ → Result
 written K room ws us =
-    result (leb (length K) room) (cond (leb (length K) room) (layout (length ws) (keptRows K)) ws) (cond (leb (length K) room) (supportLayout (length us) (keptSupports K)) us)
+    result (leb (length K) room) (cond (leb (length K) room) (layout (length ws) (keptRows K)) ws) (cond (leb (length K) room) (padded (length us) (keptSupports K)) us)
 
 -- The kept facts worked out afresh from the statements and the facts of two tables.
 unfoldable pub saturated : List ℕ → List ℕ → ℕ → List ℕ → List ℕ → Result
