@@ -7,7 +7,8 @@ use Rattle.spec.specs.declared.Reply.the-variants.{Rows, Refused}
 use Rattle.spec.specs.Outputs.{Replied, replied, replyNumber, replyCount}
 use Rattle.spec.specs.declared.Answer.{Answer}
 use Rattle.spec.specs.Tables.{Tables}
-use Rattle.spec.specs.Updates.{outcome, answerNumber}
+use Rattle.spec.specs.Updates.{answerNumber}
+use Rattle.spec.specs.inside.Pairs.{outcome}
 use Rattle.spec.specs.declared.Delivered.{Delivered}
 use Rattle.spec.specs.Exported.{updated, numberedOutcome, received, resultWords, numberedDelivery, listed, numberedReply}
 

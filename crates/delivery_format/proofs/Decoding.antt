@@ -1,5 +1,5 @@
--- The bytes of a whole delivery are those that are written of what it says, and what is written of a message that fits is bytes. Assumes nothing.
-use Prim.Native.Nat.{ℕ, zero, suc, _+_, _*_, _/_, _%_, _^_, _≤_, _<_}
+-- The bytes of a whole delivery are those that are written of what it says. Assumes nothing.
+use Prim.Native.Nat.{ℕ, zero, suc, _+_, _*_, _/_, _%_, _≤_, _<_}
 use mathlib.Core.Path.{_≡_, refl, sym, ap, _∙_}
 use mathlib.Core.Bool.{true}
 use mathlib.Core.List.{List, [], _∷_, _++_, append-assoc}
@@ -7,56 +7,13 @@ use native.Mathlib.Nat.{mod-eq-of-lt, div-eq-of-lt, add-mul-div-right, add-mul-m
 use native.Mathlib.Omega.{arith}
 use lib.ListN.{length, getD, take, drop, take-append-drop, drop-of-length-le}
 use lib.Seq.{drop-cons, drop-drop}
-use Rattle.spec.specs.declared.Triple.{Triple}
-use Rattle.spec.specs.Deliveries.{short, word, entryAt, entriesFrom, sectionAt, sectionEnd, sectionStart, Field, fieldAt, fieldEnd, fieldsFrom, fieldsEnd, Message, read, isWhole}
-use Rattle.delivery_format.specs.Encoding.{shortBytes, wordBytes, entryBytes, entriesBytes, sectionBytes, fieldBytes, fieldsBytes, encode, Each, IsByte, IsShort, IsEntry, IsSection, IsField, Encodable}
+use Rattle.spec.specs.Messages.{shortBytes, wordBytes, entryBytes, entriesBytes, sectionBytes, fieldBytes, fieldsBytes, encode}
+use Rattle.spec.specs.computed.Decoded.{short, word, entryAt, entriesFrom, sectionAt, sectionEnd, sectionStart, fieldAt, fieldEnd, fieldsFrom, fieldsEnd, read, isWhole}
+use Rattle.delivery_format.specs.inside.Encodable.{IsByte}
+use Rattle.spec.specs.inside.Each.{Each}
 use Rattle.delivery_format.proofs.Walk.{length-entriesFrom, length-fieldsFrom, fields-end-from}
 use Rattle.delivery_format.proofs.Whole.{whole-end, whole-fields, section-next, section-within}
 use Rattle.delivery_format.proofs.Tagged.{field-length}
-
--- ---- the bytes of a message that fits
-
-each-append : {A : Type 0} (P : A → Type 0) (xs ys : List A) → Each P xs → Each P ys → Each P (xs ++ ys)
-each-append P [] ys a b = b
-each-append P (x ∷ xs) ys a b = (a .0, each-append P xs ys (a .1) b)
-
-short-fits : (n : ℕ) → IsShort n → Each IsByte (shortBytes n)
-unfolding shortBytes
-short-fits n h = (omega arith, (omega arith, tt))
-
-word-fits : (w : ℕ) → w < 2 ^ 32 → Each IsByte (wordBytes w)
-unfolding wordBytes
-word-fits w h = each-append IsByte (shortBytes (w % 65536)) (shortBytes (w / 65536)) (short-fits (w % 65536) (omega arith)) (short-fits (w / 65536) (omega arith))
-
-entries-fit : (ts : List Triple) → Each IsEntry ts → Each IsByte (entriesBytes ts)
-unfolding entriesBytes entryBytes
-entries-fit [] e = tt
-entries-fit (t ∷ ts) e =
-    each-append IsByte (entryBytes t) (entriesBytes ts)
-    (each-append IsByte (wordBytes (t .subject)) (wordBytes (t .property) ++ wordBytes (t .object)) (word-fits _ (e .0 .subject)) (each-append IsByte (wordBytes (t .property)) (wordBytes (t .object)) (word-fits _ (e .0 .property)) (word-fits _ (e .0 .object))))
-    (entries-fit ts (e .1))
-
-section-fits : (ts : List Triple) → IsSection ts → Each IsByte (sectionBytes ts)
-unfolding sectionBytes
-section-fits ts e = each-append IsByte (shortBytes (length ts)) (entriesBytes ts) (short-fits _ (e .count)) (entries-fit ts (e .entries))
-
-fields-fit : (fs : List Field) → Each IsField fs → Each IsByte (fieldsBytes fs)
-unfolding fieldsBytes fieldBytes
-fields-fit [] e = tt
-fields-fit (f ∷ fs) e =
-    each-append IsByte (fieldBytes f) (fieldsBytes fs)
-    (each-append IsByte (shortBytes (f .tag)) (shortBytes (length (f .bytes)) ++ f .bytes) (short-fits _ (e .0 .tag)) (each-append IsByte (shortBytes (length (f .bytes))) (f .bytes) (short-fits _ (e .0 .length)) (e .0 .bytes)))
-    (fields-fit fs (e .1))
-
--- Each number that is written is a byte.
-pub encode-bytes : (m : Message) → Encodable m → Each IsByte (encode m)
-unfolding encode
-encode-bytes m e =
-    each-append IsByte (sectionBytes (m .statementsWithdrawn)) _ (section-fits _ (e .statementsWithdrawn))
-    (each-append IsByte (sectionBytes (m .factsWithdrawn)) _ (section-fits _ (e .factsWithdrawn))
-    (each-append IsByte (sectionBytes (m .statementsAdded)) _ (section-fits _ (e .statementsAdded))
-    (each-append IsByte (sectionBytes (m .factsAdded)) _ (section-fits _ (e .factsAdded))
-    (each-append IsByte (shortBytes (length (m .fields))) _ (short-fits _ (e .count)) (fields-fit _ (e .fields))))))
 
 -- ---- numbers that are read
 
@@ -95,7 +52,7 @@ module _ (bs : List ℕ) (each : Each IsByte bs) where
   unfolding word wordBytes
   word-parts at = rw (low-part (short bs at) (short bs (at + 2)) 65536 (omega arith) (short-below at), high-part (short bs at) (short bs (at + 2)) 65536 (omega arith) (short-below at))
 
-  word-again : (at next : ℕ) → next ≡ at + 4 → next ≤ length bs → drop at bs ≡ wordBytes (word bs at) ++ drop next bs
+  pub word-again : (at next : ℕ) → next ≡ at + 4 → next ≤ length bs → drop at bs ≡ wordBytes (word bs at) ++ drop next bs
   word-again at next e h =
       rw (word-parts at)
       (join at (at + 2) next (shortBytes (short bs at)) (shortBytes (short bs (at + 2))) (short-again at (at + 2) refl (omega arith)) (short-again (at + 2) next (omega arith) h))

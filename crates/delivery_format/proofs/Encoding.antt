@@ -11,8 +11,8 @@ use lib.Dec.{leb}
 use borrow.Author.Tests.{eq-eqb}
 use Rattle.spec.specs.declared.Triple.{Triple}
 use Rattle.spec.specs.inside.Comparison.{triple-eq}
-use Rattle.spec.specs.Deliveries.{short, word, entryAt, entriesFrom, sectionAt, sectionEnd, sectionStart, Field, fieldAt, fieldEnd, fieldsFrom, fieldsEnd, Message, read, mostBytes, isWhole}
-use Rattle.delivery_format.specs.Encoding.{shortBytes, wordBytes, entryBytes, entriesBytes, sectionBytes, fieldBytes, fieldsBytes, encode}
+use Rattle.spec.specs.Messages.{Field, Message, mostBytes, shortBytes, wordBytes, entryBytes, entriesBytes, sectionBytes, fieldBytes, fieldsBytes, encode}
+use Rattle.spec.specs.computed.Decoded.{short, word, entryAt, entriesFrom, sectionAt, sectionEnd, sectionStart, fieldAt, fieldEnd, fieldsFrom, fieldsEnd, read, isWhole}
 
 -- ---- what is left of some bytes
 

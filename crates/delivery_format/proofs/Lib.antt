@@ -4,3 +4,5 @@ pub mod Tagged
 pub mod Encoding
 pub mod Unknown
 pub mod Decoding
+pub mod Fitting
+pub mod Decoded

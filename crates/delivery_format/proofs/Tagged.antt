@@ -10,7 +10,9 @@ use lib.Dec.{eqb, eqb·suc-zero}
 use borrow.Author.Tests.{eqb-true, eq-eqb, ne-eqb}
 use Rattle.spec.specs.Lists.{all}
 use Rattle.delivery_format.specs.declared.Fields.{Fields}
-use Rattle.spec.specs.Deliveries.{short, word, sectionAt, sectionStart, Field, fieldAt, fieldEnd, fieldsFrom, fieldsEnd, numberTag, numberFields, read, isWhole, areSectionsRight, isNumberRight, numberOf}
+use Rattle.spec.specs.Deliveries.{numberFields, areSectionsRight, isNumberRight, numberOf}
+use Rattle.spec.specs.Messages.{Field}
+use Rattle.spec.specs.computed.Decoded.{short, word, sectionAt, sectionStart, fieldAt, fieldEnd, fieldsFrom, fieldsEnd, read, isWhole}
 use Rattle.delivery_format.specs.inside.Fields.{isRightIn, ExtraFields, FromNumber}
 use Rattle.delivery_format.proofs.Walk.{fields-end-more, fields-end-from, fields-end-first, number-here, number-none}
 use Rattle.delivery_format.proofs.Whole.{whole-length, whole-end}
@@ -54,7 +56,7 @@ four f [] h = eqb-true _ _ h
 four f (g ∷ fs) h = absurd (let z : _≡_ {A = ℕ} 0 1 = cc in omega arith)
 
 -- One of length 4 is right where those that are left are none; of these the first has tag 1.
-rest-right : (f : Field) (bs : List ℕ) (at n : ℕ) → length (f .bytes) ≡ 4 → (0 < n → short bs at ≡ numberTag) → eqb n 0 ≡ isNumberRight (f ∷ numberFields (fieldsFrom bs at n))
+rest-right : (f : Field) (bs : List ℕ) (at n : ℕ) → length (f .bytes) ≡ 4 → (0 < n → short bs at ≡ 1) → eqb n 0 ≡ isNumberRight (f ∷ numberFields (fieldsFrom bs at n))
 unfolding isNumberRight
 rest-right f bs at zero e t = rw (number-none bs at 0 refl, eq-eqb _ _ e)
 rest-right f bs at (suc n) e t = rw (number-here bs at (suc n) (omega arith) (t (omega arith)), eqb·suc-zero n)

@@ -2,8 +2,10 @@
 use mathlib.Core.Path.{_≡_, ap}
 use mathlib.Core.List.{List, [], _∷_, _++_}
 use borrow.Author.Tests.{ne-eqb}
-use Rattle.spec.specs.Deliveries.{Field, Message, numberTag, numberFields, areSectionsRight, isNumberRight, numberOf}
-use Rattle.delivery_format.specs.Encoding.{Agree}
+use Rattle.spec.specs.Lists.{select}
+use Rattle.spec.specs.Deliveries.{numberFields, areSectionsRight, isNumberRight, numberOf}
+use Rattle.spec.specs.Messages.{Field, Message}
+use Rattle.delivery_format.specs.inside.Encodable.{Agree}
 
 -- The questions 10 and 11 and the delivery number of messages that agree but for such fields.
 module _ (m n : Message) (e : Agree m n) where
@@ -18,7 +20,7 @@ module _ (m n : Message) (e : Agree m n) where
   unknown-number = ap numberOf (e .numbers)
 
 -- A field with another tag may stand anywhere among the fields.
-pub unknown-field : (f : Field) → (f .tag ≡ numberTag → ⊥) → (fs gs : List Field) → numberFields (fs ++ f ∷ gs) ≡ numberFields (fs ++ gs)
-unfolding numberFields
+pub unknown-field : (f : Field) → (f .tag ≡ 1 → ⊥) → (fs gs : List Field) → numberFields (fs ++ f ∷ gs) ≡ numberFields (fs ++ gs)
+unfolding numberFields select
 unknown-field f h [] gs = rw (ne-eqb _ _ h)
 unknown-field f h (g ∷ fs) gs = rw (unknown-field f h fs gs)

@@ -8,8 +8,9 @@ use native.Mathlib.Omega.{arith}
 use lib.ListN.{length}
 use borrow.Author.Tests.{eq-eqb, ne-eqb}
 use Rattle.spec.specs.declared.Triple.{Triple}
-use Rattle.spec.specs.Lists.{all}
-use Rattle.spec.specs.Deliveries.{short, entryAt, entriesFrom, sectionEnd, sectionStart, fieldAt, fieldEnd, fieldsFrom, fieldsEnd, numberTag, numberFields}
+use Rattle.spec.specs.Lists.{all, select}
+use Rattle.spec.specs.Deliveries.{numberFields}
+use Rattle.spec.specs.computed.Decoded.{short, entryAt, entriesFrom, sectionEnd, sectionStart, fieldAt, fieldEnd, fieldsFrom, fieldsEnd}
 
 -- ---- sections
 
@@ -98,16 +99,16 @@ fields-end-first bs at (suc n) h = fields-end-from bs (fieldEnd bs at) n
 
 module _ (bs : List ℕ) (at n : ℕ) where
   -- A field with another tag is stepped over.
-  pub number-more : (next : ℕ) → 0 < n → next ≡ fieldEnd bs at → (short bs at ≡ numberTag → ⊥) → numberFields (fieldsFrom bs at n) ≡ numberFields (fieldsFrom bs next (n - 1))
-  unfolding numberFields
+  pub number-more : (next : ℕ) → 0 < n → next ≡ fieldEnd bs at → (short bs at ≡ 1 → ⊥) → numberFields (fieldsFrom bs at n) ≡ numberFields (fieldsFrom bs next (n - 1))
+  unfolding numberFields select
   number-more next h q e = rw (fields-step bs at n h, ne-eqb _ _ e, q)
 
   -- A field with tag 1 is the first of them.
-  pub number-here : 0 < n → short bs at ≡ numberTag → numberFields (fieldsFrom bs at n) ≡ fieldAt bs at ∷ numberFields (fieldsFrom bs (fieldEnd bs at) (n - 1))
-  unfolding numberFields
+  pub number-here : 0 < n → short bs at ≡ 1 → numberFields (fieldsFrom bs at n) ≡ fieldAt bs at ∷ numberFields (fieldsFrom bs (fieldEnd bs at) (n - 1))
+  unfolding numberFields select
   number-here h e = rw (fields-step bs at n h, eq-eqb _ _ e)
 
 -- Of no fields none has tag 1.
 pub number-none : (bs : List ℕ) (at n : ℕ) → n ≡ 0 → numberFields (fieldsFrom bs at n) ≡ []
-unfolding numberFields fieldsFrom
+unfolding numberFields fieldsFrom select
 number-none bs at n h = rw h

@@ -9,7 +9,8 @@ use lib.ListN.{length}
 use lib.Dec.{leb, eqb}
 use borrow.Author.Tests.{leb-true, eqb-true, lt-leb, le-leb}
 use Rattle.spec.proofs.Ascending.{and-left, and-right}
-use Rattle.spec.specs.Deliveries.{short, sectionEnd, sectionStart, fieldsEnd, mostBytes, isWhole}
+use Rattle.spec.specs.Messages.{mostBytes}
+use Rattle.spec.specs.computed.Decoded.{short, sectionEnd, sectionStart, fieldsEnd, isWhole}
 use Rattle.delivery_format.specs.inside.Fields.{countedEnd}
 use Rattle.delivery_format.proofs.Walk.{fields-end-from}
 

@@ -3,7 +3,7 @@ use crate::field_end;
 use crate::short_at;
 ghost use mathlib.Core.Path.{_≡_};
 ghost use Prim.Native.Nat.{_^_, _<_};
-ghost use Rattle.spec.specs.Deliveries.{fieldsEnd};
+ghost use Rattle.spec.specs.computed.Decoded.{fieldsEnd};
 ghost use Rattle.delivery_format.specs.inside.Fields.{countedEnd};
 
 // Where the n fields from an index on end.

@@ -9,7 +9,8 @@ ghost use mathlib.Core.Bool.{true};
 ghost use Prim.Native.Nat.{_+_, _*_, _^_, _≤_, _<_};
 ghost use lib.ListN.{length, getD};
 ghost use Rattle.spec.specs.Lists.{all};
-ghost use Rattle.spec.specs.Deliveries.{short, word, entryAt, entriesFrom, sectionAt, sectionEnd, sectionStart, fieldEnd, fieldsEnd, numberFields, read, isWhole, areSectionsRight, isNumberRight, numberOf};
+ghost use Rattle.spec.specs.Deliveries.{numberFields, areSectionsRight, isNumberRight, numberOf};
+ghost use Rattle.spec.specs.computed.Decoded.{short, word, entryAt, entriesFrom, sectionAt, sectionEnd, sectionStart, fieldEnd, fieldsEnd, read, isWhole};
 ghost use Rattle.delivery_format.specs.inside.Fields.{isRightIn, ExtraFields, FromNumber};
 
 // The most bytes of a delivery.

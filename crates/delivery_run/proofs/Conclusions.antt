@@ -6,7 +6,9 @@ use mathlib.Core.List.{List}
 use Rattle.spec.specs.Refusals.{firstRefusal}
 use Rattle.spec.specs.Tables.{Tables, areFormed}
 use Rattle.spec.specs.Updates.{update}
-use Rattle.spec.specs.Deliveries.{read, isWhole, areSectionsRight, isNumberRight, numberFields, numberOf, tally, Progress, progress, runMessage, delivered, conclude, deliver}
+use Rattle.spec.specs.Deliveries.{areSectionsRight, isNumberRight, numberFields, numberOf, tally, runMessage, delivered, conclude, deliver}
+use Rattle.spec.specs.inside.Pairs.{progress}
+use Rattle.spec.specs.computed.Decoded.{read, isWhole}
 use Rattle.spec.specs.declared.Tally.{Tally}
 use Rattle.spec.specs.declared.Delivered.{Delivered}
 
@@ -33,13 +35,13 @@ module _ (T : Tables) (bs : List ℕ) where
 
   -- Where every answer is yes, the entries are run.
   runs : areFormed T ≡ true → isWhole bs ≡ true → areSectionsRight (read bs) ≡ true → isNumberRight (numberFields (read bs .fields)) ≡ true
-      → deliver T bs ≡ (delivered 0 (numberOf (numberFields (read bs .fields))) (runMessage update (read bs) (progress T (tally 0 0 0)) .counted), runMessage update (read bs) (progress T (tally 0 0 0)) .holder)
+      → deliver T bs ≡ (delivered 0 (numberOf (numberFields (read bs .fields))) (runMessage update (read bs) (progress T (tally 0 0 0)) .1), runMessage update (read bs) (progress T (tally 0 0 0)) .0)
   unfolding deliver conclude firstRefusal
   runs e f g h = rw (e, f, g, h) refl
 
   pub accepted : {T' : Tables} {y : Tally} (n : ℕ) → areFormed T ≡ true → isWhole bs ≡ true → areSectionsRight (read bs) ≡ true → isNumberRight (numberFields (read bs .fields)) ≡ true
       → n ≡ numberOf (numberFields (read bs .fields)) → progress T' y ≡ runMessage update (read bs) (progress T (tally 0 0 0)) → (delivered 0 n y, T') ≡ deliver T bs
   accepted n e f g h q r =
-      ap (λ (p : Progress Tables). (delivered 0 n (p .counted), p .holder)) r
-      ∙ ap (λ (m : ℕ). (delivered 0 m (runMessage update (read bs) (progress T (tally 0 0 0)) .counted), runMessage update (read bs) (progress T (tally 0 0 0)) .holder)) q
+      ap (λ (p : Tables × Tally). (delivered 0 n (p .1), p .0)) r
+      ∙ ap (λ (m : ℕ). (delivered 0 m (runMessage update (read bs) (progress T (tally 0 0 0)) .1), runMessage update (read bs) (progress T (tally 0 0 0)) .0)) q
       ∙ sym (runs e f g h)

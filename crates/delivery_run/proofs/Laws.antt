@@ -5,12 +5,16 @@ use mathlib.Core.Bool.{true}
 use mathlib.Core.List.{List, _∷_}
 use native.Mathlib.Omega.{arith}
 use lib.ListN.{length}
+use Rattle.spec.specs.declared.Tally.{Tally}
 use Rattle.spec.specs.Refusals.{firstRefusal}
 use Rattle.spec.specs.Tables.{Tables, areFormed}
 use Rattle.spec.specs.declared.Change.the-variants.{Addition, Withdrawal}
 use Rattle.spec.specs.Updates.{update}
-use Rattle.spec.specs.Deliveries.{Message, read, isWhole, numberFields, numberOf, tally, Update, Progress, progress, runEntries, runMessage, delivered, messageChecks, conclude, deliver}
-use Rattle.delivery_format.specs.Encoding.{Agree}
+use Rattle.spec.specs.Deliveries.{numberFields, numberOf, tally, Update, runEntries, runMessage, delivered, messageChecks, conclude, deliver}
+use Rattle.spec.specs.inside.Pairs.{progress}
+use Rattle.spec.specs.Messages.{Message}
+use Rattle.spec.specs.computed.Decoded.{read, isWhole}
+use Rattle.delivery_format.specs.inside.Encodable.{Agree}
 use Rattle.delivery_format.proofs.Unknown.{unknown-sections, unknown-number}
 use Rattle.delivery_tally.specs.inside.Totals.{total}
 use Rattle.delivery_section.proofs.Runs.{run-total}
@@ -34,7 +38,7 @@ deliver-refused T bs n e = conclude-refused update (firstRefusal ((1, areFormed 
 abbrev pub entryCount : Message → ℕ
 entryCount m = length (m .statementsWithdrawn) + length (m .factsWithdrawn) + length (m .statementsAdded) + length (m .factsAdded)
 
-message-total : {A : Type 0} (f : Update A) (m : Message) (h : A) → total (runMessage f m (progress h (tally 0 0 0)) .counted) ≡ entryCount m
+message-total : {A : Type 0} (f : Update A) (m : Message) (h : A) → total (runMessage f m (progress h (tally 0 0 0)) .1) ≡ entryCount m
 unfolding runMessage
 message-total f m h =
     let g₀ = progress h (tally 0 0 0) in
@@ -56,7 +60,7 @@ deliver-total T bs e = conclude-total update (firstRefusal ((1, areFormed T) ∷
 -- ---- unknown fields
 
 module _ {m m' : Message} (S : Agree m m') where
-  same-run : {A : Type 0} (f : Update A) (g : Progress A) → runMessage f m g ≡ runMessage f m' g
+  same-run : {A : Type 0} (f : Update A) (g : A × Tally) → runMessage f m g ≡ runMessage f m' g
   unfolding runMessage
   same-run f g = rw (S .statementsWithdrawn, S .factsWithdrawn, S .statementsAdded, S .factsAdded) refl
 
@@ -64,8 +68,8 @@ module _ {m m' : Message} (S : Agree m m') where
   unfolding conclude
   same-conclusion f (suc n) h = refl
   same-conclusion {A} f zero h =
-      ap (λ (g : Progress A). (delivered 0 (numberOf (numberFields (m .fields))) (g .counted), g .holder)) (same-run f (progress h (tally 0 0 0)))
-      ∙ ap (λ (n : ℕ). (delivered 0 n (runMessage f m' (progress h (tally 0 0 0)) .counted), runMessage f m' (progress h (tally 0 0 0)) .holder)) (unknown-number m m' S)
+      ap (λ (g : A × Tally). (delivered 0 (numberOf (numberFields (m .fields))) (g .1), g .0)) (same-run f (progress h (tally 0 0 0)))
+      ∙ ap (λ (n : ℕ). (delivered 0 n (runMessage f m' (progress h (tally 0 0 0)) .1), runMessage f m' (progress h (tally 0 0 0)) .0)) (unknown-number m m' S)
 
 -- Unknown fields change no answer and no word: whole deliveries that say the same but for them do the same.
 pub unknown-fields : (T : Tables) (bs cs : List ℕ) → isWhole bs ≡ true → isWhole cs ≡ true → Agree (read bs) (read cs) → deliver T bs ≡ deliver T cs

@@ -9,7 +9,9 @@ use Rattle.spec.specs.Terms.{isStatement}
 use Rattle.spec.proofs.Ascending.{and-left, and-right}
 use Rattle.spec.specs.Tables.{Tables, areFormed}
 use Rattle.spec.specs.Lists.{all}
-use Rattle.spec.specs.Deliveries.{read, isWhole, isFact, areSectionsRight, tally, Progress, progress, runEntries, runMessage}
+use Rattle.spec.specs.Deliveries.{isFact, areSectionsRight, tally, runEntries, runMessage}
+use Rattle.spec.specs.inside.Pairs.{progress}
+use Rattle.spec.specs.computed.Decoded.{read, isWhole}
 use Rattle.spec.specs.declared.Change.the-variants.{Addition, Withdrawal}
 use Rattle.spec.specs.Updates.{update}
 use Rattle.spec.specs.declared.Tally.{Tally}
@@ -34,7 +36,7 @@ second-facts bs e = and-left (all isFact (section bs 1)) _ (and-right (all isSta
 
 -- What was known of a store before additions is true after them.
 pub still-formed : {T' : Tables} {y' : Tally} (b : Bool) (ts : List Triple) (T : Tables) (y : Tally) → b ≡ areFormed T → progress T' y' ≡ runEntries (update Addition) ts (progress T y) → b ≡ areFormed T'
-still-formed b ts T y e q = e ∙ sym (ap (λ (g : Progress Tables). areFormed (g .holder)) q ∙ additions-formed ts (progress T y))
+still-formed b ts T y e q = e ∙ sym (ap (λ (g : Tables × Tally). areFormed (g .0)) q ∙ additions-formed ts (progress T y))
 
 -- ---- all four
 

@@ -11,7 +11,9 @@ ghost use mathlib.Core.Bool.{true};
 ghost use Rattle.spec.specs.inside.Laid.{FormedStore};
 ghost use Rattle.spec.specs.Tables.{tables};
 ghost use Rattle.spec.specs.Updates.{update};
-ghost use Rattle.spec.specs.Deliveries.{read, isWhole, areSectionsRight, tally, progress, runMessage, delivered, deliver};
+ghost use Rattle.spec.specs.Deliveries.{areSectionsRight, tally, runMessage, delivered, deliver};
+ghost use Rattle.spec.specs.inside.Pairs.{progress};
+ghost use Rattle.spec.specs.computed.Decoded.{read, isWhole};
 
 // Runs the four sections of a whole delivery, whose entries are right for them, over a well-formed store: statements withdrawn,
 // facts withdrawn, statements added, facts added.

@@ -13,7 +13,8 @@ ghost use Rattle.spec.specs.Lists.{all};
 ghost use Rattle.spec.specs.inside.Laid.{FormedStore};
 ghost use Rattle.spec.specs.declared.Change.the-variants.{Addition};
 ghost use Rattle.spec.specs.Updates.{update};
-ghost use Rattle.spec.specs.Deliveries.{progress, runEntries};
+ghost use Rattle.spec.specs.Deliveries.{runEntries};
+ghost use Rattle.spec.specs.inside.Pairs.{progress};
 ghost use Rattle.delivery_section.specs.inside.Running.{keepsFormed, section, Next};
 
 // Runs the entries of section k over a well-formed store, which they keep so.

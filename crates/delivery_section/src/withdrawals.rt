@@ -15,7 +15,8 @@ ghost use lib.ListN.{take};
 ghost use Rattle.spec.specs.inside.Laid.{FormedStore};
 ghost use Rattle.spec.specs.declared.Change.the-variants.{Withdrawal};
 ghost use Rattle.spec.specs.Updates.{update};
-ghost use Rattle.spec.specs.Deliveries.{isFact, progress, runEntries};
+ghost use Rattle.spec.specs.Deliveries.{isFact, runEntries};
+ghost use Rattle.spec.specs.inside.Pairs.{progress};
 ghost use Rattle.delivery_section.specs.inside.Running.{highest, section, Next};
 
 // A fact's withdrawal: its answer, a bound of the supports after it, and whether the store is well formed still.

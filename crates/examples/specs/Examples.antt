@@ -2,12 +2,13 @@
 -- the theorem that covers the table.
 use mathlib.Core.Path.{_≡_}
 use mathlib.Core.List.{List, [], _∷_}
-use Prim.Native.Nat.{ℕ}
+use Prim.Native.Nat.{ℕ, _+_, _*_, _^_}
 use Rattle.spec.specs.declared.Triple.{Triple}
-use Rattle.spec.specs.Terms.{variable, triple}
+use Rattle.spec.specs.Terms.{triple}
 use Rattle.spec.specs.Refusals.{firstRefusal, tripleChecks}
 use Rattle.spec.specs.Order.{remove}
-use Rattle.spec.specs.Saturation.{Kept, lowerAll, saturation}
+use Rattle.spec.specs.Saturation.{Kept, lowerAll}
+use Rattle.spec.specs.computed.Saturated.{saturation}
 use Rattle.spec.specs.computed.Carried.{carried, support}
 use Rattle.spec.specs.inside.Counts.{lookup}
 use Rattle.spec.specs.Questions.{rewrittenGraph}
@@ -55,13 +56,13 @@ S = triple 16 2 17 ∷ triple 17 2 18 ∷ triple 19 3 20 ∷ triple 20 4 17 ∷ 
 abbrev pub F : List Triple
 F = triple 32 1 16 ∷ triple 32 19 33 ∷ []
 
--- Variables 0 and 1.
+-- Variable 0.
 abbrev pub v0 : ℕ
-v0 = variable 0
+v0 = 3 * 2 ^ 30
 
 -- Variable 1.
 abbrev pub v1 : ℕ
-v1 = variable 1
+v1 = 3 * 2 ^ 30 + 1
 
 -- The examples.
 abbrev pub examples : List Example

@@ -21,7 +21,8 @@ use Rattle.spec.specs.declared.Change.the-variants.{Addition, Withdrawal}
 use Rattle.spec.specs.Updates.{isMember, changed, applying, isChange, isAdmitted, settle, contentsAfter, isKeptFitting, updateChecks, update}
 use Rattle.store.proofs.Fitting.{contentsOf-put, Fitting, SameLengths, formed-fitting}
 use Rattle.store.proofs.Laws.{member-false, member-true, after-saturated, Saturated, update-lengths, Sound, update-sound}
-use Rattle.spec.specs.Deliveries.{messageChecks, deliver, read}
+use Rattle.spec.specs.Deliveries.{messageChecks, deliver}
+use Rattle.spec.specs.computed.Decoded.{read}
 use Rattle.spec.specs.Ledger.{isFitting, entryChecks, ledgerUpdate, receive, ledgerEntries}
 use Rattle.spec.specs.Demand3.{storeEntries, emptyStore}
 use Rattle.ledger.proofs.Alike.{Same, conclude-alike, EntriesAlike}

@@ -3,9 +3,12 @@ use Prim.Native.Nat.{ℕ, zero, suc}
 use mathlib.Core.Path.{_≡_, refl, ap, ap₂}
 use mathlib.Core.List.{List, [], _∷_}
 use Rattle.spec.specs.declared.Triple.{Triple}
+use Rattle.spec.specs.declared.Tally.{Tally}
 use Rattle.spec.specs.declared.Change.{Change}
 use Rattle.spec.specs.declared.Change.the-variants.{Addition, Withdrawal}
-use Rattle.spec.specs.Deliveries.{Message, numberFields, numberOf, tally, tallied, Update, Progress, progress, runEntry, runEntries, runMessage, delivered, conclude}
+use Rattle.spec.specs.Deliveries.{numberFields, numberOf, tally, tallied, Update, runEntries, runMessage, delivered, conclude}
+use Rattle.spec.specs.inside.Pairs.{progress}
+use Rattle.spec.specs.Messages.{Message}
 use Rattle.spec.specs.Ledger.{Call, lone, delivery, answered, resulted, Run, Entries, call, calls}
 
 module _ {A B : Type 0} (R : A → B → Type 0) where
@@ -19,21 +22,23 @@ module _ {A B : Type 0} (R : A → B → Type 0) where
   UpdatesAlike f g = (d : Change) (a : A) (b : B) (t : Triple) → R a b → Same (f d a t) (g d b t)
 
   -- Two deliveries stand alike: related holders, and the same tallies.
-  pub record StandAlike (g : Progress A) (h : Progress B) : Type 0 where
-    pub holders : R (g .holder) (h .holder)
-    pub tallies : g .counted ≡ h .counted
+  pub record StandAlike (g : A × Tally) (h : B × Tally) : Type 0 where
+    pub holders : R (g .0) (h .0)
+    pub tallies : g .1 ≡ h .1
 
   -- Entries keep them so.
-  entries-alike : (f : Update A) (g : Update B) → UpdatesAlike f g → (d : Change) (ts : List Triple) (p : Progress A) (q : Progress B) → StandAlike p q → StandAlike (runEntries (f d) ts p) (runEntries (g d) ts q)
-  unfolding runEntries runEntry
+  entries-alike : (f : Update A) (g : Update B) → UpdatesAlike f g → (d : Change) (ts : List Triple) (p : A × Tally) (q : B × Tally) → StandAlike p q → StandAlike (runEntries (f d) ts p) (runEntries (g d) ts q)
+  unfolding runEntries
   entries-alike f g u d [] p q s = s
   entries-alike f g u d (t ∷ ts) p q s =
-      let r = u d (p .holder) (q .holder) t (s .holders) in
-      entries-alike f g u d ts (runEntry (f d) t p) (runEntry (g d) t q) (record { holders = r .leaves; tallies = ap₂ tallied (r .gives) (s .tallies) })
+      let a = f d (p .0) t in
+      let b = g d (q .0) t in
+      let r = u d (p .0) (q .0) t (s .holders) in
+      entries-alike f g u d ts (a .1, tallied (a .0) (p .1)) (b .1, tallied (b .0) (q .1)) (record { holders = r .leaves; tallies = ap₂ tallied (r .gives) (s .tallies) })
 
   module _ (f : Update A) (g : Update B) (u : UpdatesAlike f g) where
     -- So do the four sections of a message.
-    message-alike : (m : Message) (p : Progress A) (q : Progress B) → StandAlike p q → StandAlike (runMessage f m p) (runMessage g m q)
+    message-alike : (m : Message) (p : A × Tally) (q : B × Tally) → StandAlike p q → StandAlike (runMessage f m p) (runMessage g m q)
     unfolding runMessage
     message-alike m p q s =
         entries-alike f g u Addition (m .factsAdded) _ _

@@ -6,12 +6,14 @@ use mathlib.Core.Logic.{_↔_}
 use mathlib.Core.List.{List, List·Memᴰ}
 use lib.ListN.{length, length-replicate}
 use Rattle.spec.specs.declared.Triple.{Triple}
-use Rattle.spec.specs.Tables.{rows, layout, supportLayout, Tables, tables, capacitiesOf, Ledger, Contents, contentsOf}
+use Rattle.spec.specs.Tables.{rows, layout, Tables, tables, capacitiesOf, Ledger, Contents, contentsOf}
+use Rattle.spec.specs.Lists.{padded}
 use Rattle.spec.specs.inside.Laid.{FormedStore}
 use Rattle.spec.proofs.TableFormed.{wellFormed-isTable}
 use Rattle.table.proofs.Store.{isStore-formed}
 use Rattle.spec.specs.Rules.{Follows}
-use Rattle.spec.specs.Saturation.{saturation, keptRows, keptSupports}
+use Rattle.spec.specs.Saturation.{keptRows, keptSupports}
+use Rattle.spec.specs.computed.Saturated.{saturation}
 use Rattle.spec.proofs.Ascending.{isAscending-iff}
 use Rattle.spec.proofs.Entailment.{allowed-no-vocabulary}
 use Rattle.spec.proofs.Follows.{follows-iff}
@@ -53,9 +55,9 @@ module _ {S F K U : List ℕ} (W : FormedStore S F K U) (e : Saturated (contents
   kept-laid = W .kept .laid .is-layout ∙ ap (layout (length K)) (sym (keptRows-keptOf W) ∙ ap keptRows e)
 
   -- and the supports as its supports.
-  supports-laid : U ≡ supportLayout (length U) (keptSupports (saturation (rows S) (rows F)))
+  supports-laid : U ≡ padded (length U) (keptSupports (saturation (rows S) (rows F)))
   unfolding contentsOf
-  supports-laid = W .supports .is-layout ∙ ap (supportLayout (length U)) (sym (supports-are W) ∙ ap keptSupports e)
+  supports-laid = W .supports .is-layout ∙ ap (padded (length U)) (sym (supports-are W) ∙ ap keptSupports e)
 
 -- Tables by their parts.
 tables-eq : {S S' F F' K K' U U' : List ℕ} → S ≡ S' → F ≡ F' → K ≡ K' → U ≡ U' → tables S F K U ≡ tables S' F' K' U'
@@ -65,7 +67,7 @@ tables-eq a b c d = λ i. tables (a i) (b i) (c i) (d i)
 unfoldable pub laidOut : ℕ → ℕ → ℕ → ℕ → Ledger → Tables
 laidOut s f k u L =
     let K = saturation (L .statements) (L .facts) in
-    tables (layout s (L .statements)) (layout f (L .facts)) (layout k (keptRows K)) (supportLayout u (keptSupports K))
+    tables (layout s (L .statements)) (layout f (L .facts)) (layout k (keptRows K)) (padded u (keptSupports K))
 
 -- Every word of tables that agree with a ledger is the ledger's.
 words-laid : (s f k u : ℕ) (T : Tables) (L : Ledger) → Agrees s f k u T L → T ≡ laidOut s f k u L

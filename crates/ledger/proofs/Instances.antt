@@ -4,7 +4,7 @@ use mathlib.Core.Path.{_≡_, refl, ap, _∙_}
 use mathlib.Core.List.{List, [], _∷_, _++_}
 use native.Mathlib.Omega.{arith}
 use Rattle.spec.specs.Rules.{Follows}
-use Rattle.spec.specs.Tables.{flatten, layout, supportLayout, Ledger}
+use Rattle.spec.specs.Tables.{flatten, layout, Ledger}
 use Rattle.spec.specs.Ledger.{Run, run}
 use Rattle.spec.specs.Demand3.{storeRun, graphOf, Replies, Demand3}
 use Rattle.spec.proofs.Worked.{compute, workedDelivery, brokenDelivery, workedCalls, workedAnswers, workedLedger, workedTables, worked-ledger, workedQuestion, workedReply, worked-kept, worked-rewritten}
@@ -13,7 +13,7 @@ use Rattle.ledger.proofs.History.{laidOut, run-words, history}
 
 -- The ledger's words, by computation.
 worked-words : laidOut 4 7 13 3 workedLedger ≡ workedTables
-unfolding compute flatten layout supportLayout laidOut
+unfolding compute flatten layout laidOut
 worked-words = refl
 
 -- The store gives the ledger's answers and has these words, by demand 3.

@@ -19,7 +19,7 @@ use Rattle.spec.proofs.Entailment.{not-vocabulary}
 use Rattle.spec.proofs.Reach.{objects-iff}
 use Rattle.spec.proofs.Carried.{properties-iff, SubjectStart, from-type, from-domain, start-iff, Part, as-property, as-subject, as-object, carried-part}
 use Rattle.spec.specs.Alternatives.{IsAlternative, as-it-is, by-subclass, by-domain, by-range, by-subproperty}
-use Rattle.spec.specs.Atoms.{admitsClass, admitsProperty, admits}
+use Rattle.spec.specs.Questions.{admitsClass, admits}
 use Rattle.spec.specs.Lists.{select}
 use Rattle.spec.specs.computed.Reformulated.{alternativesFrom}
 use Rattle.spec.proofs.Alternatives.{from-sound, from-complete}
@@ -91,9 +91,9 @@ module _ (a : Triple) (x : ℕ) where
   unfolding qualifies admitsTarget areEnds
   qualified-3 d e = and-left (admitsClass a d) _ e
 
-  qualified-4 : (q : ℕ) → qualifies a (triple 4 x q) ≡ true → (admitsProperty a q ≡ true) × (¬ (x ≡ q))
+  qualified-4 : (q : ℕ) → qualifies a (triple 4 x q) ≡ true → (admits (a .property) q ≡ true) × (¬ (x ≡ q))
   unfolding qualifies admitsTarget areEnds
-  qualified-4 q e = (and-left (admitsProperty a q) _ e, different q (and-right (admitsProperty a q) _ e))
+  qualified-4 q e = (and-left (admits (a .property) q) _ e, different q (and-right (admits (a .property) q) _ e))
 
   -- What it takes to qualify, kind by kind.
   qualifies-1 : (d : ℕ) → admitsClass a d ≡ true → ¬ (x ≡ d) → qualifies a (triple 1 x d) ≡ true
@@ -108,7 +108,7 @@ module _ (a : Triple) (x : ℕ) where
   unfolding qualifies admitsTarget areEnds
   qualifies-3 d e = rw e
 
-  qualifies-4 : (q : ℕ) → admitsProperty a q ≡ true → ¬ (x ≡ q) → qualifies a (triple 4 x q) ≡ true
+  qualifies-4 : (q : ℕ) → admits (a .property) q ≡ true → ¬ (x ≡ q) → qualifies a (triple 4 x q) ≡ true
   unfolding qualifies admitsTarget areEnds
   qualifies-4 q e n = rw (e, ne-eqb x q n)
 

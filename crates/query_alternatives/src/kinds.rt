@@ -2,7 +2,7 @@
 use spec::Triple;
 use terms::Term;
 ghost use mathlib.Core.Path.{_≡_};
-ghost use Rattle.spec.specs.Atoms.{admits};
+ghost use Rattle.spec.specs.Questions.{admits};
 ghost use Rattle.query_alternatives.specs.inside.Putting.{alternativeBy, admitsTarget, qualifies};
 
 // The kinds of alternatives, save that of an explicit triple as it is, which is 0.

@@ -7,7 +7,8 @@ use native.Mathlib.Omega.{arith}
 use lib.ListN.{length, getD, drop, take, length-map, length-take, take-append-drop}
 use lib.Seq.{drop-drop}
 use Rattle.spec.specs.declared.Triple.{Triple}
-use Rattle.spec.specs.Order.{isLess, insert, ascend}
+use Rattle.spec.specs.Order.{isLess, insert}
+use Rattle.spec.specs.computed.Carried.{ascend}
 use Rattle.spec.proofs.Tests.{less-isLess, more-isLess, same-isLess, order-elim}
 use Rattle.spec.specs.Tables.{tripleFrom, firstRows, flatten}
 use Rattle.spec.proofs.TableRows.{tripleFrom-drop, length-flatten, firstRows-flatten}

@@ -11,7 +11,7 @@ use lib.Seq.{getD-set-same, getD-set-other}
 use borrow.Author.Tests.{lt-ltb, le-ltb}
 use Rattle.spec.specs.declared.Triple.{Triple}
 use Rattle.spec.specs.Terms.{type, subPropertyOf, triple}
-use Rattle.spec.specs.Order.{ascend}
+use Rattle.spec.specs.computed.Carried.{ascend, properties, subjectClasses, objectClasses, conclusions, carried}
 use Rattle.spec.specs.inside.Comparison.{triple-eq}
 use Rattle.spec.proofs.Ascending.{ascend-asc, ascend-in, ascend-out, ascending-ext}
 use Rattle.spec.specs.Tables.{tripleFrom, rowAt, firstRows, rows, count, flatten, isStatementTable}
@@ -20,7 +20,6 @@ use Rattle.table.proofs.Place.{getD-member, member-getD}
 use Rattle.rows.specs.inside.Rows.{tabulate, rowAt as wordsAt}
 use Rattle.spec.specs.Rows.{ordered}
 use Rattle.rows.specs.inside.Effects.{HoldsRows}
-use Rattle.spec.specs.computed.Carried.{properties, subjectClasses, objectClasses, conclusions, carried}
 use Rattle.rdfs_reach.specs.inside.Marks.{Statements, unused, Uniform, Unused, Room}
 use Rattle.rdfs_reach.proofs.MarkLaws.{zeros-unused, zeros-room, zeros-count, table-statements}
 use Rattle.rdfs_derive.specs.inside.Conclusions.{Listed, Concluded, conclusionAt}

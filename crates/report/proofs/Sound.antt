@@ -1,6 +1,7 @@
 -- A delivery leaves a store sound: well formed, its kept facts the saturation. Assumes nothing.
 use Prim.Native.Nat.{ℕ, zero, suc}
 use mathlib.Core.List.{List, [], _∷_}
+use Rattle.spec.specs.declared.Tally.{Tally}
 use Rattle.spec.specs.declared.Triple.{Triple}
 use Rattle.spec.specs.Refusals.{firstRefusal}
 use Rattle.spec.specs.Tables.{Tables, areFormed}
@@ -8,16 +9,19 @@ use Rattle.spec.specs.declared.Change.{Change}
 use Rattle.spec.specs.declared.Change.the-variants.{Addition, Withdrawal}
 use Rattle.spec.specs.Updates.{update}
 use Rattle.store.proofs.Laws.{Sound, update-sound}
-use Rattle.spec.specs.Deliveries.{Message, read, tally, Progress, progress, runEntry, runEntries, runMessage, messageChecks, conclude, deliver}
+use Rattle.spec.specs.Deliveries.{tally, tallied, runEntries, runMessage, messageChecks, conclude, deliver}
+use Rattle.spec.specs.inside.Pairs.{progress}
+use Rattle.spec.specs.Messages.{Message}
+use Rattle.spec.specs.computed.Decoded.{read}
 
 -- Entries each leave it so,
-entries-sound : (d : Change) (ts : List Triple) (g : Progress Tables) → Sound (g .holder) → Sound (runEntries (update d) ts g .holder)
-unfolding runEntries runEntry
+entries-sound : (d : Change) (ts : List Triple) (g : Tables × Tally) → Sound (g .0) → Sound (runEntries (update d) ts g .0)
+unfolding runEntries
 entries-sound d [] g G = G
-entries-sound d (t ∷ ts) g G = entries-sound d ts (runEntry (update d) t g) (update-sound d (g .holder) t G)
+entries-sound d (t ∷ ts) g G = let r = update d (g .0) t in entries-sound d ts (r .1, tallied (r .0) (g .1)) (update-sound d (g .0) t G)
 
 -- so do the four sections,
-message-sound : (m : Message) (g : Progress Tables) → Sound (g .holder) → Sound (runMessage update m g .holder)
+message-sound : (m : Message) (g : Tables × Tally) → Sound (g .0) → Sound (runMessage update m g .0)
 unfolding runMessage
 message-sound m g G =
     entries-sound Addition (m .factsAdded) _

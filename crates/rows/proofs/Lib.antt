@@ -3,3 +3,4 @@ pub mod SortLaws
 pub mod RowWords
 pub mod HeldWords
 pub mod PermutedLaws
+pub mod Zeroed

@@ -9,7 +9,7 @@ use Rattle.spec.specs.Tables.{count, rows, mostStatements, mostFacts}
 use Rattle.spec.specs.inside.Laid.{WellFormed}
 use Rattle.spec.proofs.TableFormed.{capacity-most}
 use Rattle.spec.proofs.TableRows.{length-rows}
-use Rattle.spec.specs.Saturation.{saturation}
+use Rattle.spec.specs.computed.Saturated.{saturation}
 use Rattle.spec.proofs.Saturation.{saturation-support, saturation-counts, support-bound}
 use Rattle.saturate_schema.specs.inside.Nodes.{edges}
 use Rattle.saturate_schema.specs.inside.Walks.{Plus}

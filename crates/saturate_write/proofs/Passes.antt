@@ -1,42 +1,32 @@
 -- The two passes: the rows counted without room, and then written. Assumes nothing.
 use mathlib.Core.Path.{_≡_, refl, sym, ap, ap₂, _∙_}
 use mathlib.Core.Bool.{true, false}
-use mathlib.Core.List.{List, [], _∷_, _++_}
+use mathlib.Core.List.{List, [], _∷_, _++_, append-nil}
 use mathlib.Core.Logic.{by-cases}
-use Prim.Native.Nat.{ℕ, zero, suc, _+_, _-_, _*_, _^_, _≤_, _<_}
+use Prim.Native.Nat.{ℕ, suc, _+_, _-_, _*_, _^_, _≤_, _<_}
 use native.Mathlib.Omega.{arith}
 use native.Mathlib.Decide.{decLt}
-use lib.ListN.{length, set, take, drop, replicate, length-append, length-drop}
+use lib.ListN.{length, set, take, drop, replicate, length-append, length-drop, drop-of-length-le}
 use lib.Seq.{take-at}
 use borrow.Author.Tests.{le-leb, lt-leb}
-use Rattle.spec.specs.Tables.{flatten, layout, supportLayout}
+use Rattle.rows.specs.inside.Effects.{WordsZeroed}
+use Rattle.rows.proofs.Zeroed.{zeroed-is}
+use Rattle.spec.specs.Tables.{flatten, layout}
+use Rattle.spec.specs.Lists.{padded}
 use Rattle.spec.proofs.TableRows.{length-flatten}
 use Rattle.spec.specs.Saturation.{Kept, keptRows, keptSupports}
 use Rattle.saturate_merge.specs.inside.Output.{Output, output, putAll}
 use Rattle.saturate_merge.proofs.Whole.{count-all, put-fits}
 use Rattle.saturate_write.specs.inside.Written.{result, written, zeroFrom}
 
--- ---- words set to 0, from the last on
+-- ---- words set to 0 up to their end
 
-pub zero-none : (ws : List ℕ) → ws ≡ zeroFrom (length ws) ws
+-- The words from index a on were set to 0.
+pub zeroed-from : (a : ℕ) (t s : List ℕ) → a ≤ length t → length s ≡ length t → WordsZeroed a (length t) t s → s ≡ zeroFrom a t
 unfolding zeroFrom
-zero-none ws = let e : length ws - length ws ≡ 0 = omega arith in rw e (go ws)
-  where
-    go : (l : List ℕ) → l ≡ take (length l) l ++ []
-    go [] = refl
-    go (x ∷ l) = ap (λ (k : List ℕ). x ∷ k) (go l)
-
-set-zero : (ws : List ℕ) (i k : ℕ) → i < length ws → set (take (suc i) ws ++ replicate k 0) i 0 ≡ take i ws ++ replicate (suc k) 0
-set-zero [] i k l = absurd (omega arith)
-set-zero (w ∷ ws) zero k l = refl
-set-zero (w ∷ ws) (suc i) k l = ap (λ (t : List ℕ). w ∷ t) (set-zero ws i k (omega arith))
-
-pub zero-more : (ws ws' : List ℕ) (i : ℕ) → 0 < i → i ≤ length ws → ws' ≡ zeroFrom i ws → set ws' (i - 1) 0 ≡ zeroFrom (i - 1) ws
-unfolding zeroFrom
-zero-more ws ws' i l u e =
-    let a : i ≡ suc (i - 1) = omega arith in
-    let b : length ws - (i - 1) ≡ suc (length ws - i) = omega arith in
-    rw (e, b) (ap (λ (k : ℕ). set (take k ws ++ replicate (length ws - i) 0) (i - 1) 0) a ∙ set-zero ws (i - 1) (length ws - i) (omega arith))
+zeroed-from a t s h q z =
+    zeroed-is a (length t) t s h (omega arith) q z
+    ∙ ap (λ (l : List ℕ). take a t ++ (replicate (length t - a) 0 ++ l)) (drop-of-length-le t {i = length t} (omega arith)) ∙ ap (λ (l : List ℕ). take a t ++ l) (append-nil (replicate (length t - a) 0))
 
 -- ---- the words of a whole list
 
@@ -49,8 +39,8 @@ length-supports [] = refl
 length-supports (e ∷ K) = ap suc (length-supports K)
 
 -- Its supports, and zeros after them.
-supports-laid : (K : Kept) (us : List ℕ) → length K ≤ length us → zeroFrom (length K) (keptSupports K ++ drop (length K) us) ≡ supportLayout (length us) (keptSupports K)
-unfolding zeroFrom supportLayout
+supports-laid : (K : Kept) (us : List ℕ) → length K ≤ length us → zeroFrom (length K) (keptSupports K ++ drop (length K) us) ≡ padded (length us) (keptSupports K)
+unfolding zeroFrom
 supports-laid K us l =
     let e : length (keptSupports K ++ drop (length K) us) - length K ≡ length us - length (keptSupports K) = simp (length-append, length-drop) (omega (arith, length-supports K)) in
     rw e (ap (λ (t : List ℕ). t ++ replicate (length us - length (keptSupports K)) 0) (take-at (keptSupports K) (drop (length K) us) (length K) (length-supports K)))
@@ -88,7 +78,7 @@ written-not K room ws us ws' us' k c l = rw (lt-leb (length K) room (c .over l))
 pub record Put (K : Kept) (ws us ws' us' : List ℕ) (n : ℕ) : Type 0 where
   pub count : n ≡ length K
   pub kept : zeroFrom (n * 3 + 1) (set ws' 0 n) ≡ layout (length ws) (keptRows K)
-  pub supports : zeroFrom n us' ≡ supportLayout (length us) (keptSupports K)
+  pub supports : zeroFrom n us' ≡ padded (length us) (keptSupports K)
 
 pub second-pass : (K : Kept) (room : ℕ) (ws us ws' us' : List ℕ) (n : ℕ) → room < 2 ^ 32 → length K ≤ room → room * 3 < length ws → room ≤ length us → output ws' us' n ≡ putAll room K (output ws us 0) → Put K ws us ws' us' n
 second-pass K room [] us ws' us' n l f h u e = absurd (omega arith)

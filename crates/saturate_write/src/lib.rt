@@ -1,4 +1,6 @@
 // The kept facts written in two passes over the subjects: the first counts their rows, and where they fit, the second writes them.
+use rows::zero_supports;
+use rows::zero_words;
 use saturate_run::put_rows;
 use saturate_schema::MOST_COLUMNS;
 use saturate_schema::Sizes;
@@ -11,31 +13,7 @@ ghost use Rattle.spec.specs.inside.Counts.{Counts};
 ghost use Rattle.saturate_index.specs.inside.Index.{Index, Once, Sorted};
 ghost use Rattle.saturate_counts.specs.inside.Prepared.{Prepared, Facts};
 ghost use Rattle.saturate_counts.specs.inside.Supported.{Supported, Small};
-ghost use Rattle.saturate_write.specs.inside.Written.{result, written, Exists, zeroFrom};
-
-// Sets the words from index a on to 0.
-fn zero_words(t: &mut [u32], a: usize)
-    requires { ⌜ a ≤ length (now t) ⌝ }
-    ensures { λ _. ⌜ now (t .exit) ≡ zeroFrom a (now (t .entry)) ⌝ }
-{
-    let mut i = t.len();
-    while a < i {
-        i -= 1;
-        t[i] = 0;
-    }
-}
-
-// Sets the supports from index a on to 0.
-fn zero_supports(t: &mut [u16], a: usize)
-    requires { ⌜ a ≤ length (now t) ⌝ }
-    ensures { λ _. ⌜ now (t .exit) ≡ zeroFrom a (now (t .entry)) ⌝ }
-{
-    let mut i = t.len();
-    while a < i {
-        i -= 1;
-        t[i] = 0;
-    }
-}
+ghost use Rattle.saturate_write.specs.inside.Written.{result, written, Exists};
 
 // Puts all rows in two passes: the first counts them and writes nothing; where they fit room, the second writes them, and then come the
 // count and the zeros. True where they fit.
@@ -87,7 +65,7 @@ pub fn put_all(
         room,
     );
     kept[0] = n as u32;
-    zero_words(kept, n * 3 + 1);
-    zero_supports(supports, n);
+    zero_words(kept, n * 3 + 1, kept.len());
+    zero_supports(supports, n, supports.len());
     true
 }

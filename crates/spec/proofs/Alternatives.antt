@@ -17,7 +17,7 @@ use Rattle.spec.specs.Rules.{Reach, stay, step}
 use Rattle.spec.specs.computed.Carried.{reach, spread, objects}
 use Rattle.spec.proofs.Reach.{objects-iff, reach-iff, spread-iff}
 use Rattle.spec.specs.Alternatives.{IsAlternative, as-it-is, by-subclass, by-domain, by-range, by-subproperty}
-use Rattle.spec.specs.Atoms.{admitsClass, admitsProperty}
+use Rattle.spec.specs.Questions.{admitsClass, admits}
 use Rattle.spec.specs.Lists.{select}
 use Rattle.spec.specs.computed.Reformulated.{toClasses, toProperties, without, alternativesFrom, alternatives}
 
@@ -63,7 +63,7 @@ data FromSource (S : List Triple) (a : Triple) (x : ℕ) (u : Triple) : Type 0 w
   gives-1 : Row (admitsClass a) 1 x (without x (reach S subClassOf x)) u → FromSource S a x u
   gives-2 : Row (admitsClass a) 2 x (spread S subClassOf (objects S domain (reach S subPropertyOf x))) u → FromSource S a x u
   gives-3 : Row (admitsClass a) 3 x (spread S subClassOf (objects S range (reach S subPropertyOf x))) u → FromSource S a x u
-  gives-4 : Row (admitsProperty a) 4 x (without x (reach S subPropertyOf x)) u → FromSource S a x u
+  gives-4 : Row (admits (a .property)) 4 x (without x (reach S subPropertyOf x)) u → FromSource S a x u
 
 gives-in : (S : List Triple) (a : Triple) (x : ℕ) (u : Triple) → FromSource S a x u → List·Memᴰ u (alternativesFrom S a x)
 unfolding alternativesFrom toClasses toProperties
@@ -79,7 +79,7 @@ gives-in S a x u (gives-4 r) =
     Memᴰ·append-right (map (triple 1 x) (select (admitsClass a) (without x (reach S subClassOf x))))
     (Memᴰ·append-right (map (triple 2 x) (select (admitsClass a) (spread S subClassOf (objects S domain (reach S subPropertyOf x)))))
     (Memᴰ·append-right (map (triple 3 x) (select (admitsClass a) (spread S subClassOf (objects S range (reach S subPropertyOf x)))))
-    (rows-in (admitsProperty a) 4 x _ u r)))
+    (rows-in (admits (a .property)) 4 x _ u r)))
 
 gives-out : (S : List Triple) (a : Triple) (x : ℕ) (u : Triple) → List·Memᴰ u (alternativesFrom S a x) → FromSource S a x u
 unfolding alternativesFrom toClasses toProperties
@@ -90,7 +90,7 @@ gives-out S a x u m =
     (λ j. gives-2 (rows-out (admitsClass a) 2 x _ u j))
     (λ j. ⊎-elim
     (λ k. gives-3 (rows-out (admitsClass a) 3 x _ u k))
-    (λ k. gives-4 (rows-out (admitsProperty a) 4 x _ u k))
+    (λ k. gives-4 (rows-out (admits (a .property)) 4 x _ u k))
     (List·Memᴰ·append-cases (map (triple 3 x) (select (admitsClass a) (spread S subClassOf (objects S range (reach S subPropertyOf x))))) j))
     (List·Memᴰ·append-cases (map (triple 2 x) (select (admitsClass a) (spread S subClassOf (objects S domain (reach S subPropertyOf x))))) i))
     (List·Memᴰ·append-cases (map (triple 1 x) (select (admitsClass a) (without x (reach S subClassOf x)))) m)

@@ -8,7 +8,8 @@ use native.Mathlib.Omega.{arith}
 use lib.ListN.{length}
 use Rattle.spec.specs.declared.Triple.{Triple}
 use Rattle.spec.specs.Lists.{select}
-use Rattle.spec.specs.Order.{isLess, isAscending, insert, remove, ascend}
+use Rattle.spec.specs.Order.{isLess, isAscending, insert, remove}
+use Rattle.spec.specs.computed.Carried.{ascend}
 use Rattle.spec.specs.inside.Comparison.{Less, less-irrefl, Trichotomy, less, same, more, compareTriples, Above, Ascending}
 use Rattle.spec.proofs.Lists.{cond-elim}
 use Rattle.spec.proofs.Order.{less-trans, less-ne}

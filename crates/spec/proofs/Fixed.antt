@@ -6,38 +6,36 @@ use mathlib.Core.List.{List, _∷_}
 use native.Mathlib.Omega.{arith}
 use lib.ListN.{length}
 use Rattle.spec.specs.declared.Triple.{Triple}
+use Rattle.spec.specs.Order.{ListOf}
 use Rattle.spec.proofs.Lists.{true-not-false}
 use Rattle.spec.proofs.Ascending.{ascending-ext, isAscending-iff}
 use Rattle.spec.proofs.OrderedRows.{ordered-ext}
-use Rattle.spec.specs.Tables.{layout, supportLayout, Tables, tables, Ledger}
+use Rattle.spec.specs.Tables.{layout, Tables, tables, Ledger}
+use Rattle.spec.specs.Lists.{padded}
 use Rattle.spec.specs.declared.Reply.the-variants.{Rows}
 use Rattle.spec.specs.Outputs.{Replied, replied, filled}
 use Rattle.spec.specs.Questions.{headCount, isQuestion, isHeadBound, askKept, askRewritten}
 use Rattle.spec.specs.Ledger.{Run, run}
-use Rattle.spec.specs.Demand3.{FactsFrom, CarriersOf, Supported, none, row, RowsOf, Replies, refused-6, refused-7, given, refused-8, Demand3}
+use Rattle.spec.specs.Demand3.{Supported, none, row, RowsOf, Replies, refused-6, refused-7, given, refused-8, Demand3}
 
 -- ---- the tables
 
--- The facts that follow make one list,
-pub facts-unique : {G : List Triple} (K H : List Triple) → FactsFrom G K → FactsFrom G H → K ≡ H
-facts-unique K H x y = ascending-ext K H (isAscending-iff K .0 (x .ascend)) (isAscending-iff H .0 (y .ascend)) (λ t. (λ m. y .exactly t .1 (x .exactly t .0 m), λ m. x .exactly t .1 (y .exactly t .0 m)))
-
--- so do the facts that carry a row,
-carriers-unique : {S F : List Triple} {t : Triple} (fs gs : List Triple) → CarriersOf S F t fs → CarriersOf S F t gs → fs ≡ gs
-carriers-unique fs gs x y = ascending-ext fs gs (isAscending-iff fs .0 (x .ascend)) (isAscending-iff gs .0 (y .ascend)) (λ f. (λ m. y .exactly f .1 (x .exactly f .0 m), λ m. x .exactly f .1 (y .exactly f .0 m)))
+-- The triples of which something holds make one list,
+pub list-unique : {P : Triple → Type 0} (K H : List Triple) → ListOf P K → ListOf P H → K ≡ H
+list-unique K H x y = ascending-ext K H (isAscending-iff K .0 (x .ascend)) (isAscending-iff H .0 (y .ascend)) (λ t. (λ m. y .exactly t .1 (x .exactly t .0 m), λ m. x .exactly t .1 (y .exactly t .0 m)))
 
 -- and so do the supports of some rows.
 supports-unique : {S F K : List Triple} {U W : List ℕ} → Supported S F K U → Supported S F K W → U ≡ W
 supports-unique none none = refl
-supports-unique (row {fs} c x) (row {fs = gs} d y) = ap₂ _∷_ (ap length (carriers-unique fs gs c d)) (supports-unique x y)
+supports-unique (row {fs} c x) (row {fs = gs} d y) = ap₂ _∷_ (ap length (list-unique fs gs c d)) (supports-unique x y)
 
 -- Two runs of which the claim holds, beside the same run of the ledger, are one.
 pub fixes : (s f k u : ℕ) (L : Run Ledger) (T T' : Run Tables) → Demand3 s f k u L T → Demand3 s f k u L T' → T ≡ T'
 fixes s f k u L T T' D E =
     let a : T .given ≡ T' .given = D .answers ∙ sym (E .answers) in
-    let K : D .kept ≡ E .kept = facts-unique (D .kept) (E .kept) (D .kept-follow) (E .kept-follow) in
+    let K : D .kept ≡ E .kept = list-unique (D .kept) (E .kept) (D .kept-follow) (E .kept-follow) in
     let U : D .supports ≡ E .supports = supports-unique (rw K at (D .supports-count)) (E .supports-count) in
-    let w : T .after ≡ T' .after = D .words ∙ (λ i. tables (layout s (L .after .statements)) (layout f (L .after .facts)) (layout k (K i)) (supportLayout u (U i))) ∙ sym (E .words) in
+    let w : T .after ≡ T' .after = D .words ∙ (λ i. tables (layout s (L .after .statements)) (layout f (L .after .facts)) (layout k (K i)) (padded u (U i))) ∙ sym (E .words) in
     λ i. run (a i) (w i)
 
 -- ---- the replies

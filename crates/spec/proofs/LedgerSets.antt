@@ -1,32 +1,28 @@
 -- A ledger whose sets ascend and hold allowed rows alone: what follows from them, the facts that carry a row, and whether all fit. Updates that 2
 -- and 3 pass keep it so. Assumes nothing.
-use Prim.Native.Nat.{ℕ}
-use mathlib.Core.Path.{_≡_, refl, sym, _∙_}
+use mathlib.Core.Path.{_≡_, refl}
 use mathlib.Core.Bool.{Bool, true, false, cond}
 use mathlib.Core.Logic.{⊎-elim}
-use mathlib.Core.List.{List, [], _∷_, List·Memᴰ, List·Memᴰ·head, List·Memᴰ·tail}
+use mathlib.Core.List.{List, [], _∷_, List·Memᴰ}
 use native.Mathlib.Omega.{arith}
-use lib.ListN.{length}
 use Rattle.spec.specs.declared.Triple.{Triple}
 use Rattle.spec.specs.Terms.{isTriple, isStatement, areSidesAllowed, isAllowedStatement, isAllowedFact}
+use Rattle.spec.specs.Order.{ListOf}
+use Rattle.spec.specs.Rules.{FollowsAsFact}
 use Rattle.spec.specs.inside.Comparison.{Ascending}
 use Rattle.spec.specs.Refusals.{firstRefusal, tripleChecks}
 use Rattle.spec.proofs.Lists.{by-test}
 use Rattle.spec.proofs.Ascending.{insert-asc, insert-cases, remove-asc, remove-sub, isAscending-iff}
-use Rattle.spec.specs.inside.Entailment.{NoVocabulary}
-use Rattle.spec.specs.Saturation.{Kept, saturation, keptRows, keptSupports}
-use Rattle.spec.specs.computed.Carried.{carriers}
-use Rattle.spec.proofs.Entailment.{allowed-no-vocabulary}
-use Rattle.spec.proofs.Follows.{follows-fact-iff}
-use Rattle.spec.proofs.Computed.{carriers-are}
-use Rattle.spec.proofs.Kept.{length-keptRows, lookup-entry}
-use Rattle.spec.proofs.Saturation.{saturation-counts, saturation-support, support-is, saturation-kept, saturation-ascends}
+use Rattle.spec.specs.Saturation.{keptRows, keptSupports}
+use Rattle.spec.specs.computed.Saturated.{saturation}
+use Rattle.spec.proofs.Computed.{saturation-is}
+use Rattle.spec.proofs.Kept.{length-keptRows}
 use Rattle.spec.specs.Ledger.{isFitting}
 use Rattle.spec.specs.Tables.{Capacities, Ledger}
 use Rattle.spec.specs.declared.Change.{Change}
 use Rattle.spec.specs.declared.Change.the-variants.{Addition, Withdrawal}
 use Rattle.spec.specs.Updates.{changed, applying}
-use Rattle.spec.specs.Demand3.{graphOf, FactsFrom, CarriersOf, Supported, none, row, FitsBy}
+use Rattle.spec.specs.Demand3.{graphOf, Supported, FitsBy}
 
 -- Both sets ascend and hold allowed rows alone.
 pub record Allowed (L : Ledger) : Type 0 where
@@ -37,34 +33,17 @@ pub record Allowed (L : Ledger) : Type 0 where
 
 -- ---- what follows, and what carries it
 
--- Rows whose supports are the numbers of their carriers.
-supported-rows : (S F : List Triple) (k : Kept) → ((t : Triple) → CarriersOf S F t (carriers S F t)) → ((e : Triple × ℕ) → List·Memᴰ e k → e .1 ≡ length (carriers S F (e .0))) → Supported S F (keptRows k) (keptSupports k)
-supported-rows S F [] c h = none
-supported-rows S F (e ∷ k) c h = rw (h e (List·Memᴰ·head refl)) (row (c (e .0)) (supported-rows S F k c (λ g m. h g (List·Memᴰ·tail m))))
-
 module _ {L : Ledger} (A : Allowed L) where
-  no-vocabulary : NoVocabulary (L .statements)
-  no-vocabulary = allowed-no-vocabulary (L .statements) (A .statements-allowed)
+  -- The rows of the saturation are the facts that follow, and its supports the numbers of the facts that carry them.
+  saturated : ListOf (FollowsAsFact (graphOf L)) (keptRows (saturation (L .statements) (L .facts)))
+      × Supported (L .statements) (L .facts) (keptRows (saturation (L .statements) (L .facts))) (keptSupports (saturation (L .statements) (L .facts)))
+  saturated = saturation-is (A .statements-allowed) (L .facts) (isAscending-iff (L .facts) .1 (A .facts-ascend)) (A .facts-allowed)
 
-  -- The rows of the saturation are the facts that follow,
-  pub rows-follow : FactsFrom (graphOf L) (keptRows (saturation (L .statements) (L .facts)))
-  rows-follow = record {
-    ascend = isAscending-iff (keptRows (saturation (L .statements) (L .facts))) .1 (saturation-ascends (L .statements) (L .facts));
-    exactly = λ t.
-        let k = saturation-kept (L .statements) (L .facts) t no-vocabulary in
-        let f = follows-fact-iff (A .statements-allowed) (A .facts-allowed) t in
-        (λ m. f .1 (k .0 m), λ h. k .1 (f .0 h));
-  }
+  pub rows-follow : ListOf (FollowsAsFact (graphOf L)) (keptRows (saturation (L .statements) (L .facts)))
+  rows-follow = saturated .0
 
-  -- the computed carriers of a row are the facts that carry it,
-  row-carriers : (t : Triple) → CarriersOf (L .statements) (L .facts) t (carriers (L .statements) (L .facts) t)
-  row-carriers = carriers-are (A .statements-allowed) (L .facts) (isAscending-iff (L .facts) .1 (A .facts-ascend)) (A .facts-allowed)
-
-  -- and the supports of the saturation are their numbers.
   pub rows-supported : Supported (L .statements) (L .facts) (keptRows (saturation (L .statements) (L .facts))) (keptSupports (saturation (L .statements) (L .facts)))
-  rows-supported =
-      supported-rows (L .statements) (L .facts) (saturation (L .statements) (L .facts)) row-carriers
-      (λ e m. sym (lookup-entry (saturation (L .statements) (L .facts)) e (saturation-counts (L .statements) (L .facts)) m) ∙ saturation-support (L .statements) (L .facts) (e .0) ∙ support-is (L .statements) (L .facts) (e .0))
+  rows-supported = saturated .1
 
   -- Question 5 is asked on what follows.
   pub fits-by : (C : Capacities) → FitsBy (C .kept) L (isFitting C L)

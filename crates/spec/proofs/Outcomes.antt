@@ -12,7 +12,8 @@ use Rattle.spec.specs.declared.Answer.the-variants.{Applied, Idle, Refus
 use Rattle.spec.specs.declared.Change.{Change}
 use Rattle.spec.specs.declared.Change.the-variants.{Addition, Withdrawal}
 use Rattle.spec.specs.Tables.{Tables, areFormed, Capacities, capacitiesOf, Ledger, contentsOf, put}
-use Rattle.spec.specs.Updates.{setOf, isMember, isChange, isAdmitted, settle, contentsAfter, isKeptFitting, update, outcome}
+use Rattle.spec.specs.Updates.{setOf, isMember, isChange, isAdmitted, settle, contentsAfter, isKeptFitting, update}
+use Rattle.spec.specs.inside.Pairs.{outcome}
 
 -- ---- the first "no" of numbered questions
 

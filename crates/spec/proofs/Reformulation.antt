@@ -20,7 +20,7 @@ use Rattle.spec.proofs.Follows.{statement-property, allowed-statement, 
 use Rattle.spec.proofs.Reach.{objects-iff}
 use Rattle.spec.proofs.Carried.{properties-iff, SubjectStart, from-type, from-domain, start-iff, Part, as-property, as-subject, as-object, carried-iff, carried-part}
 use Rattle.spec.specs.Alternatives.{IsAlternative, as-it-is, by-subclass, by-domain, by-range, by-subproperty, Gives, itself, a-class, a-property, Reformulated, admitsTriple}
-use Rattle.spec.specs.Atoms.{admits, admitsClass, admitsProperty}
+use Rattle.spec.specs.Questions.{admits, admitsClass}
 use Rattle.spec.proofs.Alternatives.{source-begins}
 
 -- ---- sound
@@ -50,7 +50,7 @@ reformulated-holds S F a t r = gives-holds (r .alternative) (explicit (r .listed
 class-admitted : (a t : Triple) → admitsTriple a t ≡ true → t .property ≡ type → admitsClass a (t .object) ≡ true
 class-admitted a t e p = subst (λ (w : ℕ). (admits (a .property) w && admits (a .object) (t .object)) ≡ true) p e
 
-property-admitted : (a t : Triple) → admitsTriple a t ≡ true → admitsProperty a (t .property) ≡ true
+property-admitted : (a t : Triple) → admitsTriple a t ≡ true → admits (a .property) (t .property) ≡ true
 property-admitted a t e = and-left (admits (a .property) (t .property)) (admits (a .object) (t .object)) e
 
 module _ (S F : List Triple) (a t f : Triple) (m : List·Memᴰ f F) (e : admitsTriple a t ≡ true) where

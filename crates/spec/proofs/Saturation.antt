@@ -15,7 +15,8 @@ use Rattle.spec.proofs.Lists.{cond-elim, select-in, select-out, select-
 use Rattle.spec.proofs.Tests.{order-elim, same-elim, isIn-iff, isIn-elim}
 use Rattle.spec.proofs.Ascending.{select-asc}
 use Rattle.spec.specs.inside.Entailment.{Holds, HoldsBy, NoVocabulary}
-use Rattle.spec.specs.Saturation.{Kept, raiseAll, lowerAll, saturation, keptRows, keptSupports}
+use Rattle.spec.specs.Saturation.{Kept, raiseAll, lowerAll, keptRows, keptSupports}
+use Rattle.spec.specs.computed.Saturated.{saturation}
 use Rattle.spec.specs.computed.Carried.{carried, carriers, support}
 use Rattle.spec.proofs.Sets.{Distinct, ascending-distinct}
 use Rattle.spec.proofs.Entailment.{holds-iff-carried, holds-mono, holds-allowed, allowed-no-vocabulary}

@@ -5,10 +5,11 @@ use mathlib.Core.Path.{_≡_, refl}
 use mathlib.Core.List.{List, [], _∷_, flatMap}
 use Rattle.spec.specs.declared.Triple.{Triple}
 use Rattle.spec.specs.Terms.{isUri, isBlank, isLiteral, isVariable, isVocabulary, triple, isTriple, isStatement, areSidesAllowed, isAllowedStatement, isAllowedFact}
-use Rattle.spec.specs.Order.{isSame, isAscending, insert, remove, ascend}
+use Rattle.spec.specs.Order.{isSame, isAscending, insert, remove}
+use Rattle.spec.specs.computed.Carried.{ascend, leaves, steps, spread, reach, objects, properties, subjectClasses, objectClasses, conclusions, carried}
 use Rattle.spec.specs.Rows.{less, insertOnce, ordered, flat}
-use Rattle.spec.specs.Saturation.{raise, raiseAll, saturation}
-use Rattle.spec.specs.computed.Carried.{leaves, steps, spread, reach, objects, properties, subjectClasses, objectClasses, conclusions, carried}
+use Rattle.spec.specs.Saturation.{raise, raiseAll}
+use Rattle.spec.specs.computed.Saturated.{saturation}
 use Rattle.spec.specs.Refusals.{firstRefusal}
 use Rattle.spec.specs.Tables.{capacity, firstRows, rows, areZero, isTable, Tables, tables, areFormed, Ledger, ledger}
 use Rattle.spec.specs.Lists.{all, any, select}
@@ -19,7 +20,10 @@ use Rattle.spec.specs.Questions.{atoms, head, isAtom, isLaidOut, isQuest
 use Rattle.spec.specs.computed.Solutions.{boundTo, isBound, bind, matchWord, matchTriple, solutions, answers}
 use Rattle.spec.specs.Alternatives.{reformulate}
 use Rattle.spec.specs.computed.Reformulated.{toClasses, toProperties, without, alternativesFrom, alternatives}
-use Rattle.spec.specs.Deliveries.{short, word, entriesFrom, sectionEnd, sectionStart, fieldEnd, fieldsFrom, fieldsEnd, numberFields, read, isWhole, areSectionsRight, isNumberRight, numberOf, tally, tallied, runEntry, runEntries, runMessage, delivered, conclude, deliver, Message, Update, progress}
+use Rattle.spec.specs.Deliveries.{numberFields, areSectionsRight, isNumberRight, numberOf, tally, tallied, runEntries, runMessage, delivered, conclude, deliver, Update}
+use Rattle.spec.specs.inside.Pairs.{progress}
+use Rattle.spec.specs.Messages.{Field, Message, shortBytes, wordBytes, entryBytes, entriesBytes, sectionBytes, fieldBytes, fieldsBytes, encode}
+use Rattle.spec.specs.computed.Decoded.{short, word, entriesFrom, sectionEnd, sectionStart, fieldEnd, fieldsFrom, fieldsEnd, read, isWhole}
 use Rattle.spec.specs.declared.Change.{Change}
 use Rattle.spec.specs.declared.Change.the-variants.{Addition, Withdrawal}
 use Rattle.spec.specs.Updates.{isMember, changed, applying, isChange, isAdmitted, settle}
@@ -29,7 +33,7 @@ use Rattle.spec.specs.Exported.{listed, numberedReply}
 
 -- The definitions that these need to compute, by one name.
 unfoldable pub compute : Unit {0}
-unfolding flatMap isUri isBlank isLiteral isVariable isVocabulary isTriple isStatement areSidesAllowed isAllowedStatement isAllowedFact firstRefusal any isSame isAscending insert remove ascend less insertOnce ordered flat leaves steps spread reach objects properties subjectClasses objectClasses conclusions carried raise raiseAll saturation capacity firstRows rows all areZero isTable areFitting filled give atoms head isAtom isLaidOut isQuestion standsInOne isHeadBound boundTo isBound bind matchWord matchTriple solutions answers ask askKept askRewritten select toClasses toProperties without alternativesFrom alternatives reformulate short word entriesFrom sectionEnd sectionStart fieldEnd fieldsFrom fieldsEnd numberFields read isWhole areSectionsRight isNumberRight numberOf tallied runEntry runEntries runMessage conclude deliver isMember isFitting settle receive call calls areFormed changed applying isChange isAdmitted ledgerUpdate
+unfolding flatMap isUri isBlank isLiteral isVariable isVocabulary isTriple isStatement areSidesAllowed isAllowedStatement isAllowedFact firstRefusal any isSame isAscending insert remove ascend less insertOnce ordered flat leaves steps spread reach objects properties subjectClasses objectClasses conclusions carried raise raiseAll saturation capacity firstRows rows all areZero isTable areFitting filled give atoms head isAtom isLaidOut isQuestion standsInOne isHeadBound boundTo isBound bind matchWord matchTriple solutions answers ask askKept askRewritten select toClasses toProperties without alternativesFrom alternatives reformulate short word entriesFrom sectionEnd sectionStart fieldEnd fieldsFrom fieldsEnd numberFields shortBytes wordBytes entryBytes entriesBytes sectionBytes fieldBytes fieldsBytes encode read isWhole areSectionsRight isNumberRight numberOf tallied runEntries runMessage conclude deliver isMember isFitting settle receive call calls areFormed changed applying isChange isAdmitted ledgerUpdate
 compute = tt
 
 -- ---- a list of calls
@@ -103,16 +107,33 @@ worked-malformed = refl
 
 -- ---- the sections of a delivery
 
--- A message with one entry in each section.
+-- An extra field whose tag has two bytes.
+abbrev pub workedField : Field
+workedField = record { tag = 0x0102; bytes = 9 ∷ [] }
+
+-- A message with one entry in each section, one of its words with four bytes that differ.
 abbrev pub workedMessage : Message
 workedMessage =
     record {
       statementsWithdrawn = triple 16 2 17 ∷ [];
       factsWithdrawn = triple 32 1 16 ∷ [];
       statementsAdded = triple 19 3 20 ∷ [];
-      factsAdded = triple 32 19 33 ∷ [];
-      fields = [];
+      factsAdded = triple 32 19 0x01020304 ∷ [];
+      fields = workedField ∷ [];
     }
+
+-- Its bytes.
+abbrev pub workedBytes : List ℕ
+workedBytes = 1 ∷ 0 ∷ 16 ∷ 0 ∷ 0 ∷ 0 ∷ 2 ∷ 0 ∷ 0 ∷ 0 ∷ 17 ∷ 0 ∷ 0 ∷ 0 ∷ 1 ∷ 0 ∷ 32 ∷ 0 ∷ 0 ∷ 0 ∷ 1 ∷ 0 ∷ 0 ∷ 0 ∷ 16 ∷ 0 ∷ 0 ∷ 0 ∷ 1 ∷ 0 ∷ 19 ∷ 0 ∷ 0 ∷ 0 ∷ 3 ∷ 0 ∷ 0 ∷ 0 ∷ 20 ∷ 0 ∷ 0 ∷ 0 ∷ 1 ∷ 0 ∷ 32 ∷ 0 ∷ 0 ∷ 0 ∷ 19 ∷ 0 ∷ 0 ∷ 0 ∷ 4 ∷ 3 ∷ 2 ∷ 1 ∷ 1 ∷ 0 ∷ 2 ∷ 1 ∷ 1 ∷ 0 ∷ 9 ∷ []
+
+pub worked-bytes : encode workedMessage ≡ workedBytes
+unfolding compute
+worked-bytes = refl
+
+-- What they say.
+pub worked-read : read workedBytes ≡ workedMessage
+unfolding compute
+worked-read = refl
 
 -- An update that only notes what it was asked.
 abbrev pub noted : Update (List (Change × Triple))
@@ -120,7 +141,7 @@ noted d h t = (Applied, (d, t) ∷ h)
 
 -- What is noted last stands in front: the sections run in their order, the first two as withdrawals, the others as additions.
 pub worked-sections : runMessage noted workedMessage (progress [] (tally 0 0 0)) ≡
-    progress ((Addition, triple 32 19 33) ∷ (Addition, triple 19 3 20) ∷ (Withdrawal, triple 32 1 16) ∷ (Withdrawal, triple 16 2 17) ∷ []) (tally 4 0 0)
+    progress ((Addition, triple 32 19 0x01020304) ∷ (Addition, triple 19 3 20) ∷ (Withdrawal, triple 32 1 16) ∷ (Withdrawal, triple 16 2 17) ∷ []) (tally 4 0 0)
 unfolding compute
 worked-sections = refl
 

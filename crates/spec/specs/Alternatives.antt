@@ -6,16 +6,16 @@ use mathlib.Core.Bool.{Bool, true, false, _&&_}
 use mathlib.Core.List.{List, [], _∷_, map, List·Memᴰ}
 use Rattle.spec.specs.declared.Triple.{Triple}
 use Rattle.spec.specs.Terms.{type, subClassOf, subPropertyOf, domain, range, isLiteral, triple}
-use Rattle.spec.specs.Atoms.{admits, admitsClass, admitsProperty}
 use Rattle.spec.specs.Rules.{Reach}
 use Rattle.spec.specs.computed.Reformulated.{alternatives}
 use Rattle.spec.specs.Refusals.{firstRefusal}
 use Rattle.spec.specs.Tables.{rows, isStatementTable}
 use Rattle.spec.specs.Rows.{words}
 use Rattle.spec.specs.Outputs.{areFitting, Replied, give}
-use Rattle.spec.specs.Questions.{isAtom}
+use Rattle.spec.specs.Questions.{isAtom, admits, admitsClass}
 
--- "An alternative of an atom is kind, source, target", under the statements S.
+-- "An alternative of an atom is kind, source, target", under the statements S. "Kinds 1 to 3 need a property of 1 or a variable, and an object
+-- equal to target or variable; kind 4 a property equal to target or variable."
 pub data IsAlternative (S : List Triple) (a : Triple) : ℕ → ℕ → ℕ → Type 0 where
   -- "0 0 0: an explicit triple as it is."
   as-it-is : IsAlternative S a 0 0 0
@@ -26,7 +26,7 @@ pub data IsAlternative (S : List Triple) (a : Triple) : ℕ → ℕ → ℕ → 
   -- "Kind 3: the same with range, for b not a literal."
   by-range : {p q c d : ℕ} → Reach S subPropertyOf p q → List·Memᴰ (triple q range c) S → Reach S subClassOf c d → admitsClass a d ≡ true → IsAlternative S a 3 p d
   -- "Kind 4: a source b gives a target b, by one or more subproperty steps, source and target different."
-  by-subproperty : {p q : ℕ} → Reach S subPropertyOf p q → ¬ (p ≡ q) → admitsProperty a q ≡ true → IsAlternative S a 4 p q
+  by-subproperty : {p q : ℕ} → Reach S subPropertyOf p q → ¬ (p ≡ q) → admits (a .property) q ≡ true → IsAlternative S a 4 p q
 
 -- What an alternative gives of an explicit triple.
 pub data Gives : ℕ → ℕ → ℕ → Triple → Triple → Type 0 where

@@ -7,9 +7,10 @@ use mathlib.Core.Logic.{_↔_}
 use lib.ListN.{length, replicate}
 use lib.Dec.{leb}
 use Rattle.spec.specs.declared.Triple.{Triple}
-use Rattle.spec.specs.Order.{isAscending}
+use Rattle.spec.specs.Order.{isAscending, ListOf}
 use Rattle.spec.specs.Refusals.{firstRefusal, tripleChecks}
-use Rattle.spec.specs.Tables.{layout, supportLayout, Tables, tables, capacitiesOf, Ledger}
+use Rattle.spec.specs.Tables.{layout, Tables, tables, capacitiesOf, Ledger}
+use Rattle.spec.specs.Lists.{padded}
 use Rattle.spec.specs.Rules.{Follows, FollowsAsFact, Carries}
 use Rattle.spec.specs.declared.Reply.the-variants.{Rows, Refused}
 use Rattle.spec.specs.Outputs.{Replied, replied, filled}
@@ -44,25 +45,15 @@ ledgerRun s f k u cs = calls (ledgerEntries (capacitiesOf (emptyStore s f k u)))
 abbrev pub graphOf : Ledger → List Triple
 graphOf L = L .statements ++ L .facts
 
--- K are the facts that follow from the graph G, ascending, each once.
-pub record FactsFrom (G K : List Triple) : Type 0 where
-  pub ascend : isAscending K ≡ true
-  pub exactly : (t : Triple) → List·Memᴰ t K ↔ FollowsAsFact G t
-
--- fs are the facts of F that carry t under the statements S, ascending, each once.
-pub record CarriersOf (S F : List Triple) (t : Triple) (fs : List Triple) : Type 0 where
-  pub ascend : isAscending fs ≡ true
-  pub exactly : (f : Triple) → List·Memᴰ f fs ↔ (List·Memᴰ f F × Carries S f t)
-
 -- "Each support the number of its facts that carry the row": of some rows, and of their supports.
 pub data Supported (S F : List Triple) : List Triple → List ℕ → Type 0 where
   none : Supported S F [] []
-  row : {t : Triple} {fs K : List Triple} {U : List ℕ} → CarriersOf S F t fs → Supported S F K U → Supported S F (t ∷ K) (length fs ∷ U)
+  row : {t : Triple} {fs K : List Triple} {U : List ℕ} → ListOf (λ f. List·Memᴰ f F × Carries S f t) fs → Supported S F K U → Supported S F (t ∷ K) (length fs ∷ U)
 
 -- "5 whether the facts after it, with all that follow, fit the kept capacity": the answer, for a ledger after an update.
 pub record FitsBy (capacity : ℕ) (L : Ledger) (answer : Bool) : Type 0 where
   pub kept : List Triple
-  pub follow : FactsFrom (graphOf L) kept
+  pub follow : ListOf (FollowsAsFact (graphOf L)) kept
   pub decided : answer ≡ leb (length kept) capacity
 
 -- ---- questions
@@ -93,12 +84,12 @@ pub record Demand3 (s f k u : ℕ) (L : Run Ledger) (T : Run Tables) : Type 0 wh
   pub facts-ascend : isAscending (L .after .facts) ≡ true
   -- "kept facts its facts with all that follow,
   pub kept : List Triple
-  pub kept-follow : FactsFrom (graphOf (L .after)) kept
+  pub kept-follow : ListOf (FollowsAsFact (graphOf (L .after))) kept
   -- each support the number of its facts that carry the row.
   pub supports : List ℕ
   pub supports-count : Supported (L .after .statements) (L .after .facts) kept supports
   -- Order and zeros being as under Tables, this fixes every word."
-  pub words : T .after ≡ tables (layout s (L .after .statements)) (layout f (L .after .facts)) (layout k kept) (supportLayout u supports)
+  pub words : T .after ≡ tables (layout s (L .after .statements)) (layout f (L .after .facts)) (layout k kept) (padded u supports)
   -- Any update that 2 and 3 pass is then asked 5 on what follows after it, whether it is refused or not.
   pub fits : (d : Change) (t : Triple) → firstRefusal (tripleChecks t) ≡ 0
       → FitsBy (capacitiesOf (emptyStore s f k u) .kept) (applying d t (L .after)) (isFitting (capacitiesOf (emptyStore s f k u)) (applying d t (L .after)))

@@ -8,11 +8,12 @@ use lib.Dec.{leb}
 use Rattle.spec.specs.declared.Triple.{Triple}
 use Rattle.spec.specs.Refusals.{firstRefusal, tripleChecks}
 use Rattle.spec.specs.Tables.{Capacities, Ledger, ledger}
-use Rattle.spec.specs.Saturation.{saturation}
+use Rattle.spec.specs.computed.Saturated.{saturation}
 use Rattle.spec.specs.declared.Answer.{Answer}
 use Rattle.spec.specs.declared.Change.{Change}
 use Rattle.spec.specs.Updates.{applying, isChange, isAdmitted, settle}
-use Rattle.spec.specs.Deliveries.{read, Update, messageChecks, conclude}
+use Rattle.spec.specs.Deliveries.{Update, messageChecks, conclude}
+use Rattle.spec.specs.computed.Decoded.{read}
 use Rattle.spec.specs.declared.Delivered.{Delivered}
 
 -- "Each call (addition, withdrawal or delivery) with its words or bytes."

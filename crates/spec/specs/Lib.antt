@@ -10,8 +10,8 @@ pub mod Updates
 pub mod Outputs
 pub mod Listings
 pub mod Questions
-pub mod Atoms
 pub mod Alternatives
+pub mod Messages
 pub mod Deliveries
 pub mod Ledger
 pub mod Demand3

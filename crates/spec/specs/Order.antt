@@ -1,6 +1,8 @@
 -- The order of triples, and ascending lists of them as sets (document 01, "Tables"). Definitions only.
 use mathlib.Core.Bool.{Bool, true, _&&_, cond}
-use mathlib.Core.List.{List, [], _∷_}
+use mathlib.Core.List.{List, [], _∷_, List·Memᴰ}
+use mathlib.Core.Path.{_≡_}
+use mathlib.Core.Logic.{_↔_}
 use lib.Dec.{eqb}
 use Rattle.spec.specs.declared.Triple.{Triple}
 use Rattle.spec.specs.Lists.{any}
@@ -24,6 +26,11 @@ isAscending [] = true
 isAscending (t ∷ []) = true
 isAscending (t ∷ u ∷ F) = isLess t u && isAscending (u ∷ F)
 
+-- The triples ts are exactly those of which P holds, ascending, each once.
+pub record ListOf (P : Triple → Type 0) (ts : List Triple) : Type 0 where
+  pub ascend : isAscending ts ≡ true
+  pub exactly : (t : Triple) → List·Memᴰ t ts ↔ P t
+
 -- An ascending list with t, which stands in it once.
 unfoldable pub insert : Triple → List Triple → List Triple
 insert t [] = t ∷ []
@@ -33,8 +40,3 @@ insert t (u ∷ F) = cond (isLess t u) (t ∷ u ∷ F) (cond (isSame t u) (u ∷
 unfoldable pub remove : Triple → List Triple → List Triple
 remove t [] = []
 remove t (u ∷ F) = cond (isSame t u) F (u ∷ remove t F)
-
--- The ascending list of some triples, each once.
-unfoldable pub ascend : List Triple → List Triple
-ascend [] = []
-ascend (t ∷ ts) = insert t (ascend ts)

@@ -4,7 +4,6 @@ use mathlib.Core.List.{List, [], _∷_, map}
 use Prim.Native.Nat.{ℕ, zero, suc}
 use Rattle.spec.specs.declared.Triple.{Triple}
 use Rattle.spec.specs.Order.{isLess, isSame}
-use Rattle.spec.specs.computed.Carried.{carried}
 
 -- Kept facts, ascending, each with its support.
 abbrev pub Kept : Type 0
@@ -35,11 +34,6 @@ raiseAll (t ∷ ts) k = raise t (raiseAll ts k)
 unfoldable pub lowerAll : List Triple → Kept → Kept
 lowerAll [] k = k
 lowerAll (t ∷ ts) k = lower t (lowerAll ts k)
-
--- The saturation: the kept facts and supports worked out afresh from the statements S and the facts F.
-unfoldable pub saturation : List Triple → List Triple → Kept
-saturation S [] = []
-saturation S (f ∷ F) = raiseAll (carried S f) (saturation S F)
 
 -- The kept rows, and their supports.
 abbrev pub keptRows : Kept → List Triple

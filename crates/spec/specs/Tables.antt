@@ -87,10 +87,6 @@ isSupport facts u = leb 1 u && leb u facts
 unfoldable pub isSupportTable : ℕ → ℕ → List ℕ → Bool
 isSupportTable facts n us = leb n (length us) && (all (isSupport facts) (take n us) && areZero (drop n us))
 
--- The supports of rows, in a table of len places.
-unfoldable pub supportLayout : ℕ → List ℕ → List ℕ
-supportLayout len us = padded len us
-
 -- "An update or delivery is lent all four tables": their words.
 pub record Tables : Type 0 where
   pub statements : List ℕ
@@ -159,4 +155,4 @@ put c T =
     (layout (length (T .statements)) (c .explicit .statements))
     (layout (length (T .facts)) (c .explicit .facts))
     (layout (length (T .kept)) (keptRows (c .kept)))
-    (supportLayout (length (T .supports)) (keptSupports (c .kept)))
+    (padded (length (T .supports)) (keptSupports (c .kept)))

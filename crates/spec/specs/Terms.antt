@@ -1,5 +1,5 @@
 -- Terms as words, triples and statements (document 01, "Terms and triples"). Definitions only.
-use Prim.Native.Nat.{ℕ, _+_, _*_, _/_, _%_, _^_}
+use Prim.Native.Nat.{ℕ, _/_, _%_, _^_}
 use mathlib.Core.Bool.{Bool, _&&_, _||_, not, cond}
 use lib.Dec.{eqb, leb, ltb}
 use Rattle.spec.specs.declared.Triple.{Triple}
@@ -51,10 +51,6 @@ domain = 4
 -- rdfs:range.
 abbrev pub range : ℕ
 range = 5
-
--- The variable numbered v.
-abbrev pub variable : ℕ → ℕ
-variable v = 3 * 2 ^ 30 + v
 
 -- The triple of a subject, a property and an object.
 abbrev pub triple : ℕ → ℕ → ℕ → Triple

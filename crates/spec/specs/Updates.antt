@@ -8,8 +8,9 @@ use Rattle.spec.specs.declared.Triple.{Triple}
 use Rattle.spec.specs.Terms.{isStatement}
 use Rattle.spec.specs.Order.{isIn, insert, remove}
 use Rattle.spec.specs.Refusals.{firstRefusal, tripleChecks}
-use Rattle.spec.specs.Saturation.{Kept, raiseAll, lowerAll, saturation}
+use Rattle.spec.specs.Saturation.{Kept, raiseAll, lowerAll}
 use Rattle.spec.specs.computed.Carried.{carried}
+use Rattle.spec.specs.computed.Saturated.{saturation}
 use Rattle.spec.specs.declared.Answer.{Answer}
 use Rattle.spec.specs.declared.Answer.the-variants.{Applied, Idle, Refused}
 use Rattle.spec.specs.declared.Change.{Change}
@@ -93,10 +94,6 @@ add T t = update Addition T t
 -- The withdrawal of a triple from a store.
 abbrev pub withdraw : Tables → Triple → Answer × Tables
 withdraw T t = update Withdrawal T t
-
--- An answer with tables.
-abbrev pub outcome : Answer → Tables → Answer × Tables
-outcome a T = (a, T)
 
 -- The number of an answer, as the exported library gives it: 0 applied, 100 idle, or the number that refused.
 abbrev pub answerNumber : Answer → ℕ

@@ -1,3 +1,5 @@
 pub mod Carried
 pub mod Solutions
 pub mod Reformulated
+pub mod Decoded
+pub mod Saturated

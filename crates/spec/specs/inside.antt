@@ -3,3 +3,5 @@ pub mod Entailment
 pub mod Counts
 pub mod Laid
 pub mod Sorting
+pub mod Each
+pub mod Pairs

@@ -10,7 +10,7 @@ use lib.Seq.{take-at, drop-at}
 use lib.Dec.{ltb}
 use borrow.Author.Tests.{ne-eqb, le-ltb}
 use Rattle.spec.proofs.Ascending.{and-left}
-use Rattle.delivery_format.specs.Encoding.{Each}
+use Rattle.spec.specs.inside.Each.{Each}
 use Rattle.spec_ntriples.specs.Texts.{isSame}
 use Rattle.spec_ntriples.specs.Dictionary.{Entry, numberBytes, entryBytes, entriesBytes, dictionaryBytes, bytesNumber, frontTerm, frontLength, entriesAtMost, entries, kindOf, areNumbered, areNumbersEnough, areTexts, isDictionary}
 use Rattle.spec_ntriples.specs.inside.Entries.{Writable}

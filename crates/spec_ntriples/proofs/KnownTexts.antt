@@ -9,7 +9,7 @@ use lib.Dec.{eqb, eqb·suc-zero}
 use borrow.Author.Tests.{eqb-true, eqb-false, eq-eqb, ne-eqb}
 use Rattle.spec.proofs.Lists.{by-test, true-not-false}
 use Rattle.spec.proofs.Ascending.{and-left, and-right}
-use Rattle.delivery_format.specs.Encoding.{Each}
+use Rattle.spec.specs.inside.Each.{Each}
 use Rattle.spec_ntriples.specs.Texts.{isSame}
 use Rattle.spec_ntriples.specs.Dictionary.{Entry, entry, vocabularyTexts, placeOf, vocabularyOf, termIn, termOf, firstNumber, nextNumber, nextTerm, kindOf, areNumbered, isCanonical, areTexts}
 use Rattle.spec_ntriples.specs.Sights.{isAmong, firstSights, knownTexts}

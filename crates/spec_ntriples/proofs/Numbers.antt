@@ -13,7 +13,7 @@ use Rattle.spec.specs.Terms.{kind, number}
 use Rattle.spec.specs.Lists.{select}
 use Rattle.spec.proofs.Lists.{by-test}
 use Rattle.spec.proofs.Ascending.{and-left, and-right}
-use Rattle.delivery_format.specs.Encoding.{Each}
+use Rattle.spec.specs.inside.Each.{Each}
 use Rattle.spec_ntriples.specs.Dictionary.{Entry, areNumbersEnough, firstNumber, nextNumber, nextTerm, kindOf, areNumbered}
 
 -- ---- what holds of each of a list

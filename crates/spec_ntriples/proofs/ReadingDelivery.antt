@@ -11,9 +11,11 @@ use Rattle.spec.specs.declared.Triple.{Triple}
 use Rattle.spec.specs.Terms.{kind, number, isUri, isBlank, isLiteral, isResource, isTriple, isStatement}
 use Rattle.spec.specs.Lists.{all, select}
 use Rattle.spec.specs.Refusals.{firstRefusal}
-use Rattle.spec.specs.Deliveries.{Message, read, mostBytes, isFact, numberFields, areSectionsRight, isNumberRight, messageChecks}
+use Rattle.spec.specs.Deliveries.{isFact, numberFields, areSectionsRight, isNumberRight, messageChecks}
+use Rattle.spec.specs.Messages.{Message, mostBytes, encode}
+use Rattle.spec.specs.computed.Decoded.{read}
 use Rattle.spec.proofs.Lists.{by-test}
-use Rattle.delivery_format.specs.Encoding.{encode, Each}
+use Rattle.spec.specs.inside.Each.{Each}
 use Rattle.delivery_format.proofs.Encoding.{read-encode, encode-whole}
 use Rattle.spec_ntriples.specs.Lines.{TextTriple}
 use Rattle.spec_ntriples.specs.Dictionary.{Entry, dictionaryBytes, termOf, kindOf, areNumbered}
@@ -39,7 +41,7 @@ sections-right ts = rw (select-all isStatement ts, select-all isFact ts)
 
 -- The bytes of additions pass 9, 10 and 11.
 additions-pass : (ts : List Triple) → length (encode (additions ts)) ≤ mostBytes → firstRefusal (messageChecks (encode (additions ts))) ≡ 0
-unfolding firstRefusal additions numberFields isNumberRight
+unfolding firstRefusal additions numberFields select isNumberRight
 additions-pass ts h =
     rw (encode-whole (additions ts), le-leb (length (encode (additions ts))) mostBytes h, read-encode (additions ts), sections-right ts)
 

@@ -6,7 +6,7 @@ use mathlib.Core.List.{List, [], _∷_, _++_, flatMap}
 use native.Mathlib.Omega.{arith}
 use lib.ListN.{length}
 use Rattle.spec.proofs.Ascending.{and-left, and-right}
-use Rattle.delivery_format.specs.Encoding.{Each}
+use Rattle.spec.specs.inside.Each.{Each}
 use Rattle.spec_ntriples.specs.Texts.{Text, isSame}
 use Rattle.spec_ntriples.specs.Lines.{TextTriple}
 use Rattle.spec_ntriples.specs.Dictionary.{Entry, entriesBytes, dictionaryBytes, entries, termOf, kindOf, areNumbered, areNumbersEnough, isCanonical, areTexts, isDictionary}

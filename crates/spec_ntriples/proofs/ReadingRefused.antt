@@ -13,9 +13,10 @@ use Rattle.spec.specs.declared.Triple.{Triple}
 use Rattle.spec.specs.Terms.{isStatement}
 use Rattle.spec.specs.Refusals.{firstRefusal}
 use Rattle.spec.specs.Lists.{select}
-use Rattle.spec.specs.Deliveries.{mostBytes, isFact}
+use Rattle.spec.specs.Deliveries.{isFact}
+use Rattle.spec.specs.Messages.{mostBytes}
 use Rattle.spec.proofs.Lists.{by-test}
-use Rattle.delivery_format.specs.Encoding as format
+use Rattle.spec.specs.Messages as format
 use Rattle.spec_ntriples.specs.declared.ByteReply.the-variants.{Length, Refused}
 use Rattle.spec_ntriples.specs.Lines.{TextTriple, Document, refused, triples, document}
 use Rattle.spec_ntriples.specs.Dictionary.{Entry, entriesBytes, areNumbersEnough, isDictionary}

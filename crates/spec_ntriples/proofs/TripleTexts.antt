@@ -8,7 +8,7 @@ use lib.Dec.{eqb}
 use Prim.Native.Char.{code}
 use Rattle.spec.specs.Lists.{all}
 use Rattle.spec.proofs.Lists.{by-test}
-use Rattle.delivery_format.specs.Encoding.{Each}
+use Rattle.spec.specs.inside.Each.{Each}
 use Rattle.spec_ntriples.specs.Utf8.{isScalar}
 use Rattle.spec_ntriples.specs.Characters.{isDigit, isPnCharsU}
 use Rattle.spec_ntriples.specs.Terminals.{Got, none, got, outside, iriStep, scan, label}

@@ -10,7 +10,7 @@ use borrow.Author.Tests.{eqb-true, eqb-false, eq-eqb, ne-eqb, le-leb, lt-leb}
 use Rattle.spec.specs.Terms.{kind, number, isVocabulary}
 use Rattle.spec.proofs.Lists.{by-test}
 use Rattle.spec.proofs.Ascending.{and-left, and-right}
-use Rattle.delivery_format.specs.Encoding.{Each}
+use Rattle.spec.specs.inside.Each.{Each}
 use Rattle.spec_ntriples.specs.Characters.{codes}
 use Rattle.spec_ntriples.specs.Texts.{isSame}
 use Rattle.spec_ntriples.specs.Dictionary.{Entry, vocabularyTexts, placeOf, vocabularyOf, termIn, termOf, firstNumber, nextNumber, nextTerm, kindOf, areNumbered}

@@ -8,7 +8,9 @@ use Rattle.spec.specs.declared.Triple.{Triple}
 use Rattle.spec.specs.Terms.{isTriple, isStatement}
 use Rattle.spec.specs.Lists.{all, select}
 use Rattle.spec.specs.Refusals.{firstRefusal}
-use Rattle.spec.specs.Deliveries.{mostBytes, isFact, messageChecks, read}
+use Rattle.spec.specs.Deliveries.{isFact, messageChecks}
+use Rattle.spec.specs.Messages.{mostBytes}
+use Rattle.spec.specs.computed.Decoded.{read}
 use Rattle.spec_ntriples.specs.Lines.{TextTriple, refused, triples, document}
 use Rattle.spec_ntriples.specs.Dictionary.{Entry, entriesBytes, entries, areNumbersEnough, areNumbered, isDictionary}
 use Rattle.spec_ntriples.specs.Reading.{withAll}

@@ -8,8 +8,8 @@ use Rattle.spec.specs.declared.Triple.{Triple}
 use Rattle.spec.specs.Terms.{triple, isStatement}
 use Rattle.spec.specs.Refusals.{firstRefusal}
 use Rattle.spec.specs.Lists.{select}
-use Rattle.spec.specs.Deliveries.{Message, mostBytes, isFact}
-use Rattle.delivery_format.specs.Encoding.{encode}
+use Rattle.spec.specs.Deliveries.{isFact}
+use Rattle.spec.specs.Messages.{Message, mostBytes, encode}
 use Rattle.spec_ntriples.specs.declared.ByteReply.{ByteReply}
 use Rattle.spec_ntriples.specs.declared.ByteReply.the-variants.{Length, Refused}
 use Rattle.spec_ntriples.specs.Texts.{Text}

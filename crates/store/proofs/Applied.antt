@@ -13,7 +13,8 @@ use Rattle.spec.specs.Terms.{isStatement, isAllowedFact}
 use Rattle.spec.specs.inside.Comparison.{Ascending}
 use Rattle.spec.proofs.Tests.{same-elim}
 use Rattle.spec.proofs.Ascending.{insert-length, remove-length}
-use Rattle.spec.specs.Saturation.{Kept, raiseAll, lowerAll, saturation, keptRows, keptSupports}
+use Rattle.spec.specs.Saturation.{Kept, raiseAll, lowerAll, keptRows, keptSupports}
+use Rattle.spec.specs.computed.Saturated.{saturation}
 use Rattle.spec.specs.computed.Carried.{carried}
 use Rattle.spec.specs.inside.Counts.{Counts, lookup}
 use Rattle.spec.proofs.Lists.{by-test}

@@ -8,11 +8,11 @@ use lib.ListN.{length, take, replicate, length-map}
 use Rattle.spec.specs.declared.Triple.{Triple}
 use Rattle.spec.specs.Terms.{isAllowedStatement, isAllowedFact}
 use Rattle.spec.specs.inside.Comparison.{Ascending}
-use Rattle.spec.specs.Tables.{mostStatements, mostFacts, mostKept, count, rows, supportLayout, isSupport, Tables, tables, areFormed, Contents, contents, keptOf, contentsOf, put, capacitiesOf}
+use Rattle.spec.specs.Tables.{mostStatements, mostFacts, mostKept, count, rows, isSupport, Tables, tables, areFormed, Contents, contents, keptOf, contentsOf, put, capacitiesOf}
 use Rattle.spec.specs.inside.Laid.{FormedStore}
 use Rattle.spec.proofs.TableRows.{length-rows, rows-layout, length-layout, count-layout}
 use Rattle.spec.proofs.TableFormed.{capacity-fits, capacity-most, layout-isTable}
-use Rattle.table.proofs.Supports.{length-supportLayout, supportLayout-is, isSupport-between, between-isSupport}
+use Rattle.table.proofs.Supports.{length-padded, supports-padded, isSupport-between, between-isSupport}
 use Rattle.spec.proofs.TableAll.{all-member, member-all}
 use Rattle.table.proofs.Store.{isStore-formed}
 use Rattle.spec.specs.Saturation.{Kept, keptRows, keptSupports}
@@ -30,7 +30,7 @@ zip-kept (e ∷ k) z = ap (λ (l : Kept). e ∷ l) (zip-kept k z)
 
 -- What is put into tables is what they hold.
 pub contentsOf-put : (c : Contents) (T : Tables) → contentsOf (put c T) ≡ c
-unfolding contentsOf put keptOf supportLayout
+unfolding contentsOf put keptOf
 contentsOf-put c T =
     let z : List ℕ = replicate (length (T .supports) - length (keptSupports (c .kept))) 0 in
     simp rows-layout (λ i. contents (c .explicit) (zip-kept (c .kept) z i))
@@ -80,7 +80,7 @@ module _ {c : Contents} {T : Tables} (X : Fitting c T) (H : Worded T) where
       let s = layout-isTable isAllowedStatement mostStatements (length (T .statements)) (c .explicit .statements) statement-room (let h = X .statements-fit in omega (arith, capacity-most mostStatements (T .statements))) (X .sets .statements-ascend) (member-all isAllowedStatement (c .explicit .statements) (X .sets .statements-allowed)) in
       let f = layout-isTable isAllowedFact mostFacts (length (T .facts)) (c .explicit .facts) fact-room (let h = X .facts-fit in omega (arith, capacity-most mostFacts (T .facts))) (X .sets .facts-ascend) (member-all isAllowedFact (c .explicit .facts) (X .sets .facts-allowed)) in
       let k = layout-isTable isAllowedFact mostKept (length (T .kept)) (keptRows (c .kept)) kept-room (rw (length-keptRows (c .kept)) (let h = X .kept-fit in omega (arith, capacity-most mostKept (T .kept)))) (X .kept-ascend) (member-all isAllowedFact (keptRows (c .kept)) (X .kept-allowed)) in
-      let u = supportLayout-is (length (c .explicit .facts)) (length (T .supports)) (length (c .kept)) (keptSupports (c .kept)) (length-supports-of (c .kept)) (let h = X .kept-fit in omega arith)
+      let u = supports-padded (length (c .explicit .facts)) (length (T .supports)) (length (c .kept)) (keptSupports (c .kept)) (length-supports-of (c .kept)) (let h = X .kept-fit in omega arith)
       (member-all (isSupport (length (c .explicit .facts))) (keptSupports (c .kept)) (λ n m. let b = X .supports-between n m in between-isSupport (length (c .explicit .facts)) n (b .0) (b .1))) in
       rw (s, f, k) (simp (count-layout, length-keptRows (c .kept)) u)
 
@@ -91,7 +91,7 @@ module _ {c : Contents} {T : Tables} (X : Fitting c T) (H : Worded T) where
     same-statements = length-layout (length (T .statements)) (c .explicit .statements) statement-room;
     same-facts = length-layout (length (T .facts)) (c .explicit .facts) fact-room;
     same-kept = length-layout (length (T .kept)) (keptRows (c .kept)) kept-room;
-    same-supports = length-supportLayout (length (T .supports)) (keptSupports (c .kept)) (rw (length-supports-of (c .kept)) (let h = X .kept-fit in omega arith));
+    same-supports = length-padded (length (T .supports)) (keptSupports (c .kept)) (rw (length-supports-of (c .kept)) (let h = X .kept-fit in omega arith));
   }
 
 -- ---- what well-formed tables hold fits them

@@ -15,7 +15,7 @@ use Rattle.spec.proofs.Lists.{true-not-false, by-test, or-cases}
 use Rattle.spec.specs.Tables.{rows, Tables, tables, areFormed, capacitiesOf, Ledger, ledger, Contents, contents, contentsOf, keptOf, put}
 use Rattle.spec.proofs.TableRows.{rows-layout}
 use Rattle.table.proofs.Store.{layout-empty, empty-isStore}
-use Rattle.spec.specs.Saturation.{saturation}
+use Rattle.spec.specs.computed.Saturated.{saturation}
 use Rattle.spec.proofs.Saturation.{raise-saturation, lower-saturation}
 use Rattle.spec.specs.declared.Answer.{Answer}
 use Rattle.spec.specs.declared.Answer.the-variants.{Applied, Idle, Refused}

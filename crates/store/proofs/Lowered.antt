@@ -14,7 +14,7 @@ use Rattle.spec.specs.Tables.{count, isSupport, Tables, areFormed, Contents, co
 use Rattle.spec.specs.Lists.{all}
 use Rattle.spec.proofs.TableRows.{count-layout}
 use Rattle.spec.proofs.TableAll.{all-member, member-all}
-use Rattle.table.proofs.Supports.{length-supportLayout, take-supportLayout, isSupport-between}
+use Rattle.table.proofs.Supports.{length-padded, take-padded, isSupport-between}
 use Rattle.table.proofs.Store.{isStore-formed}
 use Rattle.spec.specs.Saturation.{keptSupports}
 use Rattle.spec.specs.computed.Carried.{carried}
@@ -60,7 +60,7 @@ formed-places T e = isStore-formed (T .statements) (T .facts) (T .kept) (T .supp
 -- The supports are those of the contents,
 put-supports : (c : Contents) (T : Tables) → supportsOf (put c T) ≡ keptSupports (c .kept)
 unfolding put
-put-supports c T = rw (count-layout, length-keptRows) (take-supportLayout (length (T .supports)) (length (c .kept)) (keptSupports (c .kept)) (length-supports-of (c .kept)))
+put-supports c T = rw (count-layout, length-keptRows) (take-padded (length (T .supports)) (length (c .kept)) (keptSupports (c .kept)) (length-supports-of (c .kept)))
 
 -- so is the number of facts,
 put-facts : (c : Contents) (T : Tables) → count (put c T .facts) ≡ length (c .explicit .facts)
@@ -70,7 +70,7 @@ put-facts c T = count-layout (length (T .facts)) (c .explicit .facts)
 -- and there is a place for each kept fact where there is room.
 put-places : (c : Contents) (T : Tables) → length (c .kept) ≤ length (T .supports) → count (put c T .kept) ≤ length (put c T .supports)
 unfolding put
-put-places c T h = rw (count-layout, length-keptRows, length-supportLayout (length (T .supports)) (keptSupports (c .kept)) (rw (length-supports-of (c .kept)) h)) h
+put-places c T h = rw (count-layout, length-keptRows, length-padded (length (T .supports)) (keptSupports (c .kept)) (rw (length-supports-of (c .kept)) h)) h
 
 -- ---- the contents left
 

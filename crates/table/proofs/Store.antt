@@ -9,11 +9,11 @@ use lib.ListN.{replicate}
 use Rattle.spec.specs.declared.Triple.{Triple}
 use Rattle.spec.specs.Terms.{isAllowedStatement, isAllowedFact}
 use Rattle.spec.proofs.Ascending.{and-left, and-right}
-use Rattle.spec.specs.Tables.{mostStatements, mostFacts, mostKept, count, layout, flatten, isTable, isStatementTable, isFactTable, isKeptTable, isSupportTable, supportLayout, tables, areFormed}
+use Rattle.spec.specs.Tables.{mostStatements, mostFacts, mostKept, count, layout, flatten, isTable, isStatementTable, isFactTable, isKeptTable, isSupportTable, tables, areFormed}
 use Rattle.spec.specs.Lists.{all}
 use Rattle.spec.specs.inside.Laid.{FormedStore}
 use Rattle.spec.proofs.TableFormed.{isTable-wellFormed, wellFormed-isTable, layout-isTable}
-use Rattle.table.proofs.Supports.{supports-of, supports-is, supportLayout-is}
+use Rattle.table.proofs.Supports.{supports-of, supports-is, supports-padded}
 
 pub isStore-formed : (S F K U : List ℕ) → areFormed (tables S F K U) ≡ true → FormedStore S F K U
 unfolding areFormed
@@ -42,8 +42,8 @@ unfolding all
 empty-isTable allowed most len h = rw (← layout-empty len h) (layout-isTable allowed most len [] (omega arith) (omega arith) tt refl)
 
 pub empty-supports : (facts len : ℕ) → isSupportTable facts 0 (replicate len 0) ≡ true
-unfolding supportLayout all
-empty-supports facts len = rw sub-zero at (supportLayout-is facts len 0 [] refl (omega arith) refl)
+unfolding all
+empty-supports facts len = rw sub-zero at (supports-padded facts len 0 [] refl (omega arith) refl)
 
 pub empty-count : (len : ℕ) → count (replicate len 0) ≡ 0
 empty-count zero = refl

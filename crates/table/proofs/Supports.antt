@@ -9,8 +9,8 @@ use lib.Seq.{take-at, drop-at, getD-take, length-take-le}
 use lib.Dec.{leb}
 use borrow.Author.Tests.{leb-true, le-leb}
 use Rattle.spec.proofs.Ascending.{and-left, and-right}
-use Rattle.spec.specs.Tables.{areZero, isSupport, isSupportTable, supportLayout}
-use Rattle.spec.specs.Lists.{all}
+use Rattle.spec.specs.Tables.{areZero, isSupport, isSupportTable}
+use Rattle.spec.specs.Lists.{all, padded}
 use Rattle.spec.specs.inside.Laid.{Supports}
 use Rattle.spec.proofs.TableAll.{all-getD, replicate-of, areZero-replicate}
 
@@ -24,17 +24,15 @@ between-isSupport facts u h k = rw (le-leb 1 u h, le-leb u facts k)
 
 -- ---- the table
 
-pub length-supportLayout : (len : ℕ) (us : List ℕ) → length us ≤ len → length (supportLayout len us) ≡ len
-unfolding supportLayout
-length-supportLayout len us h = simp (length-append, length-replicate) (omega arith)
+pub length-padded : (len : ℕ) (us : List ℕ) → length us ≤ len → length (padded len us) ≡ len
+length-padded len us h = simp (length-append, length-replicate) (omega arith)
 
 -- The supports of a layout.
-pub take-supportLayout : (len n : ℕ) (us : List ℕ) → length us ≡ n → take n (supportLayout len us) ≡ us
-unfolding supportLayout
-take-supportLayout len n us e = take-at us _ n e
+pub take-padded : (len n : ℕ) (us : List ℕ) → length us ≡ n → take n (padded len us) ≡ us
+take-padded len n us e = take-at us _ n e
 
 pub supports-of : (facts n : ℕ) (us : List ℕ) → isSupportTable facts n us ≡ true → Supports facts n us
-unfolding isSupportTable supportLayout
+unfolding isSupportTable
 supports-of facts n us e =
     let few : n ≤ length us = leb-true n (length us) (and-left _ _ e) in
     let q = and-right (leb n (length us)) _ e in
@@ -46,15 +44,15 @@ supports-of facts n us e =
       is-layout = simp (long, ← replicate-of (drop n us) _ rest (length-drop n us), take-append-drop);
     }
 
-pub supportLayout-is : (facts len n : ℕ) (us : List ℕ) → length us ≡ n → n ≤ len → all (isSupport facts) us ≡ true → isSupportTable facts n (supportLayout len us) ≡ true
-unfolding isSupportTable supportLayout
-supportLayout-is facts len n us e h q =
+pub supports-padded : (facts len n : ℕ) (us : List ℕ) → length us ≡ n → n ≤ len → all (isSupport facts) us ≡ true → isSupportTable facts n (padded len us) ≡ true
+unfolding isSupportTable
+supports-padded facts len n us e h q =
     let z : List ℕ = replicate (len - length us) 0 in
     let room : n ≤ length (us ++ z) = simp (length-append, length-replicate) (omega arith) in
     simp (le-leb n (length (us ++ z)) room, take-at us z n e, q, drop-at us z n e, areZero-replicate)
 
 pub supports-is : {facts n : ℕ} {us : List ℕ} → Supports facts n us → isSupportTable facts n us ≡ true
-supports-is {facts} {n} {us} S = rw (S .is-layout) (supportLayout-is facts (length us) n (take n us) (length-take-le n us (S .within)) (S .within) (S .each-support))
+supports-is {facts} {n} {us} S = rw (S .is-layout) (supports-padded facts (length us) n (take n us) (length-take-le n us (S .within)) (S .within) (S .each-support))
 
 -- Each of the n supports lies between 1 and the number of facts.
 pub support-between : {facts n : ℕ} {us : List ℕ} → Supports facts n us → (i : ℕ) → i < n → (1 ≤ getD us i 0) × (getD us i 0 ≤ facts)

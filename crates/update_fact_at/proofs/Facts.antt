@@ -30,7 +30,8 @@ use Rattle.rdfs_derive.proofs.WordRows.{rows-listed, rows-within}
 use Rattle.spec.specs.declared.Answer.the-variants.{Applied, Idle, Refused}
 use Rattle.spec.specs.declared.Change.{Change}
 use Rattle.spec.specs.declared.Change.the-variants.{Addition, Withdrawal}
-use Rattle.spec.specs.Updates.{isMember, changed, applying, isChange, isAdmitted, keptAfter, contentsAfter, isKeptFitting, update, add, withdraw, outcome}
+use Rattle.spec.specs.Updates.{isMember, changed, applying, isChange, isAdmitted, keptAfter, contentsAfter, isKeptFitting, update, add, withdraw}
+use Rattle.spec.specs.inside.Pairs.{outcome}
 use Rattle.spec.proofs.Outcomes.{Passes, update-idle, update-full, update-unfit, update-applied, member-yes, member-no}
 use Rattle.update_kept.specs.inside.Entries.{Sought, Holding}
 use Rattle.update_kept.proofs.Formed.{kept-tables, keptRows-keptOf, length-keptOf, kept-within}

@@ -13,7 +13,8 @@ ghost use Rattle.spec.specs.Tables.{rows, tables};
 ghost use Rattle.table_find.specs.inside.Search.{place};
 ghost use Rattle.spec.specs.inside.Laid.{FormedStore};
 ghost use Rattle.spec.specs.declared.Answer.the-variants.{Applied};
-ghost use Rattle.spec.specs.Updates.{outcome, add, withdraw};
+ghost use Rattle.spec.specs.Updates.{add, withdraw};
+ghost use Rattle.spec.specs.inside.Pairs.{outcome};
 
 // Adds a fact that is not there, at the gap where it would stand: refused by 4 or 5 only on a counted excess.
 pub fn add_new_fact(

@@ -10,7 +10,8 @@ ghost use mathlib.Core.Bool.{true};
 ghost use Rattle.spec.specs.Terms.{isAllowedFact};
 ghost use Rattle.spec.specs.Tables.{tables};
 ghost use Rattle.spec.specs.inside.Laid.{FormedStore};
-ghost use Rattle.spec.specs.Updates.{outcome, update};
+ghost use Rattle.spec.specs.Updates.{update};
+ghost use Rattle.spec.specs.inside.Pairs.{outcome};
 
 // Adds or withdraws a fact, once questions 1 to 3 are passed. Adding what is there is idle, whatever the capacities, and so is
 // withdrawing what is absent.

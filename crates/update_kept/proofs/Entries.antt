@@ -7,13 +7,14 @@ use native.Mathlib.Decide.{ℕ-discrete}
 use native.Mathlib.Numerals.{add-one}
 use native.Mathlib.Omega.{arith}
 use lib.ListN.{length, getD, take, drop, set, length-set, length-map, take-append-drop, replicate}
-use lib.Seq.{drop-cons, getD-set-same, getD-set-other, getD-take, ext-getD, drop-set-lt, length-take-le, drop-at, drop-drop}
+use lib.Seq.{getD-set-same, getD-set-other, getD-take, ext-getD, drop-set-lt, length-take-le, drop-at, drop-drop}
 use mathlib.Core.Bool.{true}
 use Rattle.spec.specs.declared.Triple.{Triple}
 use Rattle.spec.specs.Terms.{triple}
 use Rattle.spec.specs.Order.{isAscending}
 use Rattle.spec.proofs.Ascending.{isAscending-iff}
-use Rattle.spec.specs.Tables.{count, rowAt, firstRows, rows, flatten, layout, supportLayout, keptOf}
+use Rattle.spec.specs.Tables.{count, rowAt, firstRows, rows, flatten, layout, keptOf}
+use Rattle.spec.specs.Lists.{padded}
 use Rattle.spec.proofs.TableRows.{length-firstRows, firstRows-rows, getD-rowAt, flatten-firstRows, length-flatten, length-rows}
 use Rattle.spec.specs.Saturation.{keptRows, keptSupports}
 use Rattle.table_change.specs.inside.Words.{putRow}
@@ -144,25 +145,6 @@ pub count-putRow : (i : ℕ) (x : Triple) (ws : List ℕ) → count (putRow i x 
 unfolding putRow
 count-putRow i x ws = put-other ws (i * 3 + 1) (x .subject) (x .property) (x .object) 0 (λ q. omega arith) (λ q. omega arith) (λ q. omega arith)
 
--- What stands from the row on: its words, and those behind it.
-pub drop-putRow-here : (i : ℕ) (x : Triple) (ws : List ℕ) → i * 3 + 3 < length ws → drop (i * 3 + 1) (putRow i x ws) ≡ x .subject ∷ x .property ∷ x .object ∷ drop (suc i * 3 + 1) ws
-unfolding rowAt
-drop-putRow-here i x ws h =
-    let a : ℕ = i * 3 + 1 in
-    let v : List ℕ = putRow i x ws in
-    let l : length v ≡ length ws = length-putRow i x ws in
-    let e₁ : suc a ≡ a + 1 = omega arith in
-    let e₂ : suc (a + 1) ≡ a + 2 = omega arith in
-    let e₃ : suc (a + 2) ≡ suc i * 3 + 1 = omega arith in
-    let d₁ : drop a v ≡ getD v a 0 ∷ drop (a + 1) v = rw e₁ at (drop-cons v a 0 (omega arith)) in
-    let d₂ : drop (a + 1) v ≡ getD v (a + 1) 0 ∷ drop (a + 2) v = rw e₂ at (drop-cons v (a + 1) 0 (omega arith)) in
-    let d₃ : drop (a + 2) v ≡ getD v (a + 2) 0 ∷ drop (suc i * 3 + 1) v = rw e₃ at (drop-cons v (a + 2) 0 (omega arith)) in
-    let d₄ : drop (suc i * 3 + 1) v ≡ drop (suc i * 3 + 1) ws = drop-putRow i (suc i) x ws (omega arith) in
-    rw (d₁, d₂, d₃, d₄) (λ z. words-of (rowAt-same i x ws h z) ++ drop (suc i * 3 + 1) ws)
-  where
-    words-of : Triple → List ℕ
-    words-of t = t .subject ∷ t .property ∷ t .object ∷ []
-
 -- A row and its support written are an entry set.
 pub entries-put : (n i : ℕ) (x : Triple) (s : ℕ) (ws us : List ℕ) → i < n → n ≤ length us → n * 3 < length ws
     → entries n (putRow i x ws) (set us i s) ≡ set (entries n ws us) i (x, s)
@@ -202,8 +184,7 @@ room-rows {n} {ws} {us} R =
     rw (e, ← (R .zero-words)) (ap (λ (l : List ℕ). set l 0 n) (words-split n ws us (R .words) (R .places)))
 
 -- and the other the layout of their supports.
-pub room-supports : {n : ℕ} {ws us : List ℕ} → Room n ws us → us ≡ supportLayout (length us) (keptSupports (entries n ws us))
-unfolding supportLayout
+pub room-supports : {n : ℕ} {ws us : List ℕ} → Room n ws us → us ≡ padded (length us) (keptSupports (entries n ws us))
 room-supports {n} {ws} {us} R =
     let e : keptSupports (entries n ws us) ≡ take n us = keptSupports-entries n ws us (R .places) in
     let l : length (take n us) ≡ n = length-take-le n us (R .places) in

@@ -5,7 +5,7 @@ use mathlib.Core.List.{List, _++_}
 use native.Mathlib.Omega.{arith}
 use lib.ListN.{length, take, drop, replicate}
 use lib.Seq.{drop-at, length-take-le}
-use Rattle.spec.specs.Tables.{count, rows, supportLayout, tables, capacitiesOf, keptOf}
+use Rattle.spec.specs.Tables.{count, rows, tables, capacitiesOf, keptOf}
 use Rattle.spec.specs.inside.Laid.{FormedStore}
 use Rattle.spec.proofs.TableRows.{length-rows}
 use Rattle.spec.specs.Saturation.{keptRows}
@@ -15,7 +15,6 @@ use Rattle.update_kept.proofs.Entries.{length-entries, keptRows-entries
 module _ {S F K U : List ℕ} (W : FormedStore S F K U) where
   -- What the functions on kept facts ask.
   pub kept-tables : KeptTables K U
-  unfolding supportLayout
   kept-tables =
       let e : count K ≡ length (rows K) = sym (length-rows K) in
       let n : ℕ = length (rows K) in

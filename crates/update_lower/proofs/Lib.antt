@@ -1,3 +1,4 @@
 pub mod Lower
 pub mod LowerPass
 pub mod Passed
+pub mod Clearing

@@ -5,8 +5,8 @@ use mathlib.Core.Path.{_≡_, refl, sym, ap, _∙_, subst}
 use mathlib.Core.List.{List, [], _∷_, _++_, append-assoc, append-nil}
 use native.Mathlib.Numerals.{add-one}
 use native.Mathlib.Omega.{arith}
-use lib.ListN.{length, getD, take, drop, set, replicate, length-set, take-append-drop, drop-of-length-le}
-use lib.Seq.{drop-cons, drop-drop, getD-set-same, take-set-le, take-suc-set, drop-set-lt, set-getD}
+use lib.ListN.{length, getD, take, drop, set, length-set, take-append-drop, drop-of-length-le}
+use lib.Seq.{drop-cons, drop-drop, take-suc-set, drop-set-lt, set-getD}
 use Rattle.spec.specs.declared.Triple.{Triple}
 use Rattle.spec.specs.Terms.{triple}
 use Rattle.spec.specs.inside.Comparison.{Less, Above, Ascending}
@@ -15,7 +15,7 @@ use Rattle.spec.proofs.TableRows.{length-firstRows, getD-firstRows, length-rows
 use Rattle.spec.specs.Saturation.{Kept, lowerAll, keptRows}
 use Rattle.table_change.specs.inside.Words.{Entered}
 use Rattle.update_kept.specs.inside.Entries.{entries, Room, Holding}
-use Rattle.update_kept.proofs.Entries.{noEntry, length-entries, getD-entries, keptRows-entries, keptOf-entries, take-entries, length-putRow, count-putRow, drop-putRow-here, entries-put, room-put, room-rows, room-supports, kept-room}
+use Rattle.update_kept.proofs.Entries.{noEntry, length-entries, getD-entries, keptRows-entries, keptOf-entries, take-entries, length-putRow, count-putRow, entries-put, room-put, room-rows, room-supports, kept-room}
 use Rattle.update_kept.proofs.Less.{AllLess, ascending-drop}
 use Rattle.update_lower.specs.inside.Lowering.{Lowerable, Passed, Gapped, Cleared}
 use Rattle.update_lower.proofs.Lower.{lowerAll-past, lowerAll-before, lowerAll-nil, lowerAll-missing, lowerAll-stays, lowerAll-goes}
@@ -81,44 +81,6 @@ gap-move {m} {n} {i} {k} {ws₀} {us₀} {ws} {us} {ws'} {us'} G h e N =
       read-le = omega arith;
       is = rw (put-front (G .room) N' l, put-back (G .room) N' l i w, append-assoc (take k E) ((rowAt ws i, getD us i 0) ∷ []) (drop (i + 1) E), ← next-entry (G .room) i h) (G .is);
     }
-
--- ---- the places behind are cleared
-
--- At each turn the places from z on are zero.
-pub record Clearing (k z : ℕ) (ws₀ us₀ ws us : List ℕ) : Type 0 where
-  pub room : Room z ws us
-  pub same-words : length ws ≡ length ws₀
-  pub same-places : length us ≡ length us₀
-  pub k-le : k ≤ z
-  pub same-entries : entries k ws us ≡ entries k ws₀ us₀
-
--- One place is cleared.
-pub clear-step : (k z : ℕ) {ws₀ us₀ ws us ws' us' : List ℕ} → Clearing k z ws₀ us₀ ws us → k < z → Entered (z - 1) (triple 0 0 0) 0 ws us ws' us' → Clearing k (z - 1) ws₀ us₀ ws' us'
-clear-step k zero C h N = absurd (omega arith)
-clear-step k (suc z) {ws₀} {us₀} {ws} {us} {ws'} {us'} C h N =
-    let q : suc z - 1 ≡ z = omega arith in
-    let N' : Entered z (triple 0 0 0) 0 ws us ws' us' = rw q at N in
-    let a = C .room .words in
-    let b = C .room .places in
-    let l : z < suc z = omega arith in
-    let r : length ws - (z * 3 + 1) ≡ suc (suc (suc (length ws - (suc z * 3 + 1)))) = omega arith in
-    let s : length us - z ≡ suc (length us - suc z) = omega arith in
-    let w : drop (z * 3 + 1) ws' ≡ replicate (length ws - (z * 3 + 1)) 0 =
-    rw (N' .row, drop-putRow-here z (triple 0 0 0) ws (omega arith), C .room .zero-words, r) refl in
-    let p : drop z us' ≡ replicate (length us - z) 0 =
-    rw (N' .support, s) (drop-cons (set us z 0) z 0 (rw length-set (omega arith)) ∙ (λ t. getD-set-same us z 0 0 (omega arith) t ∷ (drop-set-lt (suc z) us z 0 (omega arith) ∙ C .room .zero-places) t)) in
-    let same : entries k ws' us' ≡ entries k ws us =
-    sym (take-entries k (suc z) ws' us' (omega arith) (put-room (C .room) N' l .places))
-    ∙ ap (take k) (put-entries (C .room) N' l) ∙ take-set-le k (entries (suc z) ws us) z (triple 0 0 0, 0) (omega arith) ∙ take-entries k (suc z) ws us (omega arith) (C .room .places) in
-    let lw : length ws' ≡ length ws = put-words (C .room) N' l in
-    let lp : length us' ≡ length us = put-places (C .room) N' l in
-    rw q (record {
-      room = record { words = rw lw (omega arith); places = rw lp (omega arith); zero-words = rw lw w; zero-places = rw lp p };
-      same-words = lw ∙ C .same-words;
-      same-places = lp ∙ C .same-places;
-      k-le = omega arith;
-      same-entries = same ∙ C .same-entries;
-    })
 
 -- ---- parts of ascending rows
 
@@ -363,12 +325,6 @@ gap-closed {m} {n} {k} {ws₀} {us₀} {ws} {us} {ws'} {us'} G C =
       row-words = rw (← (G .same-words), ← (C .same-words), ← is) (room-rows (C .room));
       support-places = rw (← (G .same-places), ← (C .same-places), ← is) (room-supports (C .room));
     }
-
--- Every place is cleared.
-pub clear-end : {k z : ℕ} {ws₀ us₀ ws us : List ℕ} → Clearing k z ws₀ us₀ ws us → z ≤ k → Cleared k ws₀ us₀ ws us
-clear-end {k} {z} {ws₀} {us₀} {ws} {us} C h =
-    let e : z ≡ k = let l = C .k-le in omega arith in
-    record { room = subst (λ (n : ℕ). Room n ws us) e (C .room); same-words = C .same-words; same-places = C .same-places; same-entries = C .same-entries }
 
 -- Every row is moved.
 pub gap-end : {m : Kept} {n i k : ℕ} {ws₀ us₀ ws us : List ℕ} → Gapped m n i k ws₀ us₀ ws us → n ≤ i → Gapped m n n k ws₀ us₀ ws us

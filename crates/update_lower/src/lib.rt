@@ -1,5 +1,6 @@
 // Supports of kept facts lowered in place, a row at 0 going (document 01, "Tables").
-use spec::Triple;
+use rows::zero_supports;
+use rows::zero_words;
 use table::row_from;
 use table_change::put_entry;
 use table_find::Ordering;
@@ -97,16 +98,8 @@ fn clear_rows(kept: &mut [u32], supports: &mut [u16], k: usize, n: usize)
     requires { ⌜ k ≤ n ⌝ }
     ensures { λ _. ⌜ Cleared k (now (kept .entry)) (now (supports .entry)) (now (kept .exit)) (now (supports .exit)) ⌝ }
 {
-    let none = Triple {
-        subject: 0,
-        property: 0,
-        object: 0,
-    };
-    let mut z = n;
-    while k < z {
-        z -= 1;
-        put_entry(kept, supports, z, none, 0);
-    }
+    zero_words(kept, k * 3 + 1, n * 3 + 1);
+    zero_supports(supports, k, n);
 }
 
 // Lowers the support of each of c ascending rows that is kept by 1; a row at 0 goes. One pass that starts where the first of them

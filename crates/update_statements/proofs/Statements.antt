@@ -13,11 +13,13 @@ use Rattle.spec.specs.declared.Triple.{Triple}
 use Rattle.spec.specs.Terms.{isTriple, isStatement, areSidesAllowed, isAllowedStatement}
 use Rattle.spec.specs.Order.{isAscending, insert, remove}
 use Rattle.spec.proofs.Ascending.{and-left, and-right}
-use Rattle.spec.specs.Saturation.{keptRows, keptSupports, saturation}
+use Rattle.spec.specs.Saturation.{keptRows, keptSupports}
 use Rattle.table_find.specs.declared.Found.the-variants.{At, Gap}
-use Rattle.spec.specs.Tables.{capacity, mostStatements, mostKept, count, rows, firstRows, layout, supportLayout, isStatementTable, tables, capacitiesOf, contentsOf, put}
+use Rattle.spec.specs.Tables.{capacity, mostStatements, mostKept, count, rows, firstRows, layout, isStatementTable, tables, capacitiesOf, contentsOf, put}
 use Rattle.table_find.specs.inside.Search.{place}
 use Rattle.table_change.specs.inside.Words.{insertAt, removeAt}
+use Rattle.spec.specs.computed.Saturated.{saturation}
+use Rattle.spec.specs.Lists.{padded}
 use Rattle.spec.specs.inside.Laid.{Laid, Spare, WellFormed, FormedStore}
 use Rattle.spec.proofs.TableRows.{length-rows, rows-of, length-layout}
 use Rattle.table_find.proofs.Place.{at-member, gap-absent, missing-at, stands-at}
@@ -27,9 +29,10 @@ use Rattle.table.proofs.Store.{formed-isStore}
 use Rattle.spec.specs.declared.Answer.the-variants.{Applied, Idle, Refused}
 use Rattle.spec.specs.declared.Change.{Change}
 use Rattle.spec.specs.declared.Change.the-variants.{Addition, Withdrawal}
-use Rattle.spec.specs.Updates.{isMember, changed, applying, isChange, isAdmitted, contentsAfter, isKeptFitting, update, add, withdraw, outcome}
+use Rattle.spec.specs.Updates.{isMember, changed, applying, isChange, isAdmitted, contentsAfter, isKeptFitting, update, add, withdraw}
 use Rattle.saturate_write.specs.inside.Written.{Result, result, written}
 use Rattle.saturate.specs.inside.Saturated.{saturated}
+use Rattle.spec.specs.inside.Pairs.{outcome}
 use Rattle.spec.proofs.Outcomes.{Passes, update-idle, update-full, update-unfit, update-applied, member-yes, member-no}
 
 -- What `saturate` asks of the room, and the capacity of the kept facts gives.
@@ -50,7 +53,7 @@ module _ (S F : List ℕ) (room : ℕ) (K U : List ℕ) {r : Bool} {K' U' : List
   unfolding saturated written
   afresh-kept y = ap (λ (z : Result). z .kept) Z ∙ rw (sym afresh-fits ∙ y) refl
 
-  afresh-supports : r ≡ true → U' ≡ supportLayout (length U) (keptSupports (saturation (rows S) (rows F)))
+  afresh-supports : r ≡ true → U' ≡ padded (length U) (keptSupports (saturation (rows S) (rows F)))
   unfolding saturated written
   afresh-supports y = ap (λ (z : Result). z .supports) Z ∙ rw (sym afresh-fits ∙ y) refl
 

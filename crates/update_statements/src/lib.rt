@@ -11,7 +11,8 @@ ghost use Rattle.table_find.specs.declared.Found.the-variants.{At, Gap};
 ghost use Rattle.spec.specs.Tables.{rows, tables};
 ghost use Rattle.table_find.specs.inside.Search.{place};
 ghost use Rattle.spec.specs.inside.Laid.{FormedStore};
-ghost use Rattle.spec.specs.Updates.{outcome, update, add, withdraw};
+ghost use Rattle.spec.specs.Updates.{update, add, withdraw};
+ghost use Rattle.spec.specs.inside.Pairs.{outcome};
 
 // Adds a statement that is not there, at the gap where it would stand. Where the kept facts worked out afresh do not fit, it is
 // taken out again.

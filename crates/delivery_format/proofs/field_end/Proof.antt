@@ -1,6 +1,6 @@
 -- By arithmetic on the length.
 use native.Mathlib.Omega.{arith}
-use Rattle.spec.specs.Deliveries.{fieldEnd}
+use Rattle.spec.specs.computed.Decoded.{fieldEnd}
 use borrow.Author.Needs.{needs}
 use Rattle.delivery_format.proofs.field_end.Statement.{statement}
 use Rattle.delivery_format.proofs.field_end.Tie as tie

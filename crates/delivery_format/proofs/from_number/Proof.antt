@@ -2,7 +2,8 @@
 use borrow.Author.Needs.{needs}
 use native.Mathlib.Omega.{arith}
 use mathlib.Core.Path.{_≡_, refl, sym, _∙_}
-use Rattle.spec.specs.Deliveries.{fieldsFrom, fieldsEnd, numberFields}
+use Rattle.spec.specs.Deliveries.{numberFields}
+use Rattle.spec.specs.computed.Decoded.{fieldsFrom, fieldsEnd}
 use Rattle.delivery_format.proofs.Walk.{fields-end-more, fields-end-from, number-more}
 use Rattle.delivery_format.proofs.from_number.Statement.{statement}
 use Rattle.delivery_format.proofs.from_number.Tie as tie

@@ -1,6 +1,6 @@
 -- By arithmetic on the count.
 use native.Mathlib.Omega.{arith}
-use Rattle.spec.specs.Deliveries.{sectionEnd}
+use Rattle.spec.specs.computed.Decoded.{sectionEnd}
 use borrow.Author.Needs.{needs}
 use Rattle.delivery_format.proofs.section_end.Statement.{statement}
 use Rattle.delivery_format.proofs.section_end.Tie as tie

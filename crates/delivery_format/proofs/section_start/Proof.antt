@@ -2,7 +2,7 @@
 use borrow.Author.Needs.{needs}
 use mathlib.Core.Path.{_≡_, refl}
 use Prim.Native.Nat.{_-_, _*_, _≤_}
-use Rattle.spec.specs.Deliveries.{sectionStart}
+use Rattle.spec.specs.computed.Decoded.{sectionStart}
 use Rattle.delivery_format.proofs.Walk.{start-more, start-end}
 use Rattle.delivery_format.proofs.section_start.Statement.{statement}
 use Rattle.delivery_format.proofs.section_start.Tie as tie

@@ -1,6 +1,6 @@
 -- By arithmetic on the two bytes.
 use native.Mathlib.Omega.{arith}
-use Rattle.spec.specs.Deliveries.{short}
+use Rattle.spec.specs.computed.Decoded.{short}
 use borrow.Author.Needs.{needs}
 use Rattle.delivery_format.proofs.short_at.Statement.{statement}
 use Rattle.delivery_format.proofs.short_at.Tie as tie

@@ -1,6 +1,6 @@
 -- By arithmetic on the two halves.
 use native.Mathlib.Omega.{arith}
-use Rattle.spec.specs.Deliveries.{word}
+use Rattle.spec.specs.computed.Decoded.{word}
 use borrow.Author.Needs.{needs}
 use Rattle.delivery_format.proofs.word_at.Statement.{statement}
 use Rattle.delivery_format.proofs.word_at.Tie as tie

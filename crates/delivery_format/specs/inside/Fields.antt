@@ -6,7 +6,8 @@ use mathlib.Core.List.{List}
 use Rattle.spec.specs.declared.Triple.{Triple}
 use Rattle.spec.specs.Terms.{isStatement}
 use Rattle.delivery_format.specs.declared.Fields.{Fields}
-use Rattle.spec.specs.Deliveries.{short, sectionStart, isFact, fieldsFrom, fieldsEnd, numberTag, numberFields}
+use Rattle.spec.specs.Deliveries.{isFact, numberFields}
+use Rattle.spec.specs.computed.Decoded.{short, sectionStart, fieldsFrom, fieldsEnd}
 
 -- Whether an entry is right for a section of statements, or of facts.
 unfoldable pub isRightIn : Bool → Triple → Bool
@@ -28,4 +29,4 @@ pub record ExtraFields (bs : List ℕ) (r : Fields) : Type 0 where
 pub record FromNumber (bs : List ℕ) (at n : ℕ) (r : Fields) : Type 0 where
   pub same : numberFields (fieldsFrom bs at n) ≡ numberFields (fieldsFrom bs (r .at) (r .count))
   pub end : fieldsEnd bs (r .at) (r .count) ≡ fieldsEnd bs at n
-  pub tag : 0 < r .count → short bs (r .at) ≡ numberTag
+  pub tag : 0 < r .count → short bs (r .at) ≡ 1

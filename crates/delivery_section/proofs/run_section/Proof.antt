@@ -7,7 +7,8 @@ use Rattle.store.proofs.Fitting.{SameLengths}
 use Rattle.delivery_format.proofs.Whole.{whole-length}
 use Rattle.spec.specs.Updates.{update}
 use Rattle.delivery_section.proofs.Formed.{stays-formed}
-use Rattle.spec.specs.Deliveries.{progress, runEntries}
+use Rattle.spec.specs.Deliveries.{runEntries}
+use Rattle.spec.specs.inside.Pairs.{progress}
 use Rattle.delivery_section.specs.inside.Running.{keepsFormed, section}
 use Rattle.delivery_section.proofs.Runs.{Left, left-first, left-tested, left-next, left-none}
 use Rattle.delivery_section.proofs.run_section.Statement.{statement}

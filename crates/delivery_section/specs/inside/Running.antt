@@ -7,7 +7,7 @@ use Rattle.spec.specs.declared.Triple.{Triple}
 use Rattle.spec.specs.Terms.{isStatement}
 use Rattle.spec.specs.declared.Change.{Change}
 use Rattle.spec.specs.declared.Change.the-variants.{Addition, Withdrawal}
-use Rattle.spec.specs.Deliveries.{sectionAt, sectionStart, isWhole}
+use Rattle.spec.specs.computed.Decoded.{sectionAt, sectionStart, isWhole}
 use Rattle.spec.specs.declared.Tally.{Tally}
 use Rattle.delivery_tally.specs.inside.Totals.{total}
 

@@ -2,9 +2,10 @@
 use mathlib.Core.List.{flatMap}
 use Rattle.spec.specs.Terms.{isUri, isBlank, isLiteral, isVariable, isVocabulary, isTriple, isStatement, areSidesAllowed}
 use Rattle.spec.specs.Refusals.{firstRefusal}
-use Rattle.spec.specs.Order.{isSame, insert, remove, ascend}
-use Rattle.spec.specs.Saturation.{raise, oneLess, lower, raiseAll, lowerAll, saturation}
-use Rattle.spec.specs.computed.Carried.{leaves, steps, spread, reach, objects, properties, subjectClasses, objectClasses, conclusions, carried, carriers, support}
+use Rattle.spec.specs.Order.{isSame, insert, remove}
+use Rattle.spec.specs.computed.Carried.{ascend, leaves, steps, spread, reach, objects, properties, subjectClasses, objectClasses, conclusions, carried, carriers, support}
+use Rattle.spec.specs.Saturation.{raise, oneLess, lower, raiseAll, lowerAll}
+use Rattle.spec.specs.computed.Saturated.{saturation}
 use Rattle.spec.specs.inside.Counts.{lookup}
 use Rattle.spec.specs.Rows.{less, insertOnce, ordered}
 use Rattle.spec.specs.computed.Solutions.{boundTo, isBound, bind, matchWord, matchTriple, solutions, answers}

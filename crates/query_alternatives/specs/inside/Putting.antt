@@ -13,7 +13,7 @@ use Rattle.rows_distinct.specs.declared.Collected.{Collected}
 use Rattle.rows_distinct.specs.inside.Collected.{Collects}
 use Rattle.rows_distinct.specs.inside.Effects.{Within}
 use Rattle.spec.specs.Alternatives.{alternativeRows}
-use Rattle.spec.specs.Atoms.{admitsClass, admitsProperty}
+use Rattle.spec.specs.Questions.{admitsClass, admits}
 use Rattle.spec.specs.Lists.{select}
 use Rattle.spec.specs.computed.Reformulated.{alternativesFrom}
 
@@ -39,7 +39,7 @@ alternativeBy x t = cond (eqb (t .property) type) (triple (t .subject) x (t .obj
 
 -- Whether an atom admits the target of an alternative: a property for kind 4, else a class.
 unfoldable pub admitsTarget : Triple → Triple → Bool
-admitsTarget a u = cond (eqb (u .subject) 4) (admitsProperty a (u .object)) (admitsClass a (u .object))
+admitsTarget a u = cond (eqb (u .subject) 4) (admits (a .property) (u .object)) (admitsClass a (u .object))
 
 -- Whether source and target are such as the kind asks for: they differ, save for kinds 2 and 3.
 unfoldable pub areEnds : Triple → Bool

@@ -3,7 +3,7 @@ use native.Mathlib.Omega.{arith}
 use Rattle.spec.specs.Tables.{rows, mostStatements, mostFacts}
 use Rattle.spec.specs.Terms.{isAllowedStatement, isAllowedFact}
 use Rattle.spec.proofs.TableFormed.{isTable-wellFormed}
-use Rattle.spec.specs.Saturation.{saturation}
+use Rattle.spec.specs.computed.Saturated.{saturation}
 use Rattle.spec.proofs.Saturation.{saturation-counts}
 use Rattle.saturate_schema.proofs.Made.{columns-are}
 use Rattle.saturate.specs.inside.Saturated.{saturated}

@@ -4,7 +4,8 @@ use mathlib.Core.List.{List}
 use Prim.Native.Nat.{ℕ}
 use lib.ListN.{length}
 use Rattle.spec.specs.Tables.{rows}
-use Rattle.spec.specs.Saturation.{saturation}
+use Rattle.spec.specs.Lists.{padded}
+use Rattle.spec.specs.computed.Saturated.{saturation}
 use Rattle.saturate_schema.specs.inside.Nodes.{edges}
 use Rattle.saturate_schema.specs.inside.Squares.{Bits, Closed, Cleared}
 use Rattle.saturate_write.specs.inside.Written.{Result, written}

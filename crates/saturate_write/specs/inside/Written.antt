@@ -4,7 +4,8 @@ use mathlib.Core.List.{List, _++_}
 use Prim.Native.Nat.{ℕ, _-_}
 use lib.ListN.{length, take, replicate}
 use lib.Dec.{leb}
-use Rattle.spec.specs.Tables.{layout, supportLayout}
+use Rattle.spec.specs.Tables.{layout}
+use Rattle.spec.specs.Lists.{padded}
 use Rattle.spec.specs.Saturation.{Kept, keptRows, keptSupports}
 use Rattle.spec.specs.inside.Counts.{Counts}
 use Rattle.saturate_counts.specs.inside.Supported.{Supported}
@@ -22,7 +23,7 @@ result b ws us = record { fits = b; kept = ws; supports = us }
 -- The kept facts K in tables with these words: all of them if they fit room, else the words as they were.
 unfoldable pub written : Kept → ℕ → List ℕ → List ℕ → Result
 written K room ws us =
-    result (leb (length K) room) (cond (leb (length K) room) (layout (length ws) (keptRows K)) ws) (cond (leb (length K) room) (supportLayout (length us) (keptSupports K)) us)
+    result (leb (length K) room) (cond (leb (length K) room) (layout (length ws) (keptRows K)) ws) (cond (leb (length K) room) (padded (length us) (keptSupports K)) us)
 
 -- A list of kept facts that has the supports.
 pub record Exists (st : List ℕ) (m : ℕ) (d r keys : List ℕ) (nc ns : ℕ) (f : List ℕ) (n : ℕ) : Type 0 where

@@ -9,7 +9,7 @@ use lib.Dec.{eqb}
 use Rattle.spec.specs.declared.Triple.{Triple}
 use Rattle.spec.specs.Terms.{type, subClassOf, subPropertyOf, domain, range, isLiteral, triple}
 use Rattle.spec.specs.Lists.{any, select}
-use Rattle.spec.specs.Order.{isIn, ascend}
+use Rattle.spec.specs.Order.{isIn, insert}
 
 -- Whether t is a statement of property k whose subject is one of xs.
 unfoldable pub leaves : ℕ → List ℕ → Triple → Bool
@@ -50,6 +50,11 @@ conclusions S f =
     map (λ q. triple (f .subject) q (f .object)) (properties S f)
     ++ (map (λ c. triple (f .subject) type c) (subjectClasses S f)
     ++ map (λ c. triple (f .object) type c) (objectClasses S f))
+
+-- The ascending list of some triples, each once.
+unfoldable pub ascend : List Triple → List Triple
+ascend [] = []
+ascend (t ∷ ts) = insert t (ascend ts)
 
 -- What the fact f carries: ascending, each once.
 unfoldable pub carried : List Triple → Triple → List Triple

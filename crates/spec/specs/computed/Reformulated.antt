@@ -7,9 +7,8 @@ use lib.Dec.{eqb}
 use Rattle.spec.specs.declared.Triple.{Triple}
 use Rattle.spec.specs.Terms.{subClassOf, subPropertyOf, domain, range, triple}
 use Rattle.spec.specs.Lists.{select}
-use Rattle.spec.specs.Order.{ascend}
-use Rattle.spec.specs.Atoms.{admitsClass, admitsProperty}
-use Rattle.spec.specs.computed.Carried.{reach, spread, objects}
+use Rattle.spec.specs.Questions.{admits, admitsClass}
+use Rattle.spec.specs.computed.Carried.{reach, spread, objects, ascend}
 
 -- The targets that lie over one of some classes, paired with a kind and a source, as an atom admits them.
 unfoldable pub toClasses : Triple → ℕ → ℕ → List ℕ → List Triple
@@ -17,7 +16,7 @@ toClasses a kind source cs = map (triple kind source) (select (admitsClass a) cs
 
 -- The same for properties.
 unfoldable pub toProperties : Triple → ℕ → ℕ → List ℕ → List Triple
-toProperties a kind source qs = map (triple kind source) (select (admitsProperty a) qs)
+toProperties a kind source qs = map (triple kind source) (select (admits (a .property)) qs)
 
 -- All but x.
 unfoldable pub without : ℕ → List ℕ → List ℕ

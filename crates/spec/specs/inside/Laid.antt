@@ -7,8 +7,8 @@ use lib.ListN.{length, take}
 use Rattle.spec.specs.declared.Triple.{Triple}
 use Rattle.spec.specs.Terms.{isAllowedStatement, isAllowedFact}
 use Rattle.spec.specs.inside.Comparison.{Ascending}
-use Rattle.spec.specs.Tables.{mostStatements, mostFacts, mostKept, capacity, count, rows, layout, isSupport, supportLayout}
-use Rattle.spec.specs.Lists.{all}
+use Rattle.spec.specs.Tables.{mostStatements, mostFacts, mostKept, capacity, count, rows, layout, isSupport}
+use Rattle.spec.specs.Lists.{all, padded}
 
 -- Words that are the layout of their rows. The count and the room follow from the first.
 pub record Laid (ws : List ℕ) : Type 0 where
@@ -33,7 +33,7 @@ pub record WellFormed (allowed : Triple → Bool) (most : ℕ) (ws : List ℕ) :
 pub record Supports (facts n : ℕ) (us : List ℕ) : Type 0 where
   pub within : n ≤ length us
   pub each-support : all (isSupport facts) (take n us) ≡ true
-  pub is-layout : us ≡ supportLayout (length us) (take n us)
+  pub is-layout : us ≡ padded (length us) (take n us)
 
 -- What the four tables of a well-formed store are.
 pub record FormedStore (S F K U : List ℕ) : Type 0 where

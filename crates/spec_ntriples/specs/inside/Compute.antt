@@ -3,7 +3,7 @@ use mathlib.Core.List.{flatMap}
 use Rattle.spec.specs.Refusals.{firstRefusal}
 use Rattle.spec.specs.Terms.{isStatement, isVocabulary}
 use Rattle.spec.specs.Lists.{select}
-use Rattle.delivery_format.specs.Encoding as encoding
+use Rattle.spec.specs.Messages as encoding
 use Rattle.spec_ntriples.specs.Utf8.{isScalar, encodeChar, encode, withChar, firstByte, furtherByte, nextByte, noByte, decodeFrom, decode}
 use Rattle.spec_ntriples.specs.Characters.{codes, isOneOf, isIriChar, isStringChar, isPnCharsBase, isPnCharsU, isPnChars, hexValue, echar}
 use Rattle.spec_ntriples.specs.Terminals.{push, digit, hexStep, iriStep, stringStep, afterStep, scan, dotted, label, headIs, lowerChar, tag, skip}

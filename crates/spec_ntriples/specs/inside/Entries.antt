@@ -3,7 +3,7 @@ use Prim.Native.Nat.{ℕ, _^_, _<_}
 use mathlib.Core.Path.{_≡_}
 use mathlib.Core.List.{List}
 use lib.ListN.{length}
-use Rattle.delivery_format.specs.Encoding.{Each}
+use Rattle.spec.specs.inside.Each.{Each}
 use Rattle.spec_ntriples.specs.Dictionary.{Entry, entriesBytes, dictionaryBytes}
 
 -- An entry that can be written: a term of 32 bits that is not 0, and a length of 64.

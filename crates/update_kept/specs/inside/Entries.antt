@@ -4,7 +4,8 @@ use mathlib.Core.Path.{_≡_}
 use mathlib.Core.List.{List, zip}
 use lib.ListN.{length, drop, replicate}
 use Rattle.spec.specs.inside.Comparison.{Ascending}
-use Rattle.spec.specs.Tables.{firstRows, rows, layout, supportLayout}
+use Rattle.spec.specs.Tables.{firstRows, rows, layout}
+use Rattle.spec.specs.Lists.{padded}
 use Rattle.spec.specs.inside.Laid.{Laid}
 use Rattle.spec.specs.Saturation.{Kept, keptRows, keptSupports}
 
@@ -36,4 +37,4 @@ pub record Sought (ws rs : List ℕ) (c : ℕ) : Type 0 where
 -- Tables of the same lengths as ws and us that hold the kept facts k.
 pub record Holding (k : Kept) (ws us ws' us' : List ℕ) : Type 0 where
   pub row-words : ws' ≡ layout (length ws) (keptRows k)
-  pub support-places : us' ≡ supportLayout (length us) (keptSupports k)
+  pub support-places : us' ≡ padded (length us) (keptSupports k)

@@ -2,7 +2,7 @@
 use borrow.Author.Needs.{needs}
 use mathlib.Core.Path.{_≡_, refl, sym, _∙_}
 use Prim.Native.Nat.{_+_, _*_, _≤_}
-use Rattle.spec.specs.Deliveries.{fieldsEnd}
+use Rattle.spec.specs.computed.Decoded.{fieldsEnd}
 use Rattle.delivery_format.proofs.Walk.{fields-end-more, fields-end-none}
 use Rattle.delivery_format.proofs.extra.fields_end.Statement.{statement}
 use Rattle.delivery_format.proofs.extra.fields_end.Tie as tie

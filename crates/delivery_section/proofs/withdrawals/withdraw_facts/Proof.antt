@@ -11,7 +11,8 @@ use Rattle.store.proofs.Fitting.{SameLengths}
 use Rattle.spec.specs.declared.Change.the-variants.{Withdrawal}
 use Rattle.spec.specs.Updates.{update}
 use Rattle.spec.proofs.Outcomes.{update-malformed}
-use Rattle.spec.specs.Deliveries.{isFact, progress, runEntries}
+use Rattle.spec.specs.Deliveries.{isFact, runEntries}
+use Rattle.spec.specs.inside.Pairs.{progress}
 use Rattle.delivery_format.proofs.Whole.{whole-length}
 use Rattle.delivery_section.specs.inside.Running.{highest, section}
 use Rattle.delivery_section.proofs.Formed.{formed-bound}
