@@ -1,4 +1,5 @@
-//! Our library by itself where one thing has half of the facts, and where one object is that of half of the facts.
+//! Our library by itself where one thing has half of the facts, where one object is that of half of the facts, and where all facts
+//! share classes, objects and properties two by two.
 
 use crate::alone::{asked, by_size, Asked};
 use crate::contest::Outcome;
@@ -45,11 +46,33 @@ fn one_object(n: usize) -> Asked {
     store(n, |i| [THING + i, PROPERTY, HUB], questions)
 }
 
-/// Both, on stores of several sizes.
+/// A property of facts whose objects two things share, and one of facts whose objects are properties of two facts.
+const SHARING: u32 = 40;
+const NAMING: u32 = 41;
+
+/// The first of the classes, objects and properties that are shared.
+const SHARED: u32 = 5_000_000;
+
+/// Questions that join facts by a class, by an object of any property, and by a property, each of two facts.
+fn in_pairs(n: usize) -> Asked {
+    let [x, y, z, u, v] = [0, 1, 2, 3, 4].map(variable);
+    let questions = vec![
+        ("x and z are of class y", question(&[[x, 1, y], [z, 1, y]], &[x, z])),
+        ("x and z are related to y", question(&[[x, u, y], [z, v, y]], &[x, z])),
+        ("x names y, and z is related to u by y", question(&[[x, NAMING, y], [z, y, u]], &[x, z, u])),
+    ];
+    let m = n as u32 / 4;
+    let of = |k: u32, i: u32| SHARED + k * m + i / 2;
+    let made = |i: u32| [[THING + i, 1, of(0, i)], [THING + i, SHARING, of(1, i)], [THING + i, NAMING, of(2, i)], [THING + i, of(2, i), THING + i]];
+    asked(&STATEMENTS, &(0..m).flat_map(made).collect::<Vec<Triple>>(), questions)
+}
+
+/// All three, on stores of several sizes.
 pub fn hubs(scale: &Scale) -> Outcome<String> {
     let mut out = String::new();
     let of_object = "One object is that of half of the facts";
-    for (title, of) in [("One thing has half of the facts", one_thing as fn(usize) -> Asked), (of_object, one_object)] {
+    let in_twos = "Two facts share each class, each object and each property";
+    for (title, of) in [("One thing has half of the facts", one_thing as fn(usize) -> Asked), (of_object, one_object), (in_twos, in_pairs)] {
         out += &format!("{title}.\n\n{}", by_size(scale, scale.sizes.iter().map(|&n| of(n)).collect())?);
     }
     Ok(out)

@@ -21,10 +21,12 @@ const CLASS: u32 = 16;
 const A: u32 = 20;
 const B: u32 = 21;
 const C: u32 = 22;
+const D: u32 = 23;
 const W: u32 = 1_000_000;
 const X: u32 = 2_000_000;
 const Y: u32 = 3_000_000;
 const Z: u32 = 4_000_000;
+const P: u32 = 5_000_000;
 
 const VW: u32 = VARIABLE;
 const VX: u32 = VARIABLE + 1;
@@ -36,7 +38,7 @@ const VU: u32 = VARIABLE + 4;
 type Case = fn(&mut Session, u32) -> Result<(), Failure>;
 
 /// All cases, by name.
-pub const CASES: [(&str, fn(&mut Harness) -> Result<(), Failure>); 16] = [
+pub const CASES: [(&str, fn(&mut Harness) -> Result<(), Failure>); 21] = [
     ("windows of objects, the kept way", |h| run(h, kept_objects)),
     ("windows of objects, the rewritten way", |h| run(h, objects)),
     ("windows of one object", |h| run(h, one_object)),
@@ -51,6 +53,11 @@ pub const CASES: [(&str, fn(&mut Harness) -> Result<(), Failure>); 16] = [
     ("windows of any property", |h| run(h, by_any_property)),
     ("windows of any property, which is known", |h| run(h, by_known_property)),
     ("windows of few matches", |h| run(h, few_matches)),
+    ("windows of a property that is known", |h| run(h, by_property)),
+    ("windows of a property above others", |h| run(h, by_property_above)),
+    ("windows of a class that two share", |h| run(h, shared_class)),
+    ("windows of an object that two share", |h| run(h, shared_object)),
+    ("joins by what facts give", joins_of_given),
     ("a thing with many facts", many_facts),
     ("an object of many facts", popular_object),
 ];
@@ -375,6 +382,108 @@ fn few_matches(session: &mut Session, n: u32) -> Result<(), Failure> {
                 ask(session, way, &[[W, B, VZ], [VX, VU, VZ]], [VX], rows)?;
             }
         }
+    }
+    Ok(())
+}
+
+/// Facts are looked up by their property alone, which is known; two facts have each.
+fn by_property(session: &mut Session, n: u32) -> Result<(), Failure> {
+    for (way, things, of_a) in sizes(n) {
+        let step = things / 2 / of_a;
+        let mut facts: Vec<Triple> = (0..things).map(|i| [W + i, P + (things - 1 - i) / 2, Z + i]).collect();
+        facts.extend((0..of_a).map(|j| [X + j, A, P + j * step]));
+        lend(session, &[], way, facts)?;
+        let of = |j: u32| [0, 1].map(|k| things - 1 - 2 * j * step - k).map(|i| [X + j, W + i, Z + i]);
+        let rows: Vec<[u32; 3]> = (0..of_a).flat_map(of).collect();
+        ask(session, way, &[[VX, A, VY], [VW, VY, VZ]], [VX, VW, VZ], rows)?;
+        // Beside a named object.
+        let i = things - 1;
+        ask(session, way, &[[VX, A, VY], [VW, VY, Z + i]], [VX, VW], vec![[X, W + i]])?;
+    }
+    Ok(())
+}
+
+/// The same by properties above those of the facts, so that each fact has two keys.
+fn by_property_above(session: &mut Session, n: u32) -> Result<(), Failure> {
+    let (each, of_a) = (n / 200 + 1, 60);
+    let below = |i: u32| P + i / each;
+    let n = 100 * each;
+    let statements: Vec<Triple> = (0..100).map(|k| [P + k, SUBPROPERTY, P + 100 + k]).collect();
+    let mut facts: Vec<Triple> = (0..n).map(|i| [W + i, below(i), Z + i]).collect();
+    facts.extend((0..of_a).map(|j| [X + j, A, P + 100 + j % 7]));
+    facts.extend([[X + of_a, A, P], [X + of_a + 1, A, TYPE]]);
+    let way = Way::Rewritten;
+    lend(session, &statements, way, facts)?;
+    let of = |k: u32| (k * each..(k + 1) * each).map(|i| [W + i, Z + i]);
+    let rows = (0..7).flat_map(of).collect();
+    ask(session, way, &[[VX, A, VY], [VW, VY, VZ]], [VW, VZ], rows)
+}
+
+/// Two things share each class, and a class by a domain has all of them, more than fit.
+fn shared_class(session: &mut Session, n: u32) -> Result<(), Failure> {
+    let few = n / 8;
+    let n = n - few - 9;
+    let mut facts: Vec<Triple> = (0..n).map(|i| [X + i, A, Z + i / 2]).collect();
+    facts.extend((0..few).map(|j| [Y + j, B, Z + j * 2]));
+    facts.push([Y + few, B, CLASS]);
+    let way = Way::Rewritten;
+    lend(session, &[[A, DOMAIN, CLASS]], way, facts)?;
+    let of = |j: u32| [0, 1].map(|k| [Y + j, A, X + 4 * j + k]);
+    let mut rows: Vec<[u32; 3]> = (0..few).flat_map(of).collect();
+    rows.extend((0..few).map(|j| [Y + j, B, Y + j]));
+    rows.extend((0..n).map(|i| [Y + few, TYPE, X + i]));
+    rows.extend([[Y + few, B, Y + few], [Y + few, DOMAIN, A]]);
+    ask(session, way, &[[VY, B, VZ], [VX, VU, VZ]], [VY, VU, VX], rows)?;
+    let rows = (0..n).map(|i| [X + i]).collect();
+    ask(session, way, &[[VY, B, VZ], [VX, TYPE, VZ]], [VX], rows)
+}
+
+/// Two things share each object, by rdf:type and by any property, and nothing else is known.
+fn shared_object(session: &mut Session, n: u32) -> Result<(), Failure> {
+    for (way, n) in [(Way::Kept, n + n / 2), (Way::Rewritten, n - 9)] {
+        for property in [TYPE, A] {
+            let facts = (0..n).map(|i| [X + i, property, Z + (n - 1 - i) / 2]).collect();
+            lend(session, &[], way, facts)?;
+            let alike = |i: u32| (0..2).map(move |k| n - 1 - ((n - 1 - i) / 2 * 2 + k) % n).filter(move |&k| (n - 1 - k) / 2 == (n - 1 - i) / 2);
+            let rows: Vec<[u32; 2]> = (0..n).flat_map(|i| alike(i).map(move |k| [X + i, X + k])).collect();
+            ask(session, way, &[[VX, property, VZ], [VY, property, VZ]], [VX, VY], rows.clone())?;
+            ask(session, way, &[[VX, VU, VZ], [VY, VW, VZ]], [VX, VY], rows)?;
+        }
+    }
+    Ok(())
+}
+
+/// What facts give by properties above their own and by domains, ranges and classes above, looked up by
+/// its object, by its class and by its property, with each and with none named beside it.
+fn joins_of_given(harness: &mut Harness) -> Result<(), Failure> {
+    let statements = [
+        [A, SUBPROPERTY, B],
+        [B, SUBPROPERTY, C],
+        [B, DOMAIN, CLASS],
+        [A, RANGE, CLASS + 1],
+        [CLASS, SUBCLASS, CLASS + 2],
+        [CLASS + 1, SUBCLASS, CLASS + 2],
+    ];
+    let mut facts: Vec<Triple> = (0..40).map(|i| [X + i, A + i % 3, Z + i % 7]).collect();
+    facts.extend((0..30).map(|i| [Y + i, TYPE, CLASS + i % 5]));
+    facts.extend((0..20).map(|i| [W + i, D, [A, B, C, TYPE, Z, CLASS, CLASS + 2, X][i as usize % 8]]));
+    facts.extend([[X, TYPE, Z], [Z, A, Z], [Z, TYPE, A]]);
+    for way in [Way::Kept, Way::Rewritten] {
+        let session = &mut Session::new(harness);
+        lend(session, &statements, way, facts.clone())?;
+        for other in [VU, TYPE, A, C] {
+            judged(session, way, &[[VX, D, VZ], [VY, other, VZ]], &[VX, VY])?;
+            judged(session, way, &[[VX, TYPE, VZ], [VY, other, VZ]], &[VZ, VY])?;
+            judged(session, way, &[[VX, VW, VZ], [VY, other, VZ]], &[VZ, VY])?;
+            judged(session, way, &[[VX, VW, VZ], [VY, VW, VZ], [VX, other, VU]], &[VZ, VW])?;
+        }
+        for object in [VY, Z, CLASS, CLASS + 2, A] {
+            judged(session, way, &[[VX, D, VU], [VZ, VU, object]], &[VU, VZ])?;
+            judged(session, way, &[[VX, D, VU], [VZ, VU, object], [VZ, TYPE, VW]], &[VU, VW])?;
+        }
+        judged(session, way, &[[VX, D, VU], [VZ, VU, VX]], &[VU, VZ])?;
+        judged(session, way, &[[VX, D, VU], [VZ, VU, VU]], &[VU, VZ])?;
+        judged(session, way, &[[VX, D, VU], [VU, VU, VZ]], &[VU, VZ])?;
     }
     Ok(())
 }
