@@ -4,7 +4,6 @@ use mathlib.Core.Path.{_≡_, refl, sym, ap, _∙_}
 use mathlib.Core.Bool.{Bool, true, false, _&&_}
 use mathlib.Core.Logic.{⊎-elim}
 use mathlib.Core.List.{List, [], _∷_}
-use native.Mathlib.Numerals.{add-one}
 use native.Mathlib.Omega.{arith}
 use lib.ListN.{length, getD, take, drop, set, drop-of-length-le, length-drop}
 use lib.Seq.{getD-set-same, getD-set-other}
@@ -13,7 +12,7 @@ use borrow.Author.Tests.{ltb-true, ltb-false, lt-ltb}
 use Rattle.spec.proofs.Lists.{le-or}
 use Rattle.spec_ntriples.specs.Utf8.{Decoded, broken, decoded, decode}
 use Rattle.spec_ntriples.specs.Lines.{TextTriple, Line, wrong, empty, full, readLine, Document, refused, triples, withTriple, withLine, document}
-use Rattle.ntriples_bytes.specs.inside.Places.{HasText, Utf8From}
+use Rattle.ntriples_bytes.specs.inside.Places.{Utf8From}
 use Rattle.ntriples_bytes.proofs.Decoding.{at-start}
 use Rattle.ntriples_lines.specs.declared.Tokens.{Tokens}
 use Rattle.ntriples_lines.specs.declared.Line as code-line
@@ -23,7 +22,6 @@ use Rattle.ntriples_lines.proofs.Lines.{line-same}
 use Rattle.ntriples_document.specs.inside.Bytes.{lineLength, lineOf, IsNext}
 use Rattle.ntriples_document.proofs.Parts.{document-none}
 use Rattle.ntriples_document.proofs.Counting.{CharsOf, line-decoded, first-line, end-within}
-use Rattle.ntriples_batch.specs.declared.Batch.{Batch}
 use Rattle.ntriples_batch.specs.inside.Batches.{hasTriple, LineAt, IsLineOfTriple, noTriple, Gathered, HaveTexts}
 
 -- ---- lines

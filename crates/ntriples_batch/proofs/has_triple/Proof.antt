@@ -1,5 +1,3 @@
-use native.Mathlib.Omega.{arith}
-use mathlib.Core.Path.{_≡_, refl, sym, _∙_, ap}
 use Rattle.ntriples_batch.proofs.Gathering.{wrong-none, empty-none, full-some}
 use borrow.Author.Needs.{needs}
 use Rattle.ntriples_batch.proofs.has_triple.Statement.{statement}

@@ -1,5 +1,3 @@
-use native.Mathlib.Omega.{arith}
-use mathlib.Core.Path.{_≡_, refl, sym, _∙_, ap}
 use Rattle.ntriples_batch.proofs.Gathering.{line-utf8, line-inside, not-wrong, not-empty, have-texts}
 use borrow.Author.Needs.{needs}
 use Rattle.ntriples_batch.proofs.tokens_at.Statement.{statement}
