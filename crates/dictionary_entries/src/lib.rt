@@ -1,0 +1,1 @@
+// Entries written behind the last of a dictionary, and taken away again.
