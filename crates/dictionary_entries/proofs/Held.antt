@@ -1,12 +1,12 @@
 -- Laws of bytes that hold entries: where they stand, from any of them on. Assumes nothing.
 use Prim.Native.Nat.{ℕ, zero, _+_, _-_, _≤_, _<_}
 use mathlib.Core.Path.{_≡_, refl, sym, ap, _∙_}
-use mathlib.Core.List.{List, [], _∷_, _++_, append-assoc}
+use mathlib.Core.List.{List, [], _++_, append-assoc}
 use native.Mathlib.Omega.{arith}
 use lib.ListN.{length, getD, take, drop, replicate, length-append, length-replicate}
-use lib.Seq.{drop-at, take-length}
+use lib.Seq.{take-at, drop-at, take-length}
 use Rattle.delivery_format.specs.Encoding.{Each}
-use Rattle.spec_ntriples.specs.Dictionary.{Entry, entry, entriesBytes, dictionaryBytes, frontTerm}
+use Rattle.spec_ntriples.specs.Dictionary.{Entry, entriesBytes, dictionaryBytes, frontTerm}
 use Rattle.spec_ntriples.specs.inside.Entries.{Writable, Holds}
 use Rattle.spec_ntriples.proofs.Numbers.{each-back}
 use Rattle.dictionary_bytes.specs.inside.Entries.{textAt, placeAt, entriesAt}
@@ -27,6 +27,9 @@ module _ (bs : List ℕ) (end : ℕ) (ds fs : List Entry) (H : Holds bs end (ds 
   pub held-split : bs ≡ entriesBytes ds ++ (entriesBytes fs ++ zeros)
   unfolding dictionaryBytes
   held-split = H .same ∙ ap (λ (l : List ℕ). l ++ zeros) (entries-append ds fs) ∙ append-assoc (entriesBytes ds) (entriesBytes fs) zeros
+
+  pub held-front : take first bs ≡ entriesBytes ds
+  held-front = ap (λ (l : List ℕ). take first l) held-split ∙ take-at (entriesBytes ds) (entriesBytes fs ++ zeros) first (sym p)
 
   held-drop : drop first bs ≡ entriesBytes fs ++ zeros
   held-drop = ap (λ (l : List ℕ). drop first l) held-split ∙ drop-at (entriesBytes ds) (entriesBytes fs ++ zeros) first (sym p)
