@@ -6,7 +6,7 @@ use ntriples_text::is_text;
 use ntriples_text::kind_of;
 use ntriples_text::vocabulary_of;
 ghost use mathlib.Core.Path.{_≡_};
-ghost use mathlib.Core.Bool.{true};
+ghost use mathlib.Core.Bool.{true, _&&_};
 ghost use lib.Dec.{eqb};
 ghost use Rattle.spec_ntriples.specs.Dictionary.{isCanonical, vocabularyOf, kindOf};
 
@@ -29,11 +29,21 @@ pub fn is_canonical(text: &[u8]) -> bool
 }
 
 // Whether a canonical text is none of the vocabulary.
-pub fn is_no_vocabulary(text: &[u8]) -> bool
+fn is_no_vocabulary(text: &[u8]) -> bool
     requires { ⌜ isCanonical (now text) ≡ true ⌝ }
     ensures { λ r. ⌜ r ≡ eqb (vocabularyOf (now (text .entry))) 0 ⌝ }
 {
     vocabulary_of(text, 0, text.len()) == 0
+}
+
+// Whether a text is canonical and none of the vocabulary: one that an entry may have.
+pub fn is_own_text(text: &[u8]) -> bool
+    ensures { λ r. ⌜ r ≡ (isCanonical (now (text .entry)) && eqb (vocabularyOf (now (text .entry))) 0) ⌝ }
+{
+    if !is_canonical(text) {
+        return false;
+    }
+    is_no_vocabulary(text)
 }
 
 // The kind of a canonical text: 0 URI, 1 blank, 2 literal.
