@@ -1,5 +1,5 @@
 pub mod EntriesRead
-pub mod Counting
+pub mod Terms
 pub mod Texts
 pub mod Steps
 pub mod Asking

@@ -2,9 +2,9 @@
 use Prim.Native.Nat.{ℕ, zero, suc, _+_, _-_, _*_, _^_, _≤_, _<_}
 use mathlib.Core.Path.{_≡_, refl, sym, ap, _∙_}
 use mathlib.Core.Bool.{Bool, true, false, _&&_}
-use mathlib.Core.List.{List, [], _∷_, _++_, append-nil, append-assoc}
+use mathlib.Core.List.{List, [], _∷_, _++_, append-nil}
 use native.Mathlib.Omega.{arith}
-use lib.ListN.{length, getD, take, drop, replicate, length-take, take-append-drop, length-drop}
+use lib.ListN.{length, take, drop, replicate, length-take, take-append-drop, length-drop}
 use lib.Seq.{drop-at, append-snoc}
 use lib.Dec.{eqb}
 use borrow.Author.Tests.{eqb-true}
@@ -13,7 +13,6 @@ use Rattle.spec.specs.Tables.{areZero}
 use Rattle.spec.proofs.Lists.{by-test, true-not-false}
 use Rattle.spec.proofs.Ascending.{and-left, and-right}
 use Rattle.spec.proofs.TableAll.{replicate-of, areZero-replicate}
-use Rattle.delivery_format.specs.Encoding.{Each}
 use Rattle.spec_ntriples.specs.Texts.{isSame}
 use Rattle.spec_ntriples.specs.Dictionary.{Entry, entriesBytes, dictionaryBytes, bytesNumber, frontTerm, entries, kindOf, nextNumber, nextTerm, areNumbersEnough, areNumbered, areTexts, isCanonical, vocabularyOf, isDictionary}
 use Rattle.spec_ntriples.specs.inside.Entries.{Holds}
@@ -24,13 +23,14 @@ use Rattle.dictionary_bytes.specs.inside.Entries.{lengthAt, textAt, placeAt, en
 use Rattle.dictionary_bytes.specs.declared.Filled.{Filled}
 use Rattle.dictionary_bytes.proofs.Same.{equal-same}
 use Rattle.dictionary_bytes.proofs.Entry.{place-before}
+use Rattle.dictionary_numbers.specs.inside.Numbers.{numberOf, raised}
+use Rattle.dictionary_numbers.proofs.Numbering.{raised-end, too-many, counts-none, counts-number, counts-more, counts-filled}
 use Rattle.dictionary_index.specs.inside.Index.{AreEntries}
 use Rattle.dictionary_distinct.specs.inside.Distinct.{Repeat, Distinct}
 use Rattle.dictionary_distinct.proofs.Apartness.{place-less}
-use Rattle.dictionary_check.specs.declared.Checked.the-variants.{Wrong, Right}
-use Rattle.dictionary_check.specs.inside.Filling.{numberOf, withEntry, Counts, AreBytes, entryAt, HasOwnText, Filling, Comes, IsStep, Walked, IsChecked}
-use Rattle.dictionary_check.proofs.EntriesRead.{no-term, no-room, entry-comes, entries-next, bytes-more}
-use Rattle.dictionary_check.proofs.Counting.{number-next, number-most, counts-more, too-many, counts-none, numbered-more, other-term}
+use Rattle.dictionary_check.specs.inside.Filling.{AreBytes, entryAt, HasOwnText, Filling, Comes, Walked}
+use Rattle.dictionary_check.proofs.EntriesRead.{no-room, entry-comes, entries-next, bytes-more}
+use Rattle.dictionary_check.proofs.Terms.{numbered-more, other-term}
 use Rattle.dictionary_check.proofs.Texts.{other-text, texts-right, texts-repeat}
 
 -- ---- what makes bytes no dictionary
@@ -72,12 +72,6 @@ zero-number (suc n) (w ∷ ws) h = omega (arith, eqb-true w 0 (and-left (eqb w 0
 
 -- ---- one entry more
 
-pub end-with : (k end : ℕ) (f : Filled) → withEntry k end f .end ≡ end
-unfolding withEntry
-end-with zero end f = refl
-end-with (suc zero) end f = refl
-end-with (suc (suc k)) end f = refl
-
 place-next : (bs : List ℕ) (at k : ℕ) → at ≡ placeAt bs 0 k → at + 12 + lengthAt bs at ≡ placeAt bs 0 (suc k)
 unfolding placeAt
 place-next bs at k e = ap (λ (i : ℕ). i + 12 + lengthAt bs i) e
@@ -92,6 +86,9 @@ filling-none bs = record { count = 0; place = refl; within = omega arith; read =
 module _ (bs : List ℕ) (f : Filled) (F : Filling bs f) where
   abbrev es : List Entry
   es = entriesAt bs 0 (F .count)
+
+  next-is : (k : ℕ) → k ≤ 2 → numberOf f k ≡ nextNumber k es
+  next-is = counts-number f es (F .counts)
 
   -- They end where their bytes do.
   ends : f .end ≡ length (entriesBytes es)
@@ -133,33 +130,33 @@ module _ (bs : List ℕ) (f : Filled) (F : Filling bs f) where
       wrong-text h = not-texts bs (ap areTexts reads ∙ other-text es (entryAt bs at) rest h)
 
       -- Its kind has no number left.
-      pub no-number : numberOf (kindOf (textAt bs at)) f ≡ 2 ^ 30 → isDictionary bs ≡ false
-      no-number h = not-enough bs (ap areNumbersEnough reads ∙ too-many f es (F .counts) (entryAt bs at) rest h)
+      pub no-number : numberOf f (kindOf (textAt bs at)) ≡ 2 ^ 30 → isDictionary bs ≡ false
+      no-number h = not-enough bs (ap areNumbersEnough reads ∙ too-many es rest (entryAt bs at) (sym (next-is (kindOf (textAt bs at)) (kind-least (textAt bs at))) ∙ h))
 
       -- Its term is not the next.
-      pub wrong-term : (frontTerm (drop at bs) ≡ kindOf (textAt bs at) * 2 ^ 30 + numberOf (kindOf (textAt bs at)) f → ⊥) → isDictionary bs ≡ false
+      pub wrong-term : (frontTerm (drop at bs) ≡ kindOf (textAt bs at) * 2 ^ 30 + numberOf f (kindOf (textAt bs at)) → ⊥) → isDictionary bs ≡ false
       wrong-term h =
           not-numbered bs
           (ap (areNumbered []) reads
-          ∙ other-term es (entryAt bs at) rest (F .numbered) (λ q. h (q ∙ ap (λ (n : ℕ). kindOf (textAt bs at) * 2 ^ 30 + n) (sym (number-next f es (F .counts) (kindOf (textAt bs at)) (kind-least (textAt bs at)))))))
+          ∙ other-term es (entryAt bs at) rest (F .numbered) (λ q. h (q ∙ ap (λ (n : ℕ). kindOf (textAt bs at) * 2 ^ 30 + n) (sym (next-is (kindOf (textAt bs at)) (kind-least (textAt bs at)))))))
 
       -- It is right.
-      pub right-entry : AreBytes bs → (isCanonical (textAt bs at) && eqb (vocabularyOf (textAt bs at)) 0) ≡ true → numberOf (kindOf (textAt bs at)) f < 2 ^ 30
-          → frontTerm (drop at bs) ≡ kindOf (textAt bs at) * 2 ^ 30 + numberOf (kindOf (textAt bs at)) f → Filling bs (withEntry (kindOf (textAt bs at)) (at + 12 + lengthAt bs at) f)
+      pub right-entry : AreBytes bs → (isCanonical (textAt bs at) && eqb (vocabularyOf (textAt bs at)) 0) ≡ true → numberOf f (kindOf (textAt bs at)) < 2 ^ 30
+          → frontTerm (drop at bs) ≡ kindOf (textAt bs at) * 2 ^ 30 + numberOf f (kindOf (textAt bs at)) → Filling bs (raised f (kindOf (textAt bs at)) (at + 12 + lengthAt bs at))
       right-entry b h k t =
           let e : Entry = entryAt bs at in
           let kind : ℕ = kindOf (textAt bs at) in
           let end : ℕ = at + 12 + lengthAt bs at in
           let next : entriesAt bs 0 (suc (F .count)) ≡ es ++ (e ∷ []) = entries-next bs 0 (F .count) ∙ ap (λ (i : ℕ). es ++ (entryAt bs i ∷ [])) (sym (F .place)) in
-          let term : e .term ≡ nextTerm kind es = t ∙ ap (λ (n : ℕ). kind * 2 ^ 30 + n) (number-next f es (F .counts) kind (kind-least (textAt bs at))) in
+          let term : e .term ≡ nextTerm kind es = t ∙ ap (λ (n : ℕ). kind * 2 ^ 30 + n) (next-is kind (kind-least (textAt bs at))) in
           record {
             count = suc (F .count);
-            place = end-with kind end f ∙ place-next bs at (F .count) (F .place);
-            within = rw (end-with kind end f) l;
-            read = rw (end-with kind end f, next) (reads ∙ sym (append-snoc es e rest));
-            written = rw (end-with kind end f, next) (bytes-more bs at es b l (F .written));
+            place = raised-end f kind end ∙ place-next bs at (F .count) (F .place);
+            within = rw (raised-end f kind end) l;
+            read = rw (raised-end f kind end, next) (reads ∙ sym (append-snoc es e rest));
+            written = rw (raised-end f kind end, next) (bytes-more bs at es b l (F .written));
             numbered = rw next (numbered-more es e (F .numbered) term);
-            counts = rw next (counts-more f es (F .counts) e end k);
+            counts = rw next (counts-more f es (F .counts) e end kind refl (kind-least (textAt bs at)) k);
             texts = rw next (each-append HasOwnText es (e ∷ []) (F .texts) (record { canonical = and-left _ _ h; own = and-right (isCanonical (textAt bs at)) _ h }, tt));
           }
 
@@ -201,14 +198,10 @@ module _ (bs : List ℕ) (f : Filled) (W : Walked bs f) where
     pub is-filled : f .end < 2 ^ 64 → FilledBy bs f (entries bs)
     is-filled h =
         let es : List Entry = entriesAt bs 0 (F .count) in
+        let H : Holds bs (f .end) (entries bs) =
         record {
-          holds = record {
-            same = sym written;
-            ends = ends bs f F ∙ ap (λ (l : List Entry). length (entriesBytes l)) (sym all-read);
-            writable = rw all-read (writable es es (numbered-entries es (F .numbered) (numbers-enough es (F .counts .enough))) (omega (arith, ends bs f F, h)));
-          };
-          uris = F .counts .uris ∙ ap (nextNumber 0) (sym all-read);
-          blanks = F .counts .blanks ∙ ap (nextNumber 1) (sym all-read);
-          literals = F .counts .literals ∙ ap (nextNumber 2) (sym all-read);
-          enough = ap areNumbersEnough all-read ∙ F .counts .enough;
-        }
+          same = sym written;
+          ends = ends bs f F ∙ ap (λ (l : List Entry). length (entriesBytes l)) (sym all-read);
+          writable = rw all-read (writable es es (numbered-entries es (F .numbered) (numbers-enough es (F .counts .enough))) (omega (arith, ends bs f F, h)));
+        } in
+        counts-filled bs f (entries bs) H (rw all-read (F .counts))

@@ -4,13 +4,16 @@ use dictionary_bytes::HEADER;
 use dictionary_bytes::length_at;
 use dictionary_bytes::term_at;
 use dictionary_distinct::are_distinct;
+use dictionary_numbers::NUMBERS;
+use dictionary_numbers::filled_on;
+use dictionary_numbers::number_of;
 use dictionary_texts::is_own_text;
 use dictionary_texts::text_kind;
 ghost use mathlib.Core.Path.{_≡_};
-ghost use Prim.Native.Nat.{_≤_, _<_, _^_};
+ghost use Prim.Native.Nat.{_≤_};
 ghost use lib.ListN.{length, drop};
 ghost use Rattle.spec.specs.Tables.{areZero};
-ghost use Rattle.dictionary_check.specs.inside.Filling.{numberOf, withEntry, Filling, Comes, IsEntry, IsStep, Walked, IsWalk, IsChecked};
+ghost use Rattle.dictionary_check.specs.inside.Filling.{Filling, Comes, IsEntry, IsStep, Walked, IsWalk, IsChecked};
 
 // What question 1 says of bytes: they are no dictionary, or they are, filled so far.
 pub enum Checked {
@@ -22,51 +25,6 @@ pub enum Checked {
 const FIRST_URI: u32 = 16;
 
 const FIRST_OTHER: u32 = 1;
-
-// How many numbers a kind has, 0 included.
-const NUMBERS: u32 = 1073741824;
-
-// The next number of a kind.
-fn next_number(f: Filled, kind: u32) -> u32
-    ensures { λ r. ⌜ r ≡ numberOf kind f ⌝ }
-{
-    if kind == 0 {
-        return f.uris;
-    }
-    if kind == 1 {
-        return f.blanks;
-    }
-    f.literals
-}
-
-// How far a dictionary is filled with one entry more, of a kind that has a number left.
-fn with_entry(f: Filled, kind: u32, end: usize) -> Filled
-    requires { ⌜ numberOf kind f < 2 ^ 30 ⌝ }
-    ensures { λ r. ⌜ r ≡ withEntry kind end f ⌝ }
-{
-    if kind == 0 {
-        return Filled {
-            end,
-            uris: f.uris + 1,
-            blanks: f.blanks,
-            literals: f.literals,
-        };
-    }
-    if kind == 1 {
-        return Filled {
-            end,
-            uris: f.uris,
-            blanks: f.blanks + 1,
-            literals: f.literals,
-        };
-    }
-    Filled {
-        end,
-        uris: f.uris,
-        blanks: f.blanks,
-        literals: f.literals + 1,
-    }
-}
 
 // Whether an entry comes at an index: room for its header, and a term that is not 0.
 fn is_entry(dictionary: &[u8], at: usize) -> bool
@@ -97,14 +55,14 @@ fn next_entry(dictionary: &[u8], f: Filled) -> Checked
         return Checked::Wrong;
     }
     let kind = text_kind(&dictionary[from..end]);
-    let number = next_number(f, kind);
+    let number = number_of(f, kind);
     if number == NUMBERS {
         return Checked::Wrong;
     }
     if term_at(dictionary, at) != kind * NUMBERS + number {
         return Checked::Wrong;
     }
-    Checked::Right(with_entry(f, kind, end))
+    Checked::Right(filled_on(f, kind, end))
 }
 
 // Asks the entries one by one.

@@ -1,17 +1,16 @@
 -- Laws of entries whose texts differ. Assumes nothing.
-use Prim.Native.Nat.{ℕ, zero, suc, _+_, _-_, _*_, _≤_, _<_}
+use Prim.Native.Nat.{ℕ, zero, suc, _+_, _-_, _≤_, _<_}
 use mathlib.Core.Path.{_≡_, refl, sym, ap, _∙_}
-use mathlib.Core.Bool.{Bool, true, false}
+use mathlib.Core.Bool.{true, false}
 use mathlib.Core.List.{List}
 use native.Mathlib.Nat.{add-zero, add-suc}
 use native.Mathlib.Decide.{decLt}
 use native.Mathlib.Omega.{arith}
-use lib.ListN.{length, getD, replicate}
+use lib.ListN.{getD, replicate}
 use Rattle.dictionary_bytes.specs.inside.Entries.{lengthAt, textAt, placeAt}
 use Rattle.dictionary_bytes.specs.inside.Hashes.{homeOf}
 use Rattle.dictionary_bytes.proofs.Entry.{places-ascend, place-before}
-use Rattle.dictionary_index.specs.inside.Index.{Searched, Index, HasEntry, NoEntry, AreEntries, Repeats, IsSegment}
-use Rattle.dictionary_index.specs.declared.Search.{Search}
+use Rattle.dictionary_index.specs.inside.Index.{Searched, Index, NoEntry, AreEntries, IsSegment}
 use Rattle.dictionary_index.specs.declared.Search.the-variants.{Found, Free, Past}
 use Rattle.dictionary_index.specs.declared.Segment.{Segment}
 use Rattle.dictionary_index.proofs.Indexing.{found-entry, free-new, past-new, first-before, entry-within, next-place}
@@ -66,16 +65,16 @@ module _ (slots bs : List ℕ) (first k at : ℕ) (X : Index slots bs first k) w
 -- ---- the entries behind a segment
 
 -- The entries from an index up to another are passed, and none of them has the text of an entry of the segment.
-pub record Passing (slots bs : List ℕ) (first from last at : ℕ) : Type 0 where
+pub record Passing (slots bs : List ℕ) (first from at : ℕ) : Type 0 where
   pub count : ℕ
   pub place : at ≡ placeAt bs from count
   pub none : (k : ℕ) → Index slots bs first k → (i : ℕ) → i < count → NoEntry bs first k (textAt bs (placeAt bs from i))
 
-pub passing-none : (slots bs : List ℕ) (first from last : ℕ) → Passing slots bs first from last from
+pub passing-none : (slots bs : List ℕ) (first from : ℕ) → Passing slots bs first from from
 unfolding placeAt
-passing-none slots bs first from last = record { count = 0; place = refl; none = λ k X i l. absurd (omega arith) }
+passing-none slots bs first from = record { count = 0; place = refl; none = λ k X i l. absurd (omega arith) }
 
-module _ (slots bs : List ℕ) (first from last at : ℕ) (P : Passing slots bs first from last at) where
+module _ (slots bs : List ℕ) (first from last at : ℕ) (P : Passing slots bs first from at) where
   -- All are.
   pub passing-all : last ≤ at → (k : ℕ) → Index slots bs first k → NoneRepeats bs first k from last
   passing-all h k X i l = P .none k X i (place-less bs from i (P .count) (omega (arith, P .place)))
@@ -85,7 +84,7 @@ module _ (slots bs : List ℕ) (first from last at : ℕ) (P : Passing slots bs 
     passing-within = entry-within bs from last T (P .count) at (P .place) h
 
     -- The next one is.
-    pub passing-more : ((k : ℕ) → Index slots bs first k → IsRepeated bs first k at false) → Passing slots bs first from last (at + 12 + lengthAt bs at)
+    pub passing-more : ((k : ℕ) → Index slots bs first k → IsRepeated bs first k at false) → Passing slots bs first from (at + 12 + lengthAt bs at)
     passing-more f =
         record {
           count = suc (P .count);

@@ -1,17 +1,17 @@
 -- Laws of texts that are read as terms. Assumes nothing.
-use Prim.Native.Nat.{ℕ, _+_, _≤_, _<_}
+use Prim.Native.Nat.{ℕ, _≤_, _<_}
 use mathlib.Core.Path.{_≡_, refl, sym, ap, _∙_}
-use mathlib.Core.Bool.{true, false, _&&_}
-use mathlib.Core.List.{List, [], _∷_}
+use mathlib.Core.Bool.{true, false}
+use mathlib.Core.List.{List, []}
 use native.Mathlib.Omega.{arith}
 use lib.ListN.{length, take, drop, drop-of-length-le}
 use lib.Seq.{take-length}
 use lib.Dec.{eqb}
 use Rattle.spec_ntriples.specs.Utf8.{Decoded, broken, decoded, decode}
 use Rattle.spec_ntriples.specs.Texts.{Text, isSame}
-use Rattle.spec_ntriples.specs.Lines.{nothing, read, readObject}
+use Rattle.spec_ntriples.specs.Lines.{readObject}
 use Rattle.spec_ntriples.specs.Dictionary.{isNone, givesItself, decodesToItself, isCanonical, kindOf, vocabularyOf}
-use Rattle.spec_ntriples.proofs.Canonical.{Canonical, canonical-text, text-kind}
+use Rattle.spec_ntriples.proofs.Canonical.{canonical-text, text-kind}
 use Rattle.ntriples_bytes.specs.inside.Places.{charsAt, HasText}
 use Rattle.ntriples_bytes.specs.inside.Whole.{areChars}
 use Rattle.ntriples_bytes.proofs.Decoding.{at-start, first-at, chars-stand, chars-end}

@@ -40,10 +40,10 @@ fn is_no_vocabulary(text: &[u8]) -> bool
 pub fn is_own_text(text: &[u8]) -> bool
     ensures { λ r. ⌜ r ≡ (isCanonical (now (text .entry)) && eqb (vocabularyOf (now (text .entry))) 0) ⌝ }
 {
-    if !is_canonical(text) {
-        return false;
+    if is_canonical(text) {
+        return is_no_vocabulary(text);
     }
-    is_no_vocabulary(text)
+    false
 }
 
 // The kind of a canonical text: 0 URI, 1 blank, 2 literal.

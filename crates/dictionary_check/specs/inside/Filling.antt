@@ -1,39 +1,17 @@
 -- A dictionary whose entries are asked one by one. Definitions only.
-use Prim.Native.Nat.{ℕ, zero, suc, _+_, _≤_, _<_}
+use Prim.Native.Nat.{ℕ, _+_, _≤_, _<_}
 use mathlib.Core.Path.{_≡_}
 use mathlib.Core.Bool.{Bool, true, false}
 use mathlib.Core.List.{List, [], _++_}
 use lib.ListN.{length, getD, take, drop}
 use lib.Dec.{eqb}
 use Rattle.delivery_format.specs.Encoding.{Each}
-use Rattle.spec_ntriples.specs.Dictionary.{Entry, entry, entriesBytes, frontTerm, entries, vocabularyOf, nextNumber, areNumbersEnough, areNumbered, isCanonical, isDictionary}
+use Rattle.spec_ntriples.specs.Dictionary.{Entry, entry, entriesBytes, frontTerm, entries, vocabularyOf, areNumbered, isCanonical, isDictionary}
 use Rattle.dictionary_bytes.specs.inside.Entries.{textAt, placeAt, entriesAt, FilledBy}
 use Rattle.dictionary_bytes.specs.declared.Filled.{Filled}
+use Rattle.dictionary_numbers.specs.inside.Numbers.{Counts}
 use Rattle.dictionary_check.specs.declared.Checked.{Checked}
 use Rattle.dictionary_check.specs.declared.Checked.the-variants.{Wrong, Right}
-
--- ---- numbers
-
--- The next number of a kind.
-unfoldable pub numberOf : ℕ → Filled → ℕ
-numberOf zero f = f .uris
-numberOf (suc zero) f = f .blanks
-numberOf (suc (suc k)) f = f .literals
-
--- How far a dictionary is filled with one entry more, of a kind, that ends at a byte index.
-unfoldable pub withEntry : ℕ → ℕ → Filled → Filled
-withEntry zero end f = record { end = end; uris = f .uris + 1; blanks = f .blanks; literals = f .literals }
-withEntry (suc zero) end f = record { end = end; uris = f .uris; blanks = f .blanks + 1; literals = f .literals }
-withEntry (suc (suc k)) end f = record { end = end; uris = f .uris; blanks = f .blanks; literals = f .literals + 1 }
-
--- The next numbers are those behind some entries.
-pub record Counts (f : Filled) (es : List Entry) : Type 0 where
-  pub uris : f .uris ≡ nextNumber 0 es
-  pub blanks : f .blanks ≡ nextNumber 1 es
-  pub literals : f .literals ≡ nextNumber 2 es
-  pub enough : areNumbersEnough es ≡ true
-
--- ---- entries
 
 -- All are bytes.
 abbrev pub AreBytes : List ℕ → Type 0

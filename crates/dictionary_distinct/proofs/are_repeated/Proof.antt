@@ -1,14 +1,6 @@
-use Prim.Native.Nat.{ℕ, suc, _+_, _-_, _≤_, _<_}
-use mathlib.Core.Path.{_≡_, refl, sym, _∙_, ap}
-use mathlib.Core.Bool.{true, false}
+use Prim.Native.Nat.{_-_}
 use native.Mathlib.Omega.{arith}
-use lib.ListN.{length, length-replicate}
-use Rattle.dictionary_bytes.specs.inside.Entries.{lengthAt, textAt, placeAt}
-use Rattle.dictionary_index.specs.inside.Index.{Index}
-use Rattle.dictionary_index.specs.declared.Search.the-variants.{Found, Free, Past}
-use Rattle.dictionary_index.proofs.Indexing.{index-within, search-entry}
-use Rattle.dictionary_distinct.specs.inside.Distinct.{IsRepeated}
-use Rattle.dictionary_distinct.proofs.Apartness.{zero-at, found-repeats, free-none, past-none, Passing, passing-none, passing-all, passing-within, passing-more, passing-repeats, behind-segment, segment-repeats, segment-apart, apart-less, Compared, compared-none, compared-repeat, compared-more, compared-all}
+use Rattle.dictionary_distinct.proofs.Apartness.{Passing, passing-none, passing-all, passing-within, passing-more, passing-repeats}
 use Rattle.dictionary_distinct.proofs.are_repeated.Statement.{statement}
 use Rattle.dictionary_distinct.proofs.are_repeated.Tie as tie
 use Rattle.dictionary_distinct.proofs.are_repeated.Reads as reads
@@ -17,14 +9,14 @@ use Rattle.dictionary_bytes.proofs.length_at.Reads as length-at-reads
 use Rattle.dictionary_distinct.proofs.is_repeated.Reads as is-repeated-reads
 
 abbrev Inv-loop : tie.InvT-loop
-Inv-loop slots dictionary first from last at₀ at = Passing slots dictionary first from last at
+Inv-loop slots dictionary first from last at₀ at = Passing slots dictionary first from at
 
 abbrev μ-loop : tie.MeasureT-loop
 μ-loop slots dictionary first from last at₀ at = last - at
 
 -- src/lib.rt:53:5
 loop-holds : tie.Need-loop-holds Inv-loop μ-loop
-loop-holds c = passing-none (c .before .before .args .slots .now) (c .before .before .args .dictionary .now) (c .before .before .args .first) (c .before .before .args .from) (c .before .before .args .last)
+loop-holds c = passing-none (c .before .before .args .slots .now) (c .before .before .args .dictionary .now) (c .before .before .args .first) (c .before .before .args .from)
 
 -- src/lib.rt:54:12
 is-repeated-requires : tie.Need-is-repeated-requires Inv-loop μ-loop

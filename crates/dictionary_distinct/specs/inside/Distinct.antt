@@ -21,7 +21,7 @@ pub record SomeRepeats (bs : List ℕ) (first k from last : ℕ) : Type 0 where
   pub within : placeAt bs from number < last
   pub repeats : Repeats bs first k (placeAt bs from number)
 
--- None of the first so many entries between two byte indexes has.
+-- None of the entries between two byte indexes has.
 abbrev pub NoneRepeats : (bs : List ℕ) (first k from last : ℕ) → Type 0
 NoneRepeats bs first k from last = (i : ℕ) → placeAt bs from i < last → NoEntry bs first k (textAt bs (placeAt bs from i))
 
