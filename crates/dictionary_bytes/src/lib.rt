@@ -18,9 +18,9 @@ pub struct Filled {
     pub literals: u32,
 }
 
-const TERM_BYTES: usize = 4;
+pub const TERM_BYTES: usize = 4;
 
-const LENGTH_BYTES: usize = 8;
+pub const LENGTH_BYTES: usize = 8;
 
 // The multiplier of the hash of a text, which has 32 bits; and the one that spreads hashes over the slots.
 const HASH_STEP: u64 = 16777619;

@@ -77,16 +77,19 @@ all-counted file from count C h =
 pub end-within : (file : List ℕ) (from : ℕ) → from ≤ length file → from + lineLength (drop from file) ≤ length file
 end-within file from h = omega (arith, length-within (drop from file), length-drop from file)
 
-module _ (file : List ℕ) (from count : ℕ) (C : Counts file from count) (h : from < length file) (end : ℕ) (e : end ≡ from + lineLength (drop from file)) where
-  first-line : document (drop from file) ≡ withLine (lineOf (decode (take (end - from) (drop from file)))) (document (drop (suc end) file))
-  first-line =
-      let k : end - from ≡ lineLength (drop from file) = omega arith in
-      let n : from + suc (lineLength (drop from file)) ≡ suc end = omega arith in
-      let d : drop (suc (lineLength (drop from file))) (drop from file) ≡ drop (suc end) file = drop-drop (suc (lineLength (drop from file))) from file ∙ rw n in
-      rw (k, ← d) (document-line (drop from file))
+-- The document from the begin of a line on: that line, and the document behind.
+pub first-line
+    : (file : List ℕ) (from end : ℕ) → end ≡ from + lineLength (drop from file)
+    → document (drop from file) ≡ withLine (lineOf (decode (take (end - from) (drop from file)))) (document (drop (suc end) file))
+first-line file from end e =
+    let k : end - from ≡ lineLength (drop from file) = omega arith in
+    let n : from + suc (lineLength (drop from file)) ≡ suc end = omega arith in
+    let d : drop (suc (lineLength (drop from file))) (drop from file) ≡ drop (suc end) file = drop-drop (suc (lineLength (drop from file))) from file ∙ rw n in
+    rw (k, ← d) (document-line (drop from file))
 
+module _ (file : List ℕ) (from count : ℕ) (C : Counts file from count) (h : from < length file) (end : ℕ) (e : end ≡ from + lineLength (drop from file)) where
   counted : countOf (document file) ≡ added count (countOf (withLine (lineOf (decode (take (end - from) (drop from file)))) (document (drop (suc end) file))))
-  counted = C .same ∙ ap (λ (d : Document). added count (countOf d)) first-line
+  counted = C .same ∙ ap (λ (d : Document). added count (countOf d)) (first-line file from end e)
 
   pub wrong-line : lineOf (decode (take (end - from) (drop from file))) ≡ wrong → Refused ≡ countOf (document file)
   unfolding withLine countOf added

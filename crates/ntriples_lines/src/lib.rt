@@ -1,5 +1,5 @@
 // A line of N-Triples in bytes of UTF-8: whether it is wrong, empty or has a triple, and where the triple's terms stand.
-mod terms; // terms.rt: where terms end
+pub mod terms; // terms.rt: where terms end
 
 use ntriples_bytes::char_at;
 use ntriples_terminals::Found;

@@ -24,7 +24,7 @@ abbrev room : ℕ → ℕ
 room zero = 1
 room (suc k) = 256 * room k
 
-length-number : (k n : ℕ) → length (numberBytes k n) ≡ k
+pub length-number : (k n : ℕ) → length (numberBytes k n) ≡ k
 unfolding numberBytes
 length-number zero n = refl
 length-number (suc k) n = ap suc (length-number k (n / 256))
@@ -83,13 +83,13 @@ module _ (e : Entry) (rest : List ℕ) (w : Writable e) where
   abbrev n : ℕ
   n = length (e .text)
 
-  front-term : frontTerm bytes ≡ e .term
+  pub front-term : frontTerm bytes ≡ e .term
   unfolding entryBytes
   front-term =
       ap bytesNumber (ap (λ (l : List ℕ). take 4 l) (append-assoc (numberBytes 4 (e .term)) (numberBytes 8 n ++ e .text) rest) ∙ take-at (numberBytes 4 (e .term)) ((numberBytes 8 n ++ e .text) ++ rest) 4 (length-number 4 (e .term)))
       ∙ number-written 4 (e .term) (omega (arith, w .word))
 
-  front-length : frontLength bytes ≡ n
+  pub front-length : frontLength bytes ≡ n
   unfolding entryBytes
   front-length =
       ap bytesNumber
@@ -101,10 +101,10 @@ module _ (e : Entry) (rest : List ℕ) (w : Writable e) where
   after-header : drop 12 bytes ≡ e .text ++ rest
   after-header = ap (λ (l : List ℕ). drop 12 l) (entry-split e rest) ∙ drop-at (header e) (e .text ++ rest) 12 (length-header e)
 
-  front-text : take n (drop 12 bytes) ≡ e .text
+  pub front-text : take n (drop 12 bytes) ≡ e .text
   front-text = ap (λ (l : List ℕ). take n l) after-header ∙ take-at (e .text) rest n refl
 
-  front-rest : drop (12 + n) bytes ≡ rest
+  pub front-rest : drop (12 + n) bytes ≡ rest
   front-rest = drop-at (entryBytes e) rest (12 + n) (length-entry e)
 
   front-within : ltb (length bytes) (12 + n) ≡ false

@@ -68,7 +68,7 @@ unfolding termOf
 term-more t es fs h = by-test (eqb (vocabularyOf t) 0) (λ p. rw p (term-in-more t es fs (rw p at h))) (λ p. rw p)
 
 -- A text that has none has that of the entries added.
-term-in-added : (t : List ℕ) (es fs : List Entry) → Each HasTerm es → termIn es t ≡ 0 → termIn (es ++ fs) t ≡ termIn fs t
+pub term-in-added : (t : List ℕ) (es fs : List Entry) → Each HasTerm es → termIn es t ≡ 0 → termIn (es ++ fs) t ≡ termIn fs t
 unfolding termIn
 term-in-added t [] fs h q = refl
 term-in-added t (e ∷ es) fs h q =

@@ -52,7 +52,7 @@ kinds-append k xs ys =
     let test : Entry → Bool = λ (e : Entry). eqb (kindOf (e .text)) k in
     rw (select-append test xs ys) (length-append (select test xs) (select test ys))
 
-kinds-one : (e : Entry) → textsOfKind (kindOf (e .text)) (e ∷ []) ≡ 1
+pub kinds-one : (e : Entry) → textsOfKind (kindOf (e .text)) (e ∷ []) ≡ 1
 unfolding textsOfKind select
 kinds-one e = rw (eq-eqb (kindOf (e .text)) (kindOf (e .text)) refl)
 

@@ -25,13 +25,13 @@ use Rattle.spec_ntriples.specs.Promises.{entriesWith, RefusedBy, Accepte
 
 -- ---- the length of a delivery
 
-entries-length : (ts : List Triple) → length (format.entriesBytes ts) ≡ length ts * 12
+pub entries-length : (ts : List Triple) → length (format.entriesBytes ts) ≡ length ts * 12
 unfolding format.entriesBytes format.entryBytes format.wordBytes format.shortBytes
 entries-length [] = refl
 entries-length (t ∷ ts) = omega (arith, entries-length ts)
 
 -- Each triple is a statement or a fact.
-selected : (ts : List Triple) → length (select isStatement ts) + length (select isFact ts) ≡ length ts
+pub selected : (ts : List Triple) → length (select isStatement ts) + length (select isFact ts) ≡ length ts
 unfolding select
 selected [] = refl
 selected (t ∷ ts) =

@@ -1,0 +1,132 @@
+use mathlib.Core.Path.{sym, _∙_}
+use native.Mathlib.Omega.{arith}
+use borrow.Author.Tests.{not-true, not-false}
+use Rattle.spec.proofs.Ascending.{and-left}
+use Rattle.dictionary_check.proofs.Asking.{asked-text, asked-kind, asked-most, asked-number, asked-term, asked-right}
+use Rattle.dictionary_check.proofs.Steps.{too-long}
+use borrow.Author.Needs.{needs}
+use Rattle.dictionary_check.proofs.next_entry.Statement.{statement}
+use Rattle.dictionary_check.proofs.next_entry.Tie as tie
+use Rattle.dictionary_check.proofs.next_entry.Reads as reads
+use Rattle.dictionary_check.proofs.next_entry.Lts as lts
+use Rattle.dictionary_bytes.proofs.length_at.Reads as length-at-reads
+use Rattle.dictionary_bytes.proofs.term_at.Reads as term-at-reads
+use Rattle.dictionary_numbers.proofs.number_of.Reads as number-of-reads
+use Rattle.dictionary_numbers.proofs.filled_on.Reads as filled-on-reads
+use Rattle.dictionary_texts.proofs.is_own_text.Reads as is-own-text-reads
+use Rattle.dictionary_texts.proofs.text_kind.Reads as text-kind-reads
+
+-- src/lib.rt:90:16
+add-from : tie.Need-add-from
+add-from c = search needs
+
+-- src/lib.rt:91:9
+length-at-requires : tie.Need-length-at-requires
+length-at-requires c κs = search needs
+
+-- src/lib.rt:92:8
+sub-if1 : tie.Need-sub-if1
+sub-if1 c = search needs
+
+-- src/lib.rt:93:9
+returns : tie.Need-returns
+returns c = too-long (c .before .before .before .args .dictionary .now) (c .before .before .before .args .f) (c .before .before .before .pre .0) (c .before .before .before .pre .1) (omega (arith, c .if1 .taken, c .before .length-at .ensures))
+
+-- src/lib.rt:95:15
+add-end : tie.Need-add-end
+add-end c = search needs
+
+-- src/lib.rt:96:21
+sub-is-own-text : tie.Need-sub-is-own-text
+sub-is-own-text c = search needs
+
+-- src/lib.rt:96:21
+part-is-own-text-start : tie.Need-part-is-own-text-start
+part-is-own-text-start c = search needs
+
+-- src/lib.rt:96:21
+part-is-own-text-end : tie.Need-part-is-own-text-end
+part-is-own-text-end c = search needs
+
+-- src/lib.rt:96:9
+is-own-text-requires : tie.Need-is-own-text-requires
+is-own-text-requires c κs = search needs
+
+-- src/lib.rt:97:9
+returns-2 : tie.Need-returns-2
+returns-2 c = asked-text (c .before .before .before .before .before .before .args .dictionary .now) (c .before .before .before .before .before .before .args .f) (c .before .before .before .before .before .before .pre .0) (c .before .before .before .before .before .before .pre .1) (c .before .before .before .before .length-at .result) (c .before .before .before .before .length-at .ensures) (omega (arith, c .before .before .before .before .before .before .pre .1 .header, c .before .before .before .if1 .left)) (sym (c .before .is-own-text .ensures) ∙ not-true _ (c .if2 .taken))
+
+-- src/lib.rt:99:26
+sub-text-kind : tie.Need-sub-text-kind
+sub-text-kind c = search needs
+
+-- src/lib.rt:99:26
+part-text-kind-start : tie.Need-part-text-kind-start
+part-text-kind-start c = search needs
+
+-- src/lib.rt:99:26
+part-text-kind-end : tie.Need-part-text-kind-end
+part-text-kind-end c = search needs
+
+-- src/lib.rt:99:9
+text-kind-requires : tie.Need-text-kind-requires
+text-kind-requires c κs = and-left _ _ (sym (c .before .before .is-own-text .ensures) ∙ not-false _ (c .before .if2 .left))
+
+-- src/lib.rt:100:9
+number-of-requires : tie.Need-number-of-requires
+number-of-requires c κs = search needs
+
+-- src/lib.rt:102:9
+returns-3 : tie.Need-returns-3
+returns-3 c = asked-number (c .before .before .before .before .before .before .before .before .before .before .args .dictionary .now) (c .before .before .before .before .before .before .before .before .before .before .args .f) (c .before .before .before .before .before .before .before .before .before .before .pre .0) (c .before .before .before .before .before .before .before .before .before .before .pre .1) (c .before .before .before .before .before .before .before .before .length-at .result) (c .before .before .before .before .before .before .before .before .length-at .ensures) (omega (arith, c .before .before .before .before .before .before .before .before .before .before .pre .1 .header, c .before .before .before .before .before .before .before .if1 .left)) (c .before .before .text-kind .result) (c .before .number-of .result) (c .before .before .text-kind .ensures) (c .before .number-of .ensures) (c .if3 .taken)
+
+-- src/lib.rt:104:8
+term-at-requires : tie.Need-term-at-requires
+term-at-requires c κs = search needs
+
+-- src/lib.rt:104:35
+mul-if4 : tie.Need-mul-if4
+mul-if4 c = omega (arith, asked-kind (c .before .before .before .before .before .before .before .before .before .before .before .args .dictionary .now) (c .before .before .before .before .before .before .before .before .before .before .before .args .f) (c .before .before .before .before .before .before .before .before .before .before .before .pre .0) (c .before .before .before .before .before .before .before .before .before .before .before .pre .1) (c .before .before .before .before .before .before .before .before .before .length-at .result) (c .before .before .before .before .before .before .before .before .before .length-at .ensures) (omega (arith, c .before .before .before .before .before .before .before .before .before .before .before .pre .1 .header, c .before .before .before .before .before .before .before .before .if1 .left)) (c .before .before .before .text-kind .result) (c .before .before .number-of .result) (c .before .before .before .text-kind .ensures) (c .before .before .number-of .ensures))
+
+-- src/lib.rt:104:35
+add-if4 : tie.Need-add-if4
+add-if4 c = omega (arith, asked-kind (c .before .before .before .before .before .before .before .before .before .before .before .args .dictionary .now) (c .before .before .before .before .before .before .before .before .before .before .before .args .f) (c .before .before .before .before .before .before .before .before .before .before .before .pre .0) (c .before .before .before .before .before .before .before .before .before .before .before .pre .1) (c .before .before .before .before .before .before .before .before .before .length-at .result) (c .before .before .before .before .before .before .before .before .before .length-at .ensures) (omega (arith, c .before .before .before .before .before .before .before .before .before .before .before .pre .1 .header, c .before .before .before .before .before .before .before .before .if1 .left)) (c .before .before .before .text-kind .result) (c .before .before .number-of .result) (c .before .before .before .text-kind .ensures) (c .before .before .number-of .ensures), asked-most (c .before .before .before .before .before .before .before .before .before .before .before .args .dictionary .now) (c .before .before .before .before .before .before .before .before .before .before .before .args .f) (c .before .before .before .before .before .before .before .before .before .before .before .pre .0) (c .before .before .before .before .before .before .before .before .before .before .before .pre .1) (c .before .before .before .before .before .before .before .before .before .length-at .result) (c .before .before .before .before .before .before .before .before .before .length-at .ensures) (omega (arith, c .before .before .before .before .before .before .before .before .before .before .before .pre .1 .header, c .before .before .before .before .before .before .before .before .if1 .left)) (c .before .before .before .text-kind .result) (c .before .before .number-of .result) (c .before .before .before .text-kind .ensures) (c .before .before .number-of .ensures))
+
+-- src/lib.rt:105:9
+returns-4 : tie.Need-returns-4
+returns-4 c = asked-term (c .before .before .before .before .before .before .before .before .before .before .before .before .args .dictionary .now) (c .before .before .before .before .before .before .before .before .before .before .before .before .args .f) (c .before .before .before .before .before .before .before .before .before .before .before .before .pre .0) (c .before .before .before .before .before .before .before .before .before .before .before .before .pre .1) (c .before .before .before .before .before .before .before .before .before .before .length-at .result) (c .before .before .before .before .before .before .before .before .before .before .length-at .ensures) (omega (arith, c .before .before .before .before .before .before .before .before .before .before .before .before .pre .1 .header, c .before .before .before .before .before .before .before .before .before .if1 .left)) (c .before .before .before .before .text-kind .result) (c .before .before .before .number-of .result) (c .before .before .before .before .text-kind .ensures) (c .before .before .before .number-of .ensures) (c .before .term-at .result) (c .before .term-at .ensures) (c .if4 .taken)
+
+-- src/lib.rt:107:20
+filled-on-requires : tie.Need-filled-on-requires
+filled-on-requires c κs = omega (arith, asked-most (c .before .before .before .before .before .before .before .before .before .before .before .before .args .dictionary .now) (c .before .before .before .before .before .before .before .before .before .before .before .before .args .f) (c .before .before .before .before .before .before .before .before .before .before .before .before .pre .0) (c .before .before .before .before .before .before .before .before .before .before .before .before .pre .1) (c .before .before .before .before .before .before .before .before .before .before .length-at .result) (c .before .before .before .before .before .before .before .before .before .before .length-at .ensures) (omega (arith, c .before .before .before .before .before .before .before .before .before .before .before .before .pre .1 .header, c .before .before .before .before .before .before .before .before .before .if1 .left)) (c .before .before .before .before .text-kind .result) (c .before .before .before .number-of .result) (c .before .before .before .before .text-kind .ensures) (c .before .before .before .number-of .ensures), c .before .before .if3 .left, c .before .before .before .number-of .ensures)
+
+-- src/lib.rt:84:1
+returns-5 : tie.Need-returns-5
+returns-5 c = asked-right (c .before .before .before .before .before .before .before .before .before .before .before .before .before .args .dictionary .now) (c .before .before .before .before .before .before .before .before .before .before .before .before .before .args .f) (c .before .before .before .before .before .before .before .before .before .before .before .before .before .pre .0) (c .before .before .before .before .before .before .before .before .before .before .before .before .before .pre .1) (c .before .before .before .before .before .before .before .before .before .before .before .length-at .result) (c .before .before .before .before .before .before .before .before .before .before .before .length-at .ensures) (omega (arith, c .before .before .before .before .before .before .before .before .before .before .before .before .before .pre .1 .header, c .before .before .before .before .before .before .before .before .before .before .if1 .left)) (c .before .before .before .before .before .text-kind .result) (c .before .before .before .before .number-of .result) (c .before .before .before .before .before .text-kind .ensures) (c .before .before .before .before .number-of .ensures) (c .before .before .term-at .result) (c .before .before .term-at .ensures) (λ i. omega (arith, c .before .before .before .before .before .before .before .before .before .before .before .before .shared-slice-known .given i)) (sym (c .before .before .before .before .before .before .before .before .is-own-text .ensures) ∙ not-false _ (c .before .before .before .before .before .before .before .if2 .left)) (c .before .before .before .if3 .left) (c .before .if4 .left) (c .filled-on .result) (c .filled-on .ensures)
+
+pub next-entry-spec : {M : Type 1} → statement M
+next-entry-spec =
+    tie.close
+    (tie.spec
+    add-from
+    length-at-requires
+    sub-if1
+    returns
+    add-end
+    sub-is-own-text
+    part-is-own-text-start
+    part-is-own-text-end
+    is-own-text-requires
+    returns-2
+    sub-text-kind
+    part-text-kind-start
+    part-text-kind-end
+    text-kind-requires
+    number-of-requires
+    returns-3
+    term-at-requires
+    mul-if4
+    add-if4
+    returns-4
+    filled-on-requires
+    returns-5)

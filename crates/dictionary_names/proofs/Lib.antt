@@ -1,0 +1,6 @@
+pub mod Finding
+pub mod Staying
+pub mod Segments
+pub mod Room
+pub mod Naming
+pub mod Reading
