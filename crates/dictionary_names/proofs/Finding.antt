@@ -88,7 +88,11 @@ module _ (slots bs : List ℕ) (first : ℕ) (es : List Entry) (X : IndexOf slot
 pub found-within : (slots bs : List ℕ) (first : ℕ) (text : List ℕ) (home at : ℕ) → LeadWithin slots bs first → FoundAt slots bs first text home at → at + 4 ≤ length bs
 found-within slots bs first text home at L F = omega (arith, L (F .slot) (F .taken), F .leads)
 
--- From the slot of its text's hash on.
-pub search-token : (slots bs : List ℕ) (first : ℕ) (text : List ℕ) (h home : ℕ) (r q : Search) → r ≡ q → h ≡ hash text → home ≡ slotOf h → Searched slots bs first text home r → Searched slots bs first text (homeOf text) q
+-- A search from the slot of a text's hash on.
+pub search-token : (slots bs : List ℕ) (first : ℕ) (text : List ℕ) (h home : ℕ) (r : Search) → h ≡ hash text → home ≡ slotOf h → Searched slots bs first text home r → Searched slots bs first text (homeOf text) r
 unfolding homeOf
-search-token slots bs first text h home r q i e g S = rw (← e, ← g, ← i) S
+search-token slots bs first text h home r e g S = rw (← e, ← g) S
+
+-- What it says by its end.
+pub search-ends : (slots bs : List ℕ) (first : ℕ) (text : List ℕ) (home : ℕ) (r q : Search) → r ≡ q → Searched slots bs first text home r → Searched slots bs first text home q
+search-ends slots bs first text home r q i S = rw (← i) S

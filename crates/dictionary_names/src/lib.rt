@@ -21,7 +21,7 @@ ghost use Rattle.spec_ntriples.specs.Dictionary.{Entry, termIn};
 ghost use Rattle.ntriples_bytes.specs.inside.Places.{HasText};
 ghost use Rattle.ntriples_text.specs.inside.Tokens.{IsToken};
 ghost use Rattle.dictionary_bytes.specs.inside.Hashes.{homeOf};
-ghost use Rattle.dictionary_index.specs.inside.Index.{LeadWithin, FreeAt};
+ghost use Rattle.dictionary_index.specs.inside.Index.{LeadWithin, FreeAt, Searched};
 ghost use Rattle.dictionary_names.specs.inside.IndexOf.{IndexOf};
 ghost use Rattle.dictionary_names.specs.inside.Numbers.{numberOf, raised};
 ghost use Rattle.dictionary_names.specs.inside.Naming.{LastSegment, CanName, CanAdd, NamedIn};
@@ -38,6 +38,23 @@ pub enum Named {
 // A kind has fewer numbers than this.
 const NUMBERS: u32 = 1073741824;
 
+// Searches for a text in a line, from the slot of its hash on, in the index of a segment that begins at first.
+fn search_index(
+    slots: &[u32],
+    dictionary: &[u8],
+    first: usize,
+    line: &[u8],
+    from: usize,
+    to: usize,
+) -> Search
+    requires { ⌜ LeadWithin (now slots) (now dictionary) first ⌝ }
+    requires { ⌜ IsToken (now line) from to ⌝ }
+    ensures { λ r. ⌜ ((t : Text) → HasText (now (line .entry)) from to t → Searched (now (slots .entry)) (now (dictionary .entry)) first (t .bytes) (homeOf (t .bytes)) r) ⌝ }
+{
+    let home = slot_of(text_hash(line, from, to));
+    find_token(slots, dictionary, first, line, from, to, home)
+}
+
 // The term of a text in a line among the entries of a segment; 0 where none has it.
 pub fn find_term(
     slots: &[u32],
@@ -51,8 +68,7 @@ pub fn find_term(
     requires { ⌜ IsToken (now line) from to ⌝ }
     ensures { λ r. ⌜ ((es : List Entry) (t : Text) → IndexOf (now (slots .entry)) (now (dictionary .entry)) first es → HasText (now (line .entry)) from to t → r ≡ termIn es (t .bytes)) ⌝ }
 {
-    let home = slot_of(text_hash(line, from, to));
-    match find_token(slots, dictionary, first, line, from, to, home) {
+    match search_index(slots, dictionary, first, line, from, to) {
         Search::Found(at) => term_at(dictionary, at),
         Search::Free(_) => 0,
         Search::Past => 0,
@@ -156,8 +172,7 @@ pub fn name_text(
     requires { ⌜ CanName (now slots) (now dictionary) first count (now line) from to f ⌝ }
     ensures { λ r. ⌜ ((ds es : List Entry) (t : Text) → LastSegment (now (slots .entry)) (now (dictionary .entry)) first count f ds es → HasText (now (line .entry)) from to t → NamedIn (now (slots .entry)) (now (slots .exit)) (now (dictionary .entry)) (now (dictionary .exit)) first count ds es t r) ⌝ }
 {
-    let home = slot_of(text_hash(line, from, to));
-    match find_token(slots, dictionary, first, line, from, to, home) {
+    match search_index(slots, dictionary, first, line, from, to) {
         Search::Found(at) => Named::Known(term_at(dictionary, at)),
         Search::Past => Named::Full,
         Search::Free(slot) => {
