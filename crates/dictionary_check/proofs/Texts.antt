@@ -7,7 +7,7 @@ use native.Mathlib.Omega.{arith}
 use lib.Dec.{eqb}
 use borrow.Author.Tests.{ne-eqb}
 use Rattle.spec.proofs.Lists.{by-test}
-use Rattle.delivery_format.specs.Encoding.{Each}
+use Rattle.spec.specs.inside.Each.{Each}
 use Rattle.spec_ntriples.specs.Texts.{isSame}
 use Rattle.spec_ntriples.specs.Dictionary.{Entry, vocabularyOf, termIn, isCanonical, areTexts}
 use Rattle.spec_ntriples.proofs.KnownTexts.{HasTerm}

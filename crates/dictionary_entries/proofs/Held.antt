@@ -5,7 +5,7 @@ use mathlib.Core.List.{List, [], _++_, append-assoc}
 use native.Mathlib.Omega.{arith}
 use lib.ListN.{length, getD, take, drop, replicate, length-append, length-replicate}
 use lib.Seq.{take-at, drop-at, take-length}
-use Rattle.delivery_format.specs.Encoding.{Each}
+use Rattle.spec.specs.inside.Each.{Each}
 use Rattle.spec_ntriples.specs.Dictionary.{Entry, entriesBytes, dictionaryBytes, frontTerm}
 use Rattle.spec_ntriples.specs.inside.Entries.{Writable, Holds}
 use Rattle.spec_ntriples.proofs.Numbers.{each-back}

@@ -5,7 +5,7 @@ use mathlib.Core.List.{List, [], _∷_, _++_, append-assoc}
 use native.Mathlib.Omega.{arith}
 use lib.ListN.{length, getD, take, drop, length-append}
 use lib.Seq.{drop-drop}
-use Rattle.delivery_format.specs.Encoding.{Each}
+use Rattle.spec.specs.inside.Each.{Each}
 use Rattle.spec_ntriples.specs.Dictionary.{Entry, entry, entryBytes, entriesBytes, frontTerm, frontLength}
 use Rattle.spec_ntriples.specs.inside.Entries.{Writable}
 use Rattle.spec_ntriples.proofs.EntryBytes.{length-entry, front-term, front-length, front-text, front-rest}

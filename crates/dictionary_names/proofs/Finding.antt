@@ -4,7 +4,7 @@ use mathlib.Core.Path.{_≡_, refl, sym, ap, _∙_}
 use mathlib.Core.List.{List, [], _∷_}
 use native.Mathlib.Omega.{arith}
 use lib.ListN.{length, getD, drop}
-use Rattle.delivery_format.specs.Encoding.{Each}
+use Rattle.spec.specs.inside.Each.{Each}
 use Rattle.spec_ntriples.specs.Dictionary.{Entry, entry, frontTerm, termIn}
 use Rattle.spec_ntriples.specs.inside.Entries.{Writable}
 use Rattle.dictionary_bytes.specs.inside.Entries.{textAt, placeAt}

@@ -9,7 +9,7 @@ use lib.Dec.{leb}
 use lib.ListN.{length}
 use borrow.Author.Tests.{eq-eqb, ne-eqb, lt-leb}
 use Rattle.spec.proofs.Lists.{by-test}
-use Rattle.delivery_format.specs.Encoding.{Each}
+use Rattle.spec.specs.inside.Each.{Each}
 use Rattle.spec_ntriples.specs.Texts.{Text}
 use Rattle.spec_ntriples.specs.Dictionary.{Entry, entry, entriesBytes, vocabularyOf, termIn, termOf, nextNumber, nextTerm, areNumbersEnough, kindOf}
 use Rattle.spec_ntriples.specs.Reading.{withText}

@@ -13,7 +13,7 @@ use Rattle.spec.specs.Lists.{select, padded}
 use Rattle.spec.specs.Tables.{tripleFrom, firstRows}
 use Rattle.spec.proofs.Lists.{select-length}
 use Rattle.spec.proofs.TableRows.{length-firstRows, firstRows-snoc}
-use Rattle.delivery_format.specs.Encoding.{shortBytes, wordBytes, entryBytes, entriesBytes, sectionBytes, fieldsBytes, encode}
+use Rattle.spec.specs.Messages.{shortBytes, wordBytes, entryBytes, entriesBytes, sectionBytes, fieldsBytes, encode}
 use Rattle.delivery_format.specs.inside.Fields.{isRightIn}
 use Rattle.spec_ntriples.specs.Reading.{additions}
 use Rattle.spec_ntriples.proofs.Numbers.{select-append}

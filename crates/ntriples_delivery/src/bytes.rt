@@ -4,7 +4,7 @@ ghost use mathlib.Core.Path.{_≡_};
 ghost use Prim.Native.Nat.{_+_, _≤_};
 ghost use lib.ListN.{length};
 ghost use lib.Seq.{sets};
-ghost use Rattle.delivery_format.specs.Encoding.{shortBytes, wordBytes, entryBytes};
+ghost use Rattle.spec.specs.Messages.{shortBytes, wordBytes, entryBytes};
 
 // Writes a 16-bit number from an index on.
 pub fn write_short(n: u16, out: &mut [u8], at: usize)

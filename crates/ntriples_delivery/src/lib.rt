@@ -4,6 +4,7 @@ mod bytes; // bytes.rt: numbers, words and entries written as bytes
 use bytes::write_entry;
 use bytes::write_short;
 use table::row_from;
+use terms::is_statement;
 ghost use mathlib.Core.Path.{_≡_};
 ghost use mathlib.Core.List.{_++_};
 ghost use Prim.Native.Nat.{_+_, _-_, _*_, _≤_};
@@ -11,7 +12,7 @@ ghost use lib.ListN.{length, replicate};
 ghost use lib.Seq.{sets};
 ghost use Rattle.spec.specs.Tables.{firstRows};
 ghost use Rattle.spec.specs.Lists.{padded};
-ghost use Rattle.delivery_format.specs.Encoding.{entriesBytes, sectionBytes, encode};
+ghost use Rattle.spec.specs.Messages.{entriesBytes, sectionBytes, encode};
 ghost use Rattle.spec_ntriples.specs.Reading.{additions};
 ghost use Rattle.ntriples_delivery.specs.inside.Sections.{chosen};
 
@@ -46,7 +47,7 @@ fn write_entries(terms: &[u32], n: usize, statements: bool, out: &mut [u8], at: 
     while i < n {
         let t = row_from(terms, i);
         i += 1;
-        if t.is_statement() == statements {
+        if is_statement(t) == statements {
             write_entry(t, out, place);
             place += ENTRY_BYTES;
         }

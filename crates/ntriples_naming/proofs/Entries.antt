@@ -7,7 +7,7 @@ use lib.ListN.{length, getD}
 use lib.Dec.{eqb}
 use borrow.Author.Tests.{eq-eqb, ne-eqb}
 use Rattle.spec.proofs.Lists.{by-test}
-use Rattle.delivery_format.specs.Encoding.{Each}
+use Rattle.spec.specs.inside.Each.{Each}
 use Rattle.spec_ntriples.specs.Texts.{Text, isSame}
 use Rattle.spec_ntriples.specs.Lines.{TextTriple}
 use Rattle.spec_ntriples.specs.Dictionary.{Entry, entry, vocabularyOf, termIn, termOf, nextTerm, kindOf}

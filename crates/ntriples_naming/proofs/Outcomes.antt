@@ -12,7 +12,7 @@ use Rattle.spec.specs.Tables.{tripleFrom, firstRows}
 use Rattle.spec.specs.inside.Comparison.{triple-eq}
 use Rattle.spec.proofs.Lists.{by-test}
 use Rattle.spec.proofs.TableRows.{tripleFrom-drop}
-use Rattle.delivery_format.specs.Encoding.{Each}
+use Rattle.spec.specs.inside.Each.{Each}
 use Rattle.spec_ntriples.specs.Texts.{Text}
 use Rattle.spec_ntriples.specs.Lines.{TextTriple}
 use Rattle.spec_ntriples.specs.Dictionary.{Entry, entry, entriesBytes, termOf, nextTerm, areNumbersEnough}

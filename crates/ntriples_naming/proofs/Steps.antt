@@ -9,7 +9,7 @@ use lib.Seq.{getD-set-same, getD-set-other}
 use lib.Dec.{eqb}
 use borrow.Author.Tests.{eqb-true, eqb-false}
 use Rattle.spec.proofs.Lists.{by-test, le-or}
-use Rattle.delivery_format.specs.Encoding.{Each}
+use Rattle.spec.specs.inside.Each.{Each}
 use Rattle.spec_ntriples.specs.Texts.{Text}
 use Rattle.spec_ntriples.specs.Dictionary.{Entry, entry, termIn, termOf, nextTerm, kindOf}
 use Rattle.spec_ntriples.specs.Reading.{withText}

@@ -5,7 +5,7 @@ use mathlib.Core.Bool.{Bool, true, false}
 use mathlib.Core.List.{List, [], _++_}
 use lib.ListN.{length, getD, take, drop}
 use lib.Dec.{eqb}
-use Rattle.delivery_format.specs.Encoding.{Each}
+use Rattle.spec.specs.inside.Each.{Each}
 use Rattle.spec_ntriples.specs.Dictionary.{Entry, entry, entriesBytes, frontTerm, entries, vocabularyOf, areNumbered, isCanonical, isDictionary}
 use Rattle.dictionary_bytes.specs.inside.Entries.{textAt, placeAt, entriesAt, FilledBy}
 use Rattle.dictionary_bytes.specs.declared.Filled.{Filled}

@@ -7,7 +7,7 @@ use lib.ListN.{length}
 use lib.Seq.{sets, length-sets}
 use Rattle.spec.specs.declared.Triple.{Triple}
 use Rattle.spec.specs.Tables.{tripleFrom}
-use Rattle.delivery_format.specs.Encoding.{entryBytes, entriesBytes}
+use Rattle.spec.specs.Messages.{entryBytes, entriesBytes}
 use Rattle.ntriples_delivery.specs.inside.Sections.{chosen}
 use Rattle.ntriples_delivery.proofs.Writing.{chosen-one, chosen-none, tested, chosen-room, Wrote, wrote-none, wrote-more, wrote-same}
 use Rattle.ntriples_delivery.proofs.write_entries.Statement.{statement}
