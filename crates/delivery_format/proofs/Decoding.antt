@@ -12,7 +12,7 @@ use Rattle.spec.specs.Deliveries.{short, word, entryAt, entriesFrom, sectionAt,
 use Rattle.delivery_format.specs.Encoding.{shortBytes, wordBytes, entryBytes, entriesBytes, sectionBytes, fieldBytes, fieldsBytes, encode, Each, IsByte, IsShort, IsEntry, IsSection, IsField, Encodable}
 use Rattle.delivery_format.proofs.Walk.{length-entriesFrom, length-fieldsFrom, fields-end-from}
 use Rattle.delivery_format.proofs.Whole.{whole-end, whole-fields, section-next, section-within}
-use Rattle.delivery_format.proofs.Tagged.{field-length}
+use Rattle.delivery_format.proofs.Sections.{field-length}
 
 -- ---- the bytes of a message that fits
 
