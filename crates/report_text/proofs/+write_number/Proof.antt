@@ -1,17 +1,17 @@
 -- The number without its last digit is less, and its digits come first. Assumes nothing.
 use mathlib.Core.Path.{sym, _∙_}
 use native.Mathlib.Omega.{arith}
-use Rattle.report.proofs.Decimal.{decimal-small, decimal-large}
-use Rattle.report.proofs.Appending.{both-appended, text-appended, small-room, large-room, last-room}
+use Rattle.report_text.proofs.Decimal.{decimal-small, decimal-large}
+use Rattle.report_text.proofs.Appending.{both-appended, text-appended, small-room, large-room, last-room}
 use Prim.Native.Nat.{ℕ, _<_}
 use borrow.Fn.Kinds.{In}
 use borrow.Fn.PlainCycle.{Measures, is, falls, and}
-use Rattle.report.proofs.append.write_number.Reads as write-number
-use Rattle.report.proofs.append.write_number.Kinds as write-number-kinds
-use Rattle.report.proofs.append.+write_number.Lts-write_number as write-number-lts
-use Rattle.report.proofs.append.write_byte.Reads as write-byte-reads
-use Rattle.report.proofs.append.+write_number.{statement}
-use Rattle.report.proofs.append.+write_number.Tie.{close}
+use Rattle.report_text.proofs.write_number.Reads as write-number
+use Rattle.report_text.proofs.write_number.Kinds as write-number-kinds
+use Rattle.report_text.proofs.+write_number.Lts-write_number as write-number-lts
+use Rattle.report_text.proofs.write_byte.Reads as write-byte-reads
+use Rattle.report_text.proofs.+write_number.{statement}
+use Rattle.report_text.proofs.+write_number.Tie.{close}
 
 abbrev μ-write-number : Measures 1 write-number-kinds.ps ℕ
 μ-write-number κs a = a .0

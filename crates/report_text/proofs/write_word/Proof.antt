@@ -4,10 +4,10 @@ use Prim.Native.Nat.{_≤_, _-_, zero-le}
 use mathlib.Core.Path.{_≡_, refl, _∙_}
 use lib.ListN.{length, take}
 use native.Mathlib.Omega.{arith}
-use Rattle.report.specs.inside.Appended.{Appended}
-use Rattle.report.proofs.Appending.{none-appended, word-more, word-whole, word-place}
-use Rattle.report.proofs.append.write_word.Statement.{statement}
-use Rattle.report.proofs.append.write_word.Tie as tie
+use Rattle.report_text.specs.inside.Appended.{Appended}
+use Rattle.report_text.proofs.Appending.{none-appended, word-more, word-whole, word-place}
+use Rattle.report_text.proofs.write_word.Statement.{statement}
+use Rattle.report_text.proofs.write_word.Tie as tie
 
 abbrev Inv-loop : tie.InvT-loop
 Inv-loop word out₀ at i₀ to₀ out i to = (i ≤ length word) × Appended (take i word) at out₀ out to × (length out ≡ length out₀)

@@ -1,4 +1,4 @@
--- The worked example of document 01, computed. Assumes nothing.
+-- The worked example of document 01, computed: the text for the delivery that this program is run with. Assumes nothing.
 use mathlib.Core.Path.{_≡_, refl}
 use mathlib.Core.List.{List, [], _∷_, zip, zipWith}
 use Prim.Native.Nat.{ℕ}
@@ -12,7 +12,7 @@ use Rattle.spec.specs.Saturation.{raise, raiseAll, saturation}
 use Rattle.spec.specs.computed.Carried.{leaves, steps, spread, reach, objects, properties, subjectClasses, objectClasses, conclusions, carried}
 use Rattle.spec.specs.Updates.{isKeptFitting, isMember, changed, applying, isChange, isAdmitted, settle, keptAfter, contentsAfter, update}
 use Rattle.spec.specs.Deliveries.{short, word, entriesFrom, sectionEnd, sectionStart, fieldEnd, fieldsFrom, fieldsEnd, numberFields, read, isWhole, areSectionsRight, isNumberRight, numberOf, tallied, runEntry, runEntries, runMessage, conclude, deliver}
-use Rattle.report.specs.Text.{digits, decimal, resultLine, rowsLine, rowLine, rowLines, reportText, refusalText, outcomeText, response}
+use Rattle.report_text.specs.Text.{digits, decimal, resultLine, rowsLine, rowLine, rowLines, reportText, refusalText, outcomeText, response}
 
 -- The 94 bytes.
 abbrev pub workedDelivery : List ℕ

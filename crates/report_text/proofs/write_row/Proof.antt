@@ -1,10 +1,10 @@
 -- The four numbers, one behind the other. Assumes nothing.
 use native.Mathlib.Omega.{arith}
-use Rattle.report.specs.Text.{rowLine}
-use Rattle.report.proofs.Appending.{both-appended}
+use Rattle.report_text.specs.Text.{rowLine}
+use Rattle.report_text.proofs.Appending.{both-appended}
 use borrow.Author.Needs.{needs}
-use Rattle.report.proofs.append.write_row.Statement.{statement}
-use Rattle.report.proofs.append.write_row.Tie as tie
+use Rattle.report_text.proofs.write_row.Statement.{statement}
+use Rattle.report_text.proofs.write_row.Tie as tie
 
 write-field-requires : tie.Need-write-field-requires
 write-field-requires c κs = search needs

@@ -1,10 +1,10 @@
 -- The digits, then the byte; ten digits at most. Assumes nothing.
 use native.Mathlib.Omega.{arith}
-use Rattle.report.proofs.Decimal.{decimal-length}
-use Rattle.report.proofs.Appending.{both-appended}
+use Rattle.report_text.proofs.Decimal.{decimal-length}
+use Rattle.report_text.proofs.Appending.{both-appended}
 use borrow.Author.Needs.{needs}
-use Rattle.report.proofs.append.write_field.Statement.{statement}
-use Rattle.report.proofs.append.write_field.Tie as tie
+use Rattle.report_text.proofs.write_field.Statement.{statement}
+use Rattle.report_text.proofs.write_field.Tie as tie
 
 write-number-requires : tie.Need-write-number-requires
 write-number-requires c κs = omega (arith, decimal-length (c .before .before .args .n) (c .before .before .fits .n .fits))

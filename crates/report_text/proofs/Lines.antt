@@ -12,9 +12,9 @@ use Rattle.spec.proofs.TableRows.{length-rows}
 use Rattle.spec.specs.Saturation.{Kept}
 use Rattle.update_kept.proofs.Entries.{noEntry, length-entries, getD-entries, keptOf-entries}
 use Rattle.spec.specs.declared.Delivered.{Delivered}
-use Rattle.report.specs.Text.{labelled, rowsWord, newline, resultLine, rowsLine, rowLine, rowLines, reportText}
-use Rattle.report.specs.inside.Appended.{Appended}
-use Rattle.report.proofs.Appending.{both-appended, text-appended}
+use Rattle.report_text.specs.Text.{labelled, rowsWord, newline, resultLine, rowsLine, rowLine, rowLines, reportText}
+use Rattle.report_text.specs.inside.Appended.{Appended}
+use Rattle.report_text.proofs.Appending.{both-appended, text-appended}
 
 -- The lines of one row more.
 lines-snoc : (k : Kept) (e : Triple × ℕ) → rowLines (k ++ (e ∷ [])) ≡ rowLines k ++ rowLine e

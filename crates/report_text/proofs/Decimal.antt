@@ -7,7 +7,7 @@ use lib.ListN.{length, length-append}
 use lib.Dec.{ltb}
 use borrow.Author.Tests.{lt-ltb, le-ltb, ltb-true, ltb-false}
 use Rattle.spec.proofs.Lists.{by-test}
-use Rattle.report.specs.Text.{digits, decimal}
+use Rattle.report_text.specs.Text.{digits, decimal}
 
 -- ---- the digits of a number
 

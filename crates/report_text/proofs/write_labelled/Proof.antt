@@ -1,9 +1,9 @@
 -- The word, then the number. Assumes nothing.
 use native.Mathlib.Omega.{arith}
-use Rattle.report.proofs.Appending.{both-appended}
+use Rattle.report_text.proofs.Appending.{both-appended}
 use borrow.Author.Needs.{needs}
-use Rattle.report.proofs.append.write_labelled.Statement.{statement}
-use Rattle.report.proofs.append.write_labelled.Tie as tie
+use Rattle.report_text.proofs.write_labelled.Statement.{statement}
+use Rattle.report_text.proofs.write_labelled.Tie as tie
 
 write-word-requires : tie.Need-write-word-requires
 write-word-requires c κs = search needs

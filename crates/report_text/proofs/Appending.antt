@@ -7,9 +7,9 @@ use native.Mathlib.Numerals.{add-one}
 use native.Mathlib.Omega.{arith}
 use lib.ListN.{length, getD, take, drop, set, length-append}
 use lib.Seq.{take-suc, take-suc-set, drop-set-lt, drop-drop, take-all, length-take-le}
-use Rattle.report.specs.Text.{decimal}
-use Rattle.report.specs.inside.Appended.{Appended}
-use Rattle.report.proofs.Decimal.{decimal-small, decimal-large}
+use Rattle.report_text.specs.Text.{decimal}
+use Rattle.report_text.specs.inside.Appended.{Appended}
+use Rattle.report_text.proofs.Decimal.{decimal-small, decimal-large}
 
 -- One byte.
 pub byte-appended : (b : ℕ) (out : List ℕ) (at : ℕ) → at < length out → Appended (b ∷ []) at out (set out at b) (at + 1)

@@ -5,12 +5,12 @@ use mathlib.Core.Path.{_≡_, refl, _∙_}
 use lib.ListN.{length, take}
 use native.Mathlib.Omega.{arith}
 use Rattle.spec.specs.Tables.{keptOf}
-use Rattle.report.specs.Text.{rowLines}
-use Rattle.report.specs.inside.Appended.{Appended, rowRoom}
-use Rattle.report.proofs.Appending.{none-appended, text-appended}
-use Rattle.report.proofs.Lines.{rows-none, rows-more, rows-whole}
-use Rattle.report.proofs.append.write_rows.Statement.{statement}
-use Rattle.report.proofs.append.write_rows.Tie as tie
+use Rattle.report_text.specs.Text.{rowLines}
+use Rattle.report_text.specs.inside.Appended.{Appended, rowRoom}
+use Rattle.report_text.proofs.Appending.{none-appended, text-appended}
+use Rattle.report_text.proofs.Lines.{rows-none, rows-more, rows-whole}
+use Rattle.report_text.proofs.write_rows.Statement.{statement}
+use Rattle.report_text.proofs.write_rows.Tie as tie
 
 abbrev Inv-loop : tie.InvT-loop
 Inv-loop kept supports out₀ at n i₀ to₀ out i to = (i ≤ n) × Appended (rowLines (take i (keptOf kept supports))) at out₀ out to × (length out ≡ length out₀) × (to ≤ at + i * rowRoom)

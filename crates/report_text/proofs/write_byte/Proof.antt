@@ -1,8 +1,8 @@
 -- The byte stands at its place. Assumes nothing.
-use Rattle.report.proofs.Appending.{byte-appended}
+use Rattle.report_text.proofs.Appending.{byte-appended}
 use borrow.Author.Needs.{needs}
-use Rattle.report.proofs.append.write_byte.Statement.{statement}
-use Rattle.report.proofs.append.write_byte.Tie as tie
+use Rattle.report_text.proofs.write_byte.Statement.{statement}
+use Rattle.report_text.proofs.write_byte.Tie as tie
 
 slice-write-out : tie.Need-slice-write-out
 slice-write-out c = search needs
