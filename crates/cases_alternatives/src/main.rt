@@ -1,7 +1,7 @@
 // Runs document 01's cases about alternatives: prints each reply, and every word of the output, which was all 7 before the call.
 use cases_printing::print_replied;
 use query_alternatives::alternatives;
-use report::no_statements;
+use report_store::no_statements;
 use spec::Triple;
 ghost use mathlib.Core.Path.{_≡_};
 ghost use Prim.Native.Nat.{_≤_};

@@ -1,8 +1,8 @@
 // Runs document 01's cases about updates: prints each answer, and the kept rows with their supports after each case.
-use report::no_facts;
-use report::no_kept;
-use report::no_statements;
-use report::no_supports;
+use report_store::no_facts;
+use report_store::no_kept;
+use report_store::no_statements;
+use report_store::no_supports;
 use spec::Answer;
 use spec::Triple;
 ghost use Prim.Native.Nat.{_*_, _≤_};

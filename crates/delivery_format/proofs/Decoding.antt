@@ -13,7 +13,7 @@ use Rattle.delivery_format.specs.inside.Encodable.{IsByte}
 use Rattle.spec.specs.inside.Each.{Each}
 use Rattle.delivery_format.proofs.Walk.{length-entriesFrom, length-fieldsFrom, fields-end-from}
 use Rattle.delivery_format.proofs.Whole.{whole-end, whole-fields, section-next, section-within}
-use Rattle.delivery_format.proofs.Tagged.{field-length}
+use Rattle.delivery_format.proofs.Sections.{field-length}
 
 -- ---- numbers that are read
 

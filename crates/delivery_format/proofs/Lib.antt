@@ -1,6 +1,6 @@
 pub mod Walk
 pub mod Whole
-pub mod Tagged
+pub mod Sections
 pub mod Encoding
 pub mod Unknown
 pub mod Decoding

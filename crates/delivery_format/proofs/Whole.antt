@@ -1,37 +1,17 @@
--- The test of a whole delivery, and what bounds the places of one. Assumes nothing.
+-- What bounds the places of a whole delivery. Assumes nothing.
 use Prim.Native.Nat.{ℕ, zero, suc, _+_, _-_, _*_, _≤_, _<_}
 use mathlib.Core.Path.{_≡_, refl}
-use mathlib.Core.Bool.{true, false}
+use mathlib.Core.Bool.{true}
 use mathlib.Core.List.{List}
 use native.Mathlib.Nat.{add-zero, add-suc}
 use native.Mathlib.Omega.{arith}
 use lib.ListN.{length}
-use lib.Dec.{leb, eqb}
-use borrow.Author.Tests.{leb-true, eqb-true, lt-leb, le-leb}
+use lib.Dec.{leb}
+use borrow.Author.Tests.{leb-true, eqb-true}
 use Rattle.spec.proofs.Ascending.{and-left, and-right}
 use Rattle.spec.specs.Messages.{mostBytes}
 use Rattle.spec.specs.computed.Decoded.{short, sectionEnd, sectionStart, fieldsEnd, isWhole}
-use Rattle.delivery_format.specs.inside.Fields.{countedEnd}
 use Rattle.delivery_format.proofs.Walk.{fields-end-from}
-
--- ---- the test
-
--- Too many bytes.
-pub too-long : (bs : List ℕ) → mostBytes < length bs → isWhole bs ≡ false
-unfolding isWhole
-too-long bs h = rw (lt-leb _ _ h)
-
--- Counted fields end where the fields after the count do.
-pub counted-end : (bs : List ℕ) (at n e : ℕ) → n ≡ short bs at → e ≡ fieldsEnd bs (at + 2) n → e ≡ countedEnd bs at
-unfolding countedEnd
-counted-end bs at n e h q = rw (q, h)
-
--- Not too many: the end of the fields that the fifth section counts decides.
-pub ends-there : (bs : List ℕ) (at e : ℕ) → length bs ≤ mostBytes → at ≡ sectionStart bs 4 → e ≡ countedEnd bs at → eqb e (length bs) ≡ isWhole bs
-unfolding isWhole countedEnd
-ends-there bs at e h x q = rw (le-leb _ _ h, q, x)
-
--- ---- places
 
 -- A section is followed by the next.
 pub section-next : (bs : List ℕ) (k : ℕ) → sectionStart bs (suc k) ≡ sectionStart bs k + 2 + short bs (sectionStart bs k) * 12

@@ -1,8 +1,8 @@
 // Deliveries run over a store in lent tables (document 01, "Deliveries").
 use delivery_section::add_section;
 use delivery_section::run_section;
-use delivery_section::withdrawals::withdraw_facts;
 use delivery_tally::none;
+use delivery_withdrawals::withdraw_facts;
 use spec::Change;
 use spec::Delivered;
 use spec::Tally;
@@ -73,19 +73,19 @@ pub fn deliver(
     if !table_check::is_store(statements, facts, kept, supports) {
         return refuse(1);
     }
-    if !delivery_format::is_whole(bytes) {
+    if !delivery_walk::is_whole(bytes) {
         return refuse(9);
     }
     if !delivery_format::are_sections_right(bytes) {
         return refuse(10);
     }
-    if !delivery_format::is_number_right(bytes) {
+    if !delivery_number::is_number_right(bytes) {
         return refuse(11);
     }
     let counted = run_message(statements, facts, kept, supports, bytes);
     Delivered {
         refusal: 0,
-        number: delivery_format::number(bytes),
+        number: delivery_number::number(bytes),
         applied: counted.applied,
         idle: counted.idle,
         refused: counted.refused,

@@ -1,7 +1,4 @@
 // The entries of a section, run in order (document 01, "Deliveries").
-mod supports; // supports.rt: the highest support
-pub mod withdrawals; // withdrawals.rt: facts that are withdrawn
-
 use delivery_tally::refused;
 use delivery_tally::tallied;
 use spec::Change;

@@ -14,7 +14,7 @@ use Rattle.spec.specs.Tables.{tripleFrom, firstRows}
 use Rattle.spec.proofs.Lists.{select-length}
 use Rattle.spec.proofs.TableRows.{length-firstRows, firstRows-snoc}
 use Rattle.spec.specs.Messages.{shortBytes, wordBytes, entryBytes, entriesBytes, sectionBytes, fieldsBytes, encode}
-use Rattle.delivery_format.specs.inside.Fields.{isRightIn}
+use Rattle.delivery_format.specs.inside.Sections.{isRightIn}
 use Rattle.spec_ntriples.specs.Reading.{additions}
 use Rattle.spec_ntriples.proofs.Numbers.{select-append}
 use Rattle.spec_ntriples.proofs.ReadingRefused.{entries-length, selected, additions-length}

@@ -11,9 +11,9 @@ use Rattle.table.proofs.Store.{isStore-formed}
 use Rattle.store.proofs.Laws.{Sound, empty-sound}
 use Rattle.spec.specs.declared.Delivered.{Delivered}
 use Rattle.spec.specs.Deliveries.{deliver}
-use Rattle.report.specs.Text.{reportText, refusalText, outcomeText, emptyStore, response}
-use Rattle.report.specs.inside.Appended.{Appended, Printable, headRoom, responseRoom}
-use Rattle.report.proofs.Appending.{text-appended}
+use Rattle.report_text.specs.Text.{reportText, refusalText, outcomeText, emptyStore, response}
+use Rattle.report_text.specs.inside.Appended.{Appended, Printable, headRoom, responseRoom}
+use Rattle.report_text.proofs.Appending.{text-appended}
 use Rattle.report.proofs.Sound.{deliver-sound}
 
 -- The result d of a delivery of the bytes bs to the empty store, and the words of the tables after it.

@@ -7,7 +7,7 @@ use borrow.Author.Tests.{not-true, not-false}
 use Rattle.spec.specs.Lists.{all}
 use Rattle.spec.proofs.TableAll.{answered}
 use Rattle.spec.specs.computed.Decoded.{entriesFrom}
-use Rattle.delivery_format.specs.inside.Fields.{isRightIn}
+use Rattle.delivery_format.specs.inside.Sections.{isRightIn}
 use Rattle.delivery_format.proofs.Walk.{entries-more, entries-stop, entries-end}
 use Rattle.delivery_format.proofs.are_entries_right.Statement.{statement}
 use Rattle.delivery_format.proofs.are_entries_right.Tie as tie

@@ -1,5 +1,5 @@
 -- By the four tests of `areSectionsRight`.
-use Rattle.delivery_format.proofs.Tagged.{sections-right}
+use Rattle.delivery_format.proofs.Sections.{sections-right}
 use borrow.Author.Needs.{needs}
 use Rattle.delivery_format.proofs.are_sections_right.Statement.{statement}
 use Rattle.delivery_format.proofs.are_sections_right.Tie as tie

@@ -1,5 +1,5 @@
 -- By the two cases of `isRightIn`.
-use Rattle.delivery_format.specs.inside.Fields.{isRightIn}
+use Rattle.delivery_format.specs.inside.Sections.{isRightIn}
 use borrow.Author.Needs.{needs}
 use Rattle.delivery_format.proofs.is_right_in.Statement.{statement}
 use Rattle.delivery_format.proofs.is_right_in.Tie as tie

@@ -1,8 +1,8 @@
 -- What the functions that run the entries of a section go by. Definitions only.
-use Prim.Native.Nat.{ℕ, _*_, _≤_, _<_, max}
+use Prim.Native.Nat.{ℕ, _*_, _≤_, _<_}
 use mathlib.Core.Path.{_≡_}
 use mathlib.Core.Bool.{Bool, true}
-use mathlib.Core.List.{List, [], _∷_}
+use mathlib.Core.List.{List}
 use Rattle.spec.specs.declared.Triple.{Triple}
 use Rattle.spec.specs.Terms.{isStatement}
 use Rattle.spec.specs.declared.Change.{Change}
@@ -10,11 +10,6 @@ use Rattle.spec.specs.declared.Change.the-variants.{Addition, Withdrawal}
 use Rattle.spec.specs.computed.Decoded.{sectionAt, sectionStart, isWhole}
 use Rattle.spec.specs.declared.Tally.{Tally}
 use Rattle.delivery_tally.specs.inside.Totals.{total}
-
--- The highest of some numbers, 0 of none.
-unfoldable pub highest : List ℕ → ℕ
-highest [] = 0
-highest (u ∷ us) = max u (highest us)
 
 -- Whether an update keeps a store well formed whatever the supports: any addition, and the withdrawal of a statement.
 abbrev pub keepsFormed : Change → Triple → Bool

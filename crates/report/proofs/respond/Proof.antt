@@ -1,6 +1,6 @@
 -- A delivery to an empty store leaves well-formed tables, which have room for their lines. Assumes nothing.
 use native.Mathlib.Omega.{arith}
-use Rattle.report.specs.Text.{refusalText}
+use Rattle.report_text.specs.Text.{refusalText}
 use Rattle.report.proofs.Responding.{FromEmpty, from-zeros, few-rows, printable, refused-response, report-response}
 use borrow.Author.Needs.{needs}
 use Rattle.report.proofs.respond.Statement.{statement}

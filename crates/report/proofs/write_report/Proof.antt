@@ -1,6 +1,6 @@
 -- The line of the result, that of the number of rows, and those of the rows. Assumes nothing.
 use native.Mathlib.Omega.{arith}
-use Rattle.report.proofs.Lines.{report-lines}
+use Rattle.report_text.proofs.Lines.{report-lines}
 use borrow.Author.Needs.{needs}
 use Rattle.report.proofs.write_report.Statement.{statement}
 use Rattle.report.proofs.write_report.Tie as tie

@@ -1,7 +1,7 @@
 -- The four numbers with their words, one behind the other. Assumes nothing.
 use native.Mathlib.Omega.{arith}
-use Rattle.report.specs.Text.{resultLine}
-use Rattle.report.proofs.Appending.{both-appended}
+use Rattle.report_text.specs.Text.{resultLine}
+use Rattle.report_text.proofs.Appending.{both-appended}
 use borrow.Author.Needs.{needs}
 use Rattle.report.proofs.write_result.Statement.{statement}
 use Rattle.report.proofs.write_result.Tie as tie
