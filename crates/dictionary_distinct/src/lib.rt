@@ -21,7 +21,7 @@ pub enum Apart {
 }
 
 // An index that leads to no entry.
-fn no_slots() -> [u32; SLOTS]
+pub fn no_slots() -> [u32; SLOTS]
     ensures { λ r. ⌜ (length r ≡ 65536) × AreZero r ⌝ }
 {
     [0u32; SLOTS]
