@@ -1,6 +1,6 @@
 -- Laws of the index of a segment: what is entered is found, and what is not found is in no entry. Assumes nothing.
 use Prim.Native.Nat.{ℕ, zero, suc, _+_, _-_, _≤_, _<_}
-use mathlib.Core.Path.{_≡_, refl, ap, _∙_, sym}
+use mathlib.Core.Path.{_≡_, refl, ap, _∙_}
 use mathlib.Core.List.{List}
 use native.Mathlib.Decide.{ℕ-discrete, decLt}
 use native.Mathlib.Omega.{arith}
@@ -139,6 +139,11 @@ home-below : (text : List ℕ) → homeOf text < 65536
 unfolding homeOf slotOf
 home-below text = omega arith
 
+-- Where a search runs past the last of enough slots, the index has an entry.
+pub past-some : (slots bs : List ℕ) (first : ℕ) (text : List ℕ) → Passed slots bs first text (homeOf text) (length slots) → (k : ℕ) → Index slots bs first k → 65536 ≤ length slots → 0 < k
+past-some slots bs first text P zero X h = let l = X .leads (homeOf text) (P (homeOf text) (omega arith) (omega (arith, home-below text)) .0) in absurd (omega (arith, l .below))
+past-some slots bs first text P (suc k) X h = omega arith
+
 -- A search for the bytes of an entry's text from the slot of their hash is the search for its text.
 pub search-entry : (slots bs : List ℕ) (first at n h home : ℕ) (r q : Search) → r ≡ q → n ≡ lengthAt bs at → h ≡ hashFrom 0 (take n (drop (at + 12) bs)) → home ≡ slotOf h
     → Searched slots bs first (take n (drop (at + 12) bs)) home r → Searched slots bs first (textAt bs at) (homeOf (textAt bs at)) q
@@ -151,11 +156,7 @@ module _ (slots bs : List ℕ) (first k at : ℕ) (X : Index slots bs first k) (
   enter-known other F = (refl, found-entry slots bs first k X (textAt bs at) (homeOf (textAt bs at)) other F)
 
   pub enter-full : Searched slots bs first (textAt bs at) (homeOf (textAt bs at)) Past → EnteredAt slots slots bs first k at Full
-  enter-full P = (refl, past-new slots bs first k X (textAt bs at) P, some k X)
-    where
-      some : (k : ℕ) → Index slots bs first k → 65536 ≤ length slots → 0 < k
-      some zero Y h = let l = Y .leads (homeOf (textAt bs at)) (P (homeOf (textAt bs at)) (omega arith) (omega (arith, home-below (textAt bs at))) .0) in absurd (omega (arith, l .below))
-      some (suc k) Y h = omega arith
+  enter-full P = (refl, past-new slots bs first k X (textAt bs at) P, past-some slots bs first (textAt bs at) P k X)
 
   pub enter-free : (s : ℕ) → at + 12 + lengthAt bs at ≤ length bs → Searched slots bs first (textAt bs at) (homeOf (textAt bs at)) (Free s) → EnteredAt slots (set slots s (at - first + 1)) bs first k at New
   unfolding placeAt

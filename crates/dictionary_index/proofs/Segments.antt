@@ -28,7 +28,7 @@ segment-none slots bs first last z T =
     record { index = index-none slots bs first (omega (arith, T .within)) z; place = refl; within = h; long = refl }
 
 -- The two limits.
-limit-none : (a b : Bool) → (a || b) ≡ false → (a ≡ false) × (b ≡ false)
+pub limit-none : (a b : Bool) → (a || b) ≡ false → (a ≡ false) × (b ≡ false)
 limit-none false b e = (refl, e)
 limit-none true b e = let z : _≡_ {A = ℕ} 0 1 = cc in absurd (omega arith)
 
@@ -36,7 +36,7 @@ first-entry : (bs : List ℕ) (first at count : ℕ) → at ≡ placeAt bs first
 unfolding placeAt
 first-entry bs first at count p e = p ∙ ap (placeAt bs first) e
 
-limit-some : (a b : Bool) (count : ℕ) → (a || b) ≡ true → (a ≡ true → 0 < count) → (b ≡ true → 0 < count) → 0 < count
+pub limit-some : (a b : Bool) (count : ℕ) → (a || b) ≡ true → (a ≡ true → 0 < count) → (b ≡ true → 0 < count) → 0 < count
 limit-some true b count e f g = f refl
 limit-some false b count e f g = g e
 

@@ -1,0 +1,3 @@
+pub mod IndexOf
+pub mod Numbers
+pub mod Naming
