@@ -1,9 +1,8 @@
 -- Answers and replies as numbers. Assumes nothing.
 use Prim.Native.Nat.{ℕ}
-use mathlib.Core.Path.{_≡_, refl, ap}
+use mathlib.Core.Path.{_≡_, ap}
 use mathlib.Core.List.{List}
 use Rattle.spec.specs.declared.Reply.{Reply}
-use Rattle.spec.specs.declared.Reply.the-variants.{Rows, Refused}
 use Rattle.spec.specs.Outputs.{Replied, replied, replyNumber, replyCount}
 use Rattle.spec.specs.declared.Answer.{Answer}
 use Rattle.spec.specs.Tables.{Tables}
@@ -19,13 +18,6 @@ update-numbered a n T o e h = rw e (ap numberedOutcome h)
 -- A reply's number, count and words are those of what was replied.
 pub reply-numbered : (p : Reply) (n c : ℕ) (ws : List ℕ) (o : Replied) → n ≡ replyNumber p → c ≡ replyCount p → replied p ws ≡ o → listed n c ws ≡ numberedReply o
 reply-numbered p n c ws o e f h = rw (e, f) (ap numberedReply h)
-
--- What the number and the count are of rows that were given, and of a refusal.
-pub rows-counted : (p : Reply) (n : ℕ) → p ≡ Rows n → (0 ≡ replyNumber p) × (n ≡ replyCount p)
-rows-counted p n e = rw e (refl, refl)
-
-pub refused-counted : (p : Reply) (n : ℕ) → p ≡ Refused n → (n ≡ replyNumber p) × (0 ≡ replyCount p)
-refused-counted p n e = rw e (refl, refl)
 
 -- A delivery's number, result and tables are those of what was delivered.
 pub delivery-numbered : (d : Delivered) (n : ℕ) (ws : List ℕ) (T : Tables) (o : Delivered × Tables) → n ≡ d .refusal → ws ≡ resultWords d → (d, T) ≡ o → received n ws T ≡ numberedDelivery o

@@ -8,7 +8,7 @@ use Rattle.spec.specs.Tables.{flatten, layout, Ledger}
 use Rattle.spec.specs.Ledger.{Run, run}
 use Rattle.spec.specs.Demand3.{storeRun, graphOf, Replies, Demand3}
 use Rattle.spec.proofs.Worked.{compute, workedDelivery, brokenDelivery, workedCalls, workedAnswers, workedLedger, workedTables, worked-ledger, workedQuestion, workedReply, worked-kept, worked-rewritten}
-use Rattle.ledger.specs.inside.Runs.{callOf, callsFrom, encoded}
+use Rattle.ledger_call.specs.inside.Calls.{callOf, callsFrom, encoded}
 use Rattle.ledger.proofs.History.{laidOut, run-words, history}
 
 -- The ledger's words, by computation.

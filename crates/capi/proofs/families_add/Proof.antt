@@ -5,7 +5,7 @@ use Rattle.capi.proofs.families_add.Statement.{statement}
 use Rattle.capi.proofs.families_add.Tie as tie
 use Rattle.capi.proofs.families_add.Reads as reads
 use Rattle.capi.proofs.families_add.Lts as lts
-use Rattle.capi.proofs.answer_number.Reads as answer-number-reads
+use Rattle.capi_numbers.proofs.answer_number.Reads as answer-number-reads
 use Rattle.store.proofs.add.Reads as add-reads
 
 add-requires : tie.Need-add-requires

@@ -6,7 +6,7 @@ use Rattle.capi.proofs.families_alternatives.Tie as tie
 use Rattle.capi.proofs.families_alternatives.Reads as reads
 use Rattle.capi.proofs.families_alternatives.Lts as lts
 use Rattle.query_alternatives.proofs.alternatives.Reads as alternatives-reads
-use Rattle.capi.proofs.reply_number.Reads as reply-number-reads
+use Rattle.capi_numbers.proofs.reply_number.Reads as reply-number-reads
 
 alternatives-requires : tie.Need-alternatives-requires
 alternatives-requires c κs = search needs

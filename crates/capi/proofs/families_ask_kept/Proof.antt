@@ -6,7 +6,7 @@ use Rattle.capi.proofs.families_ask_kept.Tie as tie
 use Rattle.capi.proofs.families_ask_kept.Reads as reads
 use Rattle.capi.proofs.families_ask_kept.Lts as lts
 use Rattle.query_ask.proofs.ask_kept.Reads as ask-kept-reads
-use Rattle.capi.proofs.reply_number.Reads as reply-number-reads
+use Rattle.capi_numbers.proofs.reply_number.Reads as reply-number-reads
 
 ask-kept-requires : tie.Need-ask-kept-requires
 ask-kept-requires c κs = search needs

@@ -6,7 +6,7 @@ use Rattle.capi.proofs.families_ask_rewritten.Tie as tie
 use Rattle.capi.proofs.families_ask_rewritten.Reads as reads
 use Rattle.capi.proofs.families_ask_rewritten.Lts as lts
 use Rattle.query_ask.proofs.ask_rewritten.Reads as ask-rewritten-reads
-use Rattle.capi.proofs.reply_number.Reads as reply-number-reads
+use Rattle.capi_numbers.proofs.reply_number.Reads as reply-number-reads
 
 ask-rewritten-requires : tie.Need-ask-rewritten-requires
 ask-rewritten-requires c κs = search needs

@@ -5,7 +5,7 @@ use Rattle.capi.proofs.families_deliver.Statement.{statement}
 use Rattle.capi.proofs.families_deliver.Tie as tie
 use Rattle.capi.proofs.families_deliver.Reads as reads
 use Rattle.capi.proofs.families_deliver.Lts as lts
-use Rattle.capi.proofs.write_result.Reads as write-result-reads
+use Rattle.capi_numbers.proofs.write_result.Reads as write-result-reads
 use Rattle.delivery_run.proofs.deliver.Reads as deliver-reads
 
 deliver-requires : tie.Need-deliver-requires

@@ -5,7 +5,7 @@ use Rattle.capi.proofs.families_list_facts.Statement.{statement}
 use Rattle.capi.proofs.families_list_facts.Tie as tie
 use Rattle.capi.proofs.families_list_facts.Reads as reads
 use Rattle.capi.proofs.families_list_facts.Lts as lts
-use Rattle.capi.proofs.reply_number.Reads as reply-number-reads
+use Rattle.capi_numbers.proofs.reply_number.Reads as reply-number-reads
 use Rattle.listing.proofs.list_facts.Reads as list-facts-reads
 
 list-facts-requires : tie.Need-list-facts-requires

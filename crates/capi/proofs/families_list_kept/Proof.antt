@@ -5,7 +5,7 @@ use Rattle.capi.proofs.families_list_kept.Statement.{statement}
 use Rattle.capi.proofs.families_list_kept.Tie as tie
 use Rattle.capi.proofs.families_list_kept.Reads as reads
 use Rattle.capi.proofs.families_list_kept.Lts as lts
-use Rattle.capi.proofs.reply_number.Reads as reply-number-reads
+use Rattle.capi_numbers.proofs.reply_number.Reads as reply-number-reads
 use Rattle.listing.proofs.list_kept.Reads as list-kept-reads
 
 list-kept-requires : tie.Need-list-kept-requires

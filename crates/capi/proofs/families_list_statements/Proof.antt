@@ -5,7 +5,7 @@ use Rattle.capi.proofs.families_list_statements.Statement.{statement}
 use Rattle.capi.proofs.families_list_statements.Tie as tie
 use Rattle.capi.proofs.families_list_statements.Reads as reads
 use Rattle.capi.proofs.families_list_statements.Lts as lts
-use Rattle.capi.proofs.reply_number.Reads as reply-number-reads
+use Rattle.capi_numbers.proofs.reply_number.Reads as reply-number-reads
 use Rattle.listing.proofs.list_statements.Reads as list-statements-reads
 
 list-statements-requires : tie.Need-list-statements-requires

@@ -5,7 +5,7 @@ use Rattle.capi.proofs.families_withdraw.Statement.{statement}
 use Rattle.capi.proofs.families_withdraw.Tie as tie
 use Rattle.capi.proofs.families_withdraw.Reads as reads
 use Rattle.capi.proofs.families_withdraw.Lts as lts
-use Rattle.capi.proofs.answer_number.Reads as answer-number-reads
+use Rattle.capi_numbers.proofs.answer_number.Reads as answer-number-reads
 use Rattle.store.proofs.withdraw.Reads as withdraw-reads
 
 withdraw-requires : tie.Need-withdraw-requires

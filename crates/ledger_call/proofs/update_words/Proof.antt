@@ -1,9 +1,9 @@
 -- The words of each answer. Assumes nothing.
-use Rattle.ledger.specs.inside.Runs.{givenWords}
+use Rattle.ledger_call.specs.inside.Calls.{givenWords}
 use mathlib.Core.Path.{refl}
 use borrow.Author.Needs.{needs}
-use Rattle.ledger.proofs.update_words.Statement.{statement}
-use Rattle.ledger.proofs.update_words.Tie as tie
+use Rattle.ledger_call.proofs.update_words.Statement.{statement}
+use Rattle.ledger_call.proofs.update_words.Tie as tie
 
 enum-told : tie.Need-enum-told
 enum-told c = search needs

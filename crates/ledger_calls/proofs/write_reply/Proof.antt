@@ -1,10 +1,10 @@
 -- Five stores, one after the other. Assumes nothing.
 use native.Mathlib.Omega.{arith}
 use lib.ListN.{length-set}
-use Rattle.ledger.proofs.Running.{five-stored}
+use Rattle.ledger_calls.proofs.Running.{five-stored}
 use borrow.Author.Needs.{needs}
-use Rattle.ledger.proofs.write_reply.Statement.{statement}
-use Rattle.ledger.proofs.write_reply.Tie as tie
+use Rattle.ledger_calls.proofs.write_reply.Statement.{statement}
+use Rattle.ledger_calls.proofs.write_reply.Tie as tie
 
 array-read-replies : tie.Need-array-read-replies
 array-read-replies c = search needs

@@ -1,10 +1,10 @@
 -- The count is the row count, and 0 for a refusal. Assumes nothing.
-use Rattle.capi.proofs.Numbers.{rows-counted, refused-counted}
+use Rattle.capi_numbers.proofs.Counts.{rows-counted, refused-counted}
 use borrow.Author.Needs.{needs}
-use Rattle.capi.proofs.reply_number.Statement.{statement}
-use Rattle.capi.proofs.reply_number.Tie as tie
-use Rattle.capi.proofs.reply_number.Reads as reads
-use Rattle.capi.proofs.reply_number.Lts as lts
+use Rattle.capi_numbers.proofs.reply_number.Statement.{statement}
+use Rattle.capi_numbers.proofs.reply_number.Tie as tie
+use Rattle.capi_numbers.proofs.reply_number.Reads as reads
+use Rattle.capi_numbers.proofs.reply_number.Lts as lts
 
 enum-known-reply : tie.Need-enum-known-reply
 enum-known-reply c = search needs

@@ -5,9 +5,9 @@ use native.Mathlib.Omega.{arith}
 use lib.ListN.{length}
 use Rattle.spec.specs.Tables.{tables}
 use Rattle.store.proofs.Fitting.{SameLengths}
-use Rattle.ledger.proofs.Running.{Going, going-start, going-more, going-end}
-use Rattle.ledger.proofs.run_calls.Statement.{statement}
-use Rattle.ledger.proofs.run_calls.Tie as tie
+use Rattle.ledger_calls.proofs.Running.{Going, going-start, going-more, going-end}
+use Rattle.ledger_calls.proofs.run_calls.Statement.{statement}
+use Rattle.ledger_calls.proofs.run_calls.Tie as tie
 
 abbrev Inv-loop : tie.InvT-loop
 Inv-loop statements₀ facts₀ kept₀ supports₀ words bytes replies₀ left₀ at₀ to₀ statements facts kept supports replies left at to = Going words bytes replies₀ (tables statements₀ facts₀ kept₀ supports₀) left at to replies (tables statements facts kept supports) × SameLengths (tables statements facts kept supports) (tables statements₀ facts₀ kept₀ supports₀) × (length replies ≡ length replies₀)

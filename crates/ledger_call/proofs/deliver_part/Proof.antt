@@ -1,8 +1,8 @@
 -- The part that is lent is the part that is meant. Assumes nothing.
-use Rattle.ledger.proofs.Running.{part-delivered}
+use Rattle.ledger_call.proofs.Calling.{part-delivered}
 use borrow.Author.Needs.{needs}
-use Rattle.ledger.proofs.deliver_part.Statement.{statement}
-use Rattle.ledger.proofs.deliver_part.Tie as tie
+use Rattle.ledger_call.proofs.deliver_part.Statement.{statement}
+use Rattle.ledger_call.proofs.deliver_part.Tie as tie
 
 lesser-requires : tie.Need-lesser-requires
 lesser-requires c κs = search needs

@@ -1,7 +1,7 @@
 -- By whether the kind is that of an addition. Assumes nothing.
-use Rattle.ledger.proofs.Running.{addition-of, withdrawal-of}
-use Rattle.ledger.proofs.change_of.Statement.{statement}
-use Rattle.ledger.proofs.change_of.Tie as tie
+use Rattle.ledger_call.proofs.Calling.{addition-of, withdrawal-of}
+use Rattle.ledger_call.proofs.change_of.Statement.{statement}
+use Rattle.ledger_call.proofs.change_of.Tie as tie
 
 returns : tie.Need-returns
 returns c =

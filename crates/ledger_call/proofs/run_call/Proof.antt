@@ -1,8 +1,8 @@
 -- An update or a delivery, by the kind of call. Assumes nothing.
-use Rattle.ledger.proofs.Running.{call-updated, call-delivered}
+use Rattle.ledger_call.proofs.Calling.{call-updated, call-delivered}
 use borrow.Author.Needs.{needs}
-use Rattle.ledger.proofs.run_call.Statement.{statement}
-use Rattle.ledger.proofs.run_call.Tie as tie
+use Rattle.ledger_call.proofs.run_call.Statement.{statement}
+use Rattle.ledger_call.proofs.run_call.Tie as tie
 
 change-of-requires : tie.Need-change-of-requires
 change-of-requires c κs = search needs
