@@ -9,7 +9,7 @@ use lib.Seq.{getD-take, getD-drop}
 use lib.Dec.{eqb, eqb·suc-zero}
 use borrow.Author.Tests.{eqb-true, eq-eqb, ne-eqb}
 use Rattle.delivery_number.specs.declared.Fields.{Fields}
-use Rattle.spec.specs.Deliveries.{numberTag, numberFields, isNumberRight, numberOf}
+use Rattle.spec.specs.Deliveries.{numberFields, isNumberRight, numberOf}
 use Rattle.spec.specs.computed.Decoded.{short, word, fieldAt, fieldEnd, fieldsFrom, fieldsEnd, read, isWhole}
 use Rattle.spec.specs.Messages.{Field}
 use Rattle.delivery_number.specs.inside.Found.{ExtraFields, FromNumber}

@@ -2,7 +2,7 @@
 use Prim.Native.Nat.{ℕ, _+_, _^_, _<_}
 use mathlib.Core.Path.{_≡_}
 use mathlib.Core.List.{List}
-use Rattle.spec.specs.Deliveries.{numberTag, numberFields}
+use Rattle.spec.specs.Deliveries.{numberFields}
 use Rattle.spec.specs.computed.Decoded.{short, sectionStart, fieldsFrom, fieldsEnd}
 use Rattle.delivery_number.specs.declared.Fields.{Fields}
 
