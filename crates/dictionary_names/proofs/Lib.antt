@@ -3,3 +3,4 @@ pub mod Staying
 pub mod Segments
 pub mod Raising
 pub mod Naming
+pub mod Reading

@@ -1,3 +1,5 @@
 pub mod Entries
 pub mod Steps
 pub mod Batch
+pub mod Outcomes
+pub mod Looking

@@ -77,6 +77,10 @@ module _ (ds es : List Entry) (xs : List Text) (slots bs : List ℕ) (first : �
         last-within slots bs first (l .count) (l .filled) ds (S .entries) (S .last),
       )
 
+  -- Texts that are named have terms.
+  before-known : (j : ℕ) → j < length xs → NamedTo j ws → (i : ℕ) → i < j → 0 < termOf all (getD xs i noText .bytes)
+  before-known j h N i m = omega (arith, N i m, S .words i (omega arith) .right (N i m))
+
   module _ (j : ℕ) (h : j < length xs) (z : getD ws j 0 ≡ 0) where
     abbrev bytes : List ℕ
     bytes = getD xs j noText .bytes
@@ -84,8 +88,10 @@ module _ (ds es : List Entry) (xs : List Text) (slots bs : List ℕ) (first : �
     term-here : termOf all bytes ≡ termIn (S .entries) bytes
     term-here = term-behind ds (S .entries) bytes (each-front HasTerm ds (S .entries) all-terms) (S .words j h .new z)
 
-    pub lacks-space : (len : ℕ) → termIn (S .entries) bytes ≡ 0 → HasNoSpace len all (getD xs j noText) → LacksSpace len all xs
-    lacks-space len e n = record { place = j; within = h; new = term-here ∙ e; lacks = n }
+    pub lacks-space
+        : (len : ℕ) → NamedTo j ws → kindOf bytes ≡ getD xs j noText .kind → termIn (S .entries) bytes ≡ 0 → HasNoSpace len all (getD xs j noText)
+        → LacksSpace len all xs
+    lacks-space len N k e n = record { place = j; within = h; first = before-known j h N; new = term-here ∙ e; kind = k; lacks = n }
 
     module _ (r : j < length ws) (N : NamedTo j ws) (w : ℕ) (p : 0 < w) where
       pub stands-known : w ≡ termIn (S .entries) bytes → Stands ds es xs slots bs first (set ws j w) l
@@ -110,9 +116,6 @@ module _ (ds es : List Entry) (xs : List Text) (slots bs : List ℕ) (first : �
         with-it : withText all (getD xs j noText) ≡ all ++ added
         with-it = with-new all (getD xs j noText) (term-here ∙ e) ∙ ap (λ (x : ℕ). all ++ (entry x bytes ∷ [])) (sym q)
 
-        before-known : (i : ℕ) → i < j → 0 < termOf all (getD xs i noText .bytes)
-        before-known i m = omega (arith, N i m, S .words i (omega arith) .right (N i m))
-
         pub stands-new
             : (slots' bs' : List ℕ) (f : Filled) → LastSegment slots' bs' first (l .count + 1) f ds (S .entries ++ added)
             → Stands ds es xs slots' bs' first (set ws j w) (record { count = l .count + 1; filled = f })
@@ -124,7 +127,7 @@ module _ (ds es : List Entry) (xs : List Text) (slots bs : List ℕ) (first : �
               last = L;
               same =
                   ap (λ (x : List Entry). withEach x xs) (all-added ∙ sym with-it)
-                  ∙ added-first all xs j all-terms h before-known k
+                  ∙ added-first all xs j all-terms h (before-known j h N) k
                   ∙ S .same;
               words = rw all-added (words-set ds all added xs ws j w (S .words) r p (sym (term-added all w bytes all-terms (term-here ∙ e))));
             }
@@ -166,11 +169,11 @@ module _ (ds es : List Entry) (xs : List Text) (slots bs slots' bs' : List ℕ) 
         let K : NamedIn slots slots' bs bs' first (l .count) ds (R .0 .entries) text named.Full = rw e at M in
         stands-same ds es xs slots bs slots' bs' first ws (Full l) (j + 1) (K .2) (K .3) (R .0, K .1)
 
-    pub reached-no-space : a ≡ named.NoSpace → Reached ds es xs (j + 1) slots' bs' first ws (NoSpace l)
-    reached-no-space e =
+    pub reached-no-space : a ≡ named.NoSpace → kindOf (text .bytes) ≡ text .kind → Reached ds es xs (j + 1) slots' bs' first ws (NoSpace l)
+    reached-no-space e k =
         let K : NamedIn slots slots' bs bs' first (l .count) ds (R .0 .entries) text named.NoSpace = rw e at M in
         stands-same ds es xs slots bs slots' bs' first ws (NoSpace l) (j + 1) (K .2) (K .3)
-        (R .0, lacks-space ds es xs slots bs first ws l (R .0) j h z (length bs) (K .0) (K .1))
+        (R .0, lacks-space ds es xs slots bs first ws l (R .0) j h z (length bs) (R .1) k (K .0) (K .1))
 
 -- ---- further texts
 

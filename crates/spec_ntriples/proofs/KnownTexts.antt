@@ -57,7 +57,7 @@ known-term t es h =
     (λ p. let q : eqb (vocabularyOf t) 0 ≡ true = place-among t vocabularyTexts ∙ ap not p in rw (p, q) (term-among t es h)))
 
 -- A text that has a term keeps it where entries are added.
-pub term-in-more : (t : List ℕ) (es fs : List Entry) → 0 < termIn es t → termIn (es ++ fs) t ≡ termIn es t
+term-in-more : (t : List ℕ) (es fs : List Entry) → 0 < termIn es t → termIn (es ++ fs) t ≡ termIn es t
 unfolding termIn
 term-in-more t [] fs h = absurd (omega (arith, h))
 term-in-more t (e ∷ es) fs h =
@@ -95,7 +95,7 @@ unfoldable pub nextEntries : List Entry → List (List ℕ) → List Entry
 nextEntries es [] = []
 nextEntries es (t ∷ ts) = nextEntry es t ∷ nextEntries (es ++ (nextEntry es t ∷ [])) ts
 
-pub next-positive : (k : ℕ) (es : List Entry) → 0 < nextTerm k es
+next-positive : (k : ℕ) (es : List Entry) → 0 < nextTerm k es
 unfolding nextNumber firstNumber
 next-positive zero es = omega arith
 next-positive (suc k) es = omega arith

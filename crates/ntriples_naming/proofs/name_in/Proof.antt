@@ -117,7 +117,7 @@ same-length-10 c = search needs
 
 -- src/lib.rt:35:1
 returns-5 : tie.Need-returns-5
-returns-5 c = λ ds es xs h H R. reached-no-space ds es xs (c .before .before .before .before .before .before .before .before .before .before .before .before .before .before .before .before .args .slots .now) (c .before .before .before .before .before .before .before .before .before .before .before .before .before .before .before .before .args .dictionary .now) (c .before .before .before .before .before .before .name-text .last .0) (c .before .before .before .before .before .before .name-text .last .1 .0) (c .before .before .before .before .before .before .before .before .before .before .before .before .before .before .before .before .args .first) (c .before .before .before .before .before .before .before .before .before .before .before .before .before .before .before .before .args .terms .now) (c .before .before .before .before .before .before .before .before .before .before .before .before .before .before .before .before .args .last) (c .before .before .before .before .before .before .before .before .before .before .before .before .before .before .before .before .args .j) R h (c .before .before .before .before .before .before .before .before .before .before .before .before .before .before .before .before .pre .room) (omega (arith, c .before .before .before .before .before .before .before .before .before .before .if1 .left)) (c .before .before .before .before .before .before .name-text .result) (c .before .before .before .before .before .before .name-text .ensures ds (R .0 .entries) (getD xs (c .before .before .before .before .before .before .before .before .before .before .before .before .before .before .before .before .args .j) noText) (R .0 .last) H) (c .enum-told2 .given .1)
+returns-5 c = λ ds es xs h H R. reached-no-space ds es xs (c .before .before .before .before .before .before .before .before .before .before .before .before .before .before .before .before .args .slots .now) (c .before .before .before .before .before .before .before .before .before .before .before .before .before .before .before .before .args .dictionary .now) (c .before .before .before .before .before .before .name-text .last .0) (c .before .before .before .before .before .before .name-text .last .1 .0) (c .before .before .before .before .before .before .before .before .before .before .before .before .before .before .before .before .args .first) (c .before .before .before .before .before .before .before .before .before .before .before .before .before .before .before .before .args .terms .now) (c .before .before .before .before .before .before .before .before .before .before .before .before .before .before .before .before .args .last) (c .before .before .before .before .before .before .before .before .before .before .before .before .before .before .before .before .args .j) R h (c .before .before .before .before .before .before .before .before .before .before .before .before .before .before .before .before .pre .room) (omega (arith, c .before .before .before .before .before .before .before .before .before .before .if1 .left)) (c .before .before .before .before .before .before .name-text .result) (c .before .before .before .before .before .before .name-text .ensures ds (R .0 .entries) (getD xs (c .before .before .before .before .before .before .before .before .before .before .before .before .before .before .before .before .args .j) noText) (R .0 .last) H) (c .enum-told2 .given .1) (has-kind (c .before .before .before .before .before .before .before .before .before .before .before .before .before .before .before .before .args .line .now) (c .before .before .before .before .before .before .before .before .before .before .before .before .before .before .before .before .args .token .from) (c .before .before .before .before .before .before .before .before .before .before .before .before .before .before .before .before .args .token .end) (getD xs (c .before .before .before .before .before .before .before .before .before .before .before .before .before .before .before .before .args .j) noText) H)
 
 pub name-in-spec : {M : Type 1} → statement M
 name-in-spec =

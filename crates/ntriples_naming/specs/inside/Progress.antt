@@ -6,7 +6,7 @@ use mathlib.Core.List.{List, [], _∷_, _++_, flatMap}
 use lib.ListN.{length, getD}
 use Rattle.spec_ntriples.specs.Texts.{Text, text}
 use Rattle.spec_ntriples.specs.Lines.{TextTriple}
-use Rattle.spec_ntriples.specs.Dictionary.{Entry, termOf}
+use Rattle.spec_ntriples.specs.Dictionary.{Entry, termOf, kindOf}
 use Rattle.spec_ntriples.specs.Reading.{withText}
 use Rattle.ntriples_bytes.specs.inside.Places.{HasText}
 use Rattle.ntriples_lines.specs.declared.Token.{Token}
@@ -64,11 +64,13 @@ pub record Stands (ds es : List Entry) (xs : List Text) (slots bs : List ℕ) (f
   pub same : withEach (ds ++ entries) xs ≡ withEach (ds ++ es) xs
   pub words : AreWords ds (ds ++ entries) xs ws
 
--- One of some texts has no term, and no space for an entry in a dictionary of len bytes.
+-- The first of some texts that has no term has no space for an entry in a dictionary of len bytes.
 pub record LacksSpace (len : ℕ) (all : List Entry) (xs : List Text) : Type 0 where
   pub place : ℕ
   pub within : place < length xs
+  pub first : (i : ℕ) → i < place → 0 < termOf all (getD xs i noText .bytes)
   pub new : termOf all (getD xs place noText .bytes) ≡ 0
+  pub kind : kindOf (getD xs place noText .bytes) ≡ getD xs place noText .kind
   pub lacks : HasNoSpace len all (getD xs place noText)
 
 -- So far naming came: the first n texts are named; or a new segment has to begin, and this one has entries; or a text has no space.
