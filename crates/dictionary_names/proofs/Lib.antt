@@ -1,6 +1,6 @@
 pub mod Finding
 pub mod Staying
 pub mod Segments
-pub mod Raising
+pub mod Room
 pub mod Naming
 pub mod Reading

@@ -25,11 +25,11 @@ use Rattle.dictionary_index.proofs.Indexing.{leads-place, free-new, past-some, 
 use Rattle.dictionary_index.proofs.Segments.{limit-none, limit-some}
 use Rattle.dictionary_names.specs.declared.Named.the-variants.{Known, New, Full, NoSpace}
 use Rattle.dictionary_names.specs.inside.IndexOf.{IndexOf}
-use Rattle.dictionary_names.specs.inside.Numbers.{numberOf, raised}
+use Rattle.dictionary_numbers.specs.inside.Numbers.{numberOf, raised}
 use Rattle.dictionary_names.specs.inside.Naming.{LastSegment, CanAdd, NamedIn}
 use Rattle.dictionary_names.proofs.Finding.{nothing, text-is, found-term, found-some, free-none, past-none}
 use Rattle.dictionary_names.proofs.Staying.{index-stays}
-use Rattle.dictionary_names.proofs.Raising.{filled-number, filled-more}
+use Rattle.dictionary_numbers.proofs.Numbering.{filled-number, filled-more}
 
 -- The kind of a term in a line.
 pub has-kind : (line : List ℕ) (from to : ℕ) (t : Text) → HasText line from to t → kindOf (t .bytes) ≡ t .kind

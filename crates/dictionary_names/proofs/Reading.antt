@@ -15,7 +15,8 @@ use Rattle.spec_ntriples.specs.Dictionary.{Entry, entry, entriesBytes, vocabula
 use Rattle.spec_ntriples.specs.Reading.{withText}
 use Rattle.spec_ntriples.proofs.KnownTexts.{HasTerm, term-in-added}
 use Rattle.dictionary_names.specs.inside.Naming.{HasNoSpace}
-use Rattle.dictionary_names.proofs.Raising.{too-many, too-long}
+use Rattle.dictionary_numbers.proofs.Numbering.{too-many}
+use Rattle.dictionary_names.proofs.Room.{too-long}
 
 -- A text that is no vocabulary URI's and that none of the entries ds before a segment's has.
 module _ (ds es : List Entry) (t : Text) (T : Each HasTerm ds) (v : vocabularyOf (t .bytes) ≡ 0) (n : termIn ds (t .bytes) ≡ 0) where

@@ -1,3 +1,2 @@
 pub mod IndexOf
-pub mod Numbers
 pub mod Naming

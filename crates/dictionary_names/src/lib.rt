@@ -8,13 +8,15 @@ use dictionary_index::FARTHEST;
 use dictionary_index::MOST_ENTRIES;
 use dictionary_index::Search;
 use dictionary_index::find_token;
+use dictionary_numbers::NUMBERS;
+use dictionary_numbers::filled_on;
+use dictionary_numbers::number_of;
 use ntriples_text::kind_of;
 use ntriples_text::text_hash;
 use ntriples_text::text_length;
 ghost use mathlib.Core.Path.{_≡_};
 ghost use mathlib.Core.List.{List};
-ghost use Prim.Native.Nat.{ℕ, _+_, _^_, _≤_, _<_};
-ghost use lib.ListN.{length};
+ghost use Prim.Native.Nat.{ℕ, _+_, _≤_, _<_};
 ghost use lib.Dec.{leb};
 ghost use Rattle.spec_ntriples.specs.Texts.{Text};
 ghost use Rattle.spec_ntriples.specs.Dictionary.{Entry, termIn};
@@ -23,7 +25,6 @@ ghost use Rattle.ntriples_text.specs.inside.Tokens.{IsToken};
 ghost use Rattle.dictionary_bytes.specs.inside.Hashes.{homeOf};
 ghost use Rattle.dictionary_index.specs.inside.Index.{LeadWithin, FreeAt, Searched};
 ghost use Rattle.dictionary_names.specs.inside.IndexOf.{IndexOf};
-ghost use Rattle.dictionary_names.specs.inside.Numbers.{numberOf, raised};
 ghost use Rattle.dictionary_names.specs.inside.Naming.{LastSegment, CanName, CanAdd, NamedIn};
 
 // What naming a text gives: the term of an entry that has it; a new term, and how far the dictionary is filled then; that a new segment has to
@@ -34,9 +35,6 @@ pub enum Named {
     Full,
     NoSpace,
 }
-
-// A kind has fewer numbers than this.
-const NUMBERS: u32 = 1073741824;
 
 // Searches for a text in a line, from the slot of its hash on, in the index of a segment that begins at first.
 fn search_index(
@@ -72,48 +70,6 @@ pub fn find_term(
         Search::Found(at) => term_at(dictionary, at),
         Search::Free(_) => 0,
         Search::Past => 0,
-    }
-}
-
-// The next number of a kind.
-fn number_of(f: Filled, kind: u32) -> u32
-    ensures { λ r. ⌜ r ≡ numberOf f kind ⌝ }
-{
-    if kind == 0 {
-        return f.uris;
-    }
-    if kind == 1 {
-        return f.blanks;
-    }
-    f.literals
-}
-
-// How far a dictionary is filled with a text of a kind more, up to an end.
-fn filled_on(f: Filled, kind: u32, end: usize) -> Filled
-    requires { ⌜ numberOf f kind < 2 ^ 30 ⌝ }
-    ensures { λ r. ⌜ r ≡ raised f kind end ⌝ }
-{
-    if kind == 0 {
-        return Filled {
-            end,
-            uris: f.uris + 1,
-            blanks: f.blanks,
-            literals: f.literals,
-        };
-    }
-    if kind == 1 {
-        return Filled {
-            end,
-            uris: f.uris,
-            blanks: f.blanks + 1,
-            literals: f.literals,
-        };
-    }
-    Filled {
-        end,
-        uris: f.uris,
-        blanks: f.blanks,
-        literals: f.literals + 1,
     }
 }
 

@@ -1,13 +1,15 @@
 -- Laws of texts that are read as terms. Assumes nothing.
 use Prim.Native.Nat.{ℕ, _≤_, _<_}
 use mathlib.Core.Path.{_≡_, refl, sym, ap, _∙_}
-use mathlib.Core.Bool.{true, false}
+use mathlib.Core.Bool.{Bool, true, false, _||_}
 use mathlib.Core.List.{List, []}
 use native.Mathlib.Omega.{arith}
 use lib.ListN.{length, take, drop, drop-of-length-le}
 use lib.Seq.{take-length}
-use lib.Dec.{eqb}
+use lib.Dec.{eqb, ltb}
+use borrow.Author.Tests.{ltb-true}
 use Rattle.spec_ntriples.specs.Utf8.{Decoded, broken, decoded, decode}
+use Rattle.spec_ntriples.specs.Characters.{codes}
 use Rattle.spec_ntriples.specs.Texts.{Text, isSame}
 use Rattle.spec_ntriples.specs.Lines.{readObject}
 use Rattle.spec_ntriples.specs.Dictionary.{isNone, givesItself, decodesToItself, isCanonical, kindOf, vocabularyOf}
@@ -19,6 +21,8 @@ use Rattle.ntriples_terminals.specs.inside.Ends.{nowhere, behindRead, Ended}
 use Rattle.ntriples_lines.proofs.Lines.{Term, no-term, term-found, object-object}
 use Rattle.ntriples_document.proofs.Counting.{CharsOf}
 use Rattle.ntriples_text.specs.inside.Tokens.{IsToken}
+use Rattle.ntriples_text.proofs.Vocabulary.{place-none}
+use Rattle.dictionary_bytes.proofs.Same.{lengths-differ}
 
 -- ---- whether a text is canonical
 
@@ -86,3 +90,23 @@ module _ (t : List ℕ) (h : isCanonical t ≡ true) where
 
   pub own-vocabulary : (r : ℕ) → ((u : Text) → HasText t 0 (length t) u → r ≡ vocabularyOf (u .bytes)) → eqb r 0 ≡ eqb (vocabularyOf t) 0
   own-vocabulary r f = let I = itself t h in ap (λ (n : ℕ). eqb n 0) (f (I .term) (I .has) ∙ ap vocabularyOf (I .same))
+
+-- ---- texts of other lengths than the vocabulary's
+
+either : (a b : Bool) (n : ℕ) → (a || b) ≡ true → (a ≡ true → n < 44) → (b ≡ true → 52 < n) → (m : ℕ) → 44 ≤ m → m ≤ 52 → n ≡ m → ⊥
+either true b n e f g m h k q = omega (arith, f refl, h, q)
+either false b n e f g m h k q = omega (arith, g e, k, q)
+
+-- A text that is shorter or longer is none of it.
+pub no-vocabulary : (t : List ℕ) → (ltb (length t) 44 || ltb 52 (length t)) ≡ true → true ≡ eqb (vocabularyOf t) 0
+unfolding codes
+no-vocabulary t e =
+    let other : (m : ℕ) → 44 ≤ m → m ≤ 52 → length t ≡ m → ⊥ = either (ltb (length t) 44) (ltb 52 (length t)) (length t) e (ltb-true (length t) 44) (ltb-true 52 (length t)) in
+    let differ : (u : List ℕ) → 44 ≤ length u → length u ≤ 52 → isSame t u ≡ false = λ u h k. lengths-differ t u (other (length u) h k) in
+    ap (λ (n : ℕ). eqb n 0)
+    (place-none t _ _ _ _ _
+    (differ (codes "<http://www.w3.org/1999/02/22-rdf-syntax-ns#type>") (omega arith) (omega arith))
+    (differ (codes "<http://www.w3.org/2000/01/rdf-schema#subClassOf>") (omega arith) (omega arith))
+    (differ (codes "<http://www.w3.org/2000/01/rdf-schema#subPropertyOf>") (omega arith) (omega arith))
+    (differ (codes "<http://www.w3.org/2000/01/rdf-schema#domain>") (omega arith) (omega arith))
+    (differ (codes "<http://www.w3.org/2000/01/rdf-schema#range>") (omega arith) (omega arith)))

@@ -54,7 +54,11 @@ is-own-text-requires c κs = search needs
 
 -- src/lib.rt:97:9
 returns-2 : tie.Need-returns-2
-returns-2 c = asked-text (c .before .before .before .before .before .before .args .dictionary .now) (c .before .before .before .before .before .before .args .f) (c .before .before .before .before .before .before .pre .0) (c .before .before .before .before .before .before .pre .1) (c .before .before .before .before .length-at .result) (c .before .before .before .before .length-at .ensures) (omega (arith, c .before .before .before .before .before .before .pre .1 .header, c .before .before .before .if1 .left)) (sym (c .before .is-own-text .ensures) ∙ not-true _ (c .if2 .taken))
+returns-2 c =
+    let start = c .before .before .before .before .before .before in
+    let after-length-at = c .before .before .before .before in
+    let after-if1 = c .before .before .before in
+    asked-text (start .args .dictionary .now) (start .args .f) (start .pre .0) (start .pre .1) (after-length-at .length-at .result) (after-length-at .length-at .ensures) (omega (arith, start .pre .1 .header, after-if1 .if1 .left)) (sym (c .before .is-own-text .ensures) ∙ not-true _ (c .if2 .taken))
 
 -- src/lib.rt:99:26
 sub-text-kind : tie.Need-sub-text-kind
@@ -78,7 +82,13 @@ number-of-requires c κs = search needs
 
 -- src/lib.rt:102:9
 returns-3 : tie.Need-returns-3
-returns-3 c = asked-number (c .before .before .before .before .before .before .before .before .before .before .args .dictionary .now) (c .before .before .before .before .before .before .before .before .before .before .args .f) (c .before .before .before .before .before .before .before .before .before .before .pre .0) (c .before .before .before .before .before .before .before .before .before .before .pre .1) (c .before .before .before .before .before .before .before .before .length-at .result) (c .before .before .before .before .before .before .before .before .length-at .ensures) (omega (arith, c .before .before .before .before .before .before .before .before .before .before .pre .1 .header, c .before .before .before .before .before .before .before .if1 .left)) (c .before .before .text-kind .result) (c .before .number-of .result) (c .before .before .text-kind .ensures) (c .before .number-of .ensures) (c .if3 .taken)
+returns-3 c =
+    let start = c .before .before .before .before .before .before .before .before .before .before in
+    let after-length-at = c .before .before .before .before .before .before .before .before in
+    let after-if1 = c .before .before .before .before .before .before .before in
+    let after-text-kind = c .before .before in
+    let after-number-of = c .before in
+    asked-number (start .args .dictionary .now) (start .args .f) (start .pre .0) (start .pre .1) (after-length-at .length-at .result) (after-length-at .length-at .ensures) (omega (arith, start .pre .1 .header, after-if1 .if1 .left)) (after-text-kind .text-kind .result) (after-number-of .number-of .result) (after-text-kind .text-kind .ensures) (after-number-of .number-of .ensures) (c .if3 .taken)
 
 -- src/lib.rt:104:8
 term-at-requires : tie.Need-term-at-requires
@@ -86,23 +96,59 @@ term-at-requires c κs = search needs
 
 -- src/lib.rt:104:35
 mul-if4 : tie.Need-mul-if4
-mul-if4 c = omega (arith, asked-kind (c .before .before .before .before .before .before .before .before .before .before .before .args .dictionary .now) (c .before .before .before .before .before .before .before .before .before .before .before .args .f) (c .before .before .before .before .before .before .before .before .before .before .before .pre .0) (c .before .before .before .before .before .before .before .before .before .before .before .pre .1) (c .before .before .before .before .before .before .before .before .before .length-at .result) (c .before .before .before .before .before .before .before .before .before .length-at .ensures) (omega (arith, c .before .before .before .before .before .before .before .before .before .before .before .pre .1 .header, c .before .before .before .before .before .before .before .before .if1 .left)) (c .before .before .before .text-kind .result) (c .before .before .number-of .result) (c .before .before .before .text-kind .ensures) (c .before .before .number-of .ensures))
+mul-if4 c =
+    let start = c .before .before .before .before .before .before .before .before .before .before .before in
+    let after-length-at = c .before .before .before .before .before .before .before .before .before in
+    let after-if1 = c .before .before .before .before .before .before .before .before in
+    let after-text-kind = c .before .before .before in
+    let after-number-of = c .before .before in
+    omega (arith, asked-kind (start .args .dictionary .now) (start .args .f) (start .pre .0) (start .pre .1) (after-length-at .length-at .result) (after-length-at .length-at .ensures) (omega (arith, start .pre .1 .header, after-if1 .if1 .left)) (after-text-kind .text-kind .result) (after-number-of .number-of .result) (after-text-kind .text-kind .ensures) (after-number-of .number-of .ensures))
 
 -- src/lib.rt:104:35
 add-if4 : tie.Need-add-if4
-add-if4 c = omega (arith, asked-kind (c .before .before .before .before .before .before .before .before .before .before .before .args .dictionary .now) (c .before .before .before .before .before .before .before .before .before .before .before .args .f) (c .before .before .before .before .before .before .before .before .before .before .before .pre .0) (c .before .before .before .before .before .before .before .before .before .before .before .pre .1) (c .before .before .before .before .before .before .before .before .before .length-at .result) (c .before .before .before .before .before .before .before .before .before .length-at .ensures) (omega (arith, c .before .before .before .before .before .before .before .before .before .before .before .pre .1 .header, c .before .before .before .before .before .before .before .before .if1 .left)) (c .before .before .before .text-kind .result) (c .before .before .number-of .result) (c .before .before .before .text-kind .ensures) (c .before .before .number-of .ensures), asked-most (c .before .before .before .before .before .before .before .before .before .before .before .args .dictionary .now) (c .before .before .before .before .before .before .before .before .before .before .before .args .f) (c .before .before .before .before .before .before .before .before .before .before .before .pre .0) (c .before .before .before .before .before .before .before .before .before .before .before .pre .1) (c .before .before .before .before .before .before .before .before .before .length-at .result) (c .before .before .before .before .before .before .before .before .before .length-at .ensures) (omega (arith, c .before .before .before .before .before .before .before .before .before .before .before .pre .1 .header, c .before .before .before .before .before .before .before .before .if1 .left)) (c .before .before .before .text-kind .result) (c .before .before .number-of .result) (c .before .before .before .text-kind .ensures) (c .before .before .number-of .ensures))
+add-if4 c =
+    let start = c .before .before .before .before .before .before .before .before .before .before .before in
+    let after-length-at = c .before .before .before .before .before .before .before .before .before in
+    let after-if1 = c .before .before .before .before .before .before .before .before in
+    let after-text-kind = c .before .before .before in
+    let after-number-of = c .before .before in
+    omega (arith, asked-kind (start .args .dictionary .now) (start .args .f) (start .pre .0) (start .pre .1) (after-length-at .length-at .result) (after-length-at .length-at .ensures) (omega (arith, start .pre .1 .header, after-if1 .if1 .left)) (after-text-kind .text-kind .result) (after-number-of .number-of .result) (after-text-kind .text-kind .ensures) (after-number-of .number-of .ensures), asked-most (start .args .dictionary .now) (start .args .f) (start .pre .0) (start .pre .1) (after-length-at .length-at .result) (after-length-at .length-at .ensures) (omega (arith, start .pre .1 .header, after-if1 .if1 .left)) (after-text-kind .text-kind .result) (after-number-of .number-of .result) (after-text-kind .text-kind .ensures) (after-number-of .number-of .ensures))
 
 -- src/lib.rt:105:9
 returns-4 : tie.Need-returns-4
-returns-4 c = asked-term (c .before .before .before .before .before .before .before .before .before .before .before .before .args .dictionary .now) (c .before .before .before .before .before .before .before .before .before .before .before .before .args .f) (c .before .before .before .before .before .before .before .before .before .before .before .before .pre .0) (c .before .before .before .before .before .before .before .before .before .before .before .before .pre .1) (c .before .before .before .before .before .before .before .before .before .before .length-at .result) (c .before .before .before .before .before .before .before .before .before .before .length-at .ensures) (omega (arith, c .before .before .before .before .before .before .before .before .before .before .before .before .pre .1 .header, c .before .before .before .before .before .before .before .before .before .if1 .left)) (c .before .before .before .before .text-kind .result) (c .before .before .before .number-of .result) (c .before .before .before .before .text-kind .ensures) (c .before .before .before .number-of .ensures) (c .before .term-at .result) (c .before .term-at .ensures) (c .if4 .taken)
+returns-4 c =
+    let start = c .before .before .before .before .before .before .before .before .before .before .before .before in
+    let after-length-at = c .before .before .before .before .before .before .before .before .before .before in
+    let after-if1 = c .before .before .before .before .before .before .before .before .before in
+    let after-text-kind = c .before .before .before .before in
+    let after-number-of = c .before .before .before in
+    let after-term-at = c .before in
+    asked-term (start .args .dictionary .now) (start .args .f) (start .pre .0) (start .pre .1) (after-length-at .length-at .result) (after-length-at .length-at .ensures) (omega (arith, start .pre .1 .header, after-if1 .if1 .left)) (after-text-kind .text-kind .result) (after-number-of .number-of .result) (after-text-kind .text-kind .ensures) (after-number-of .number-of .ensures) (after-term-at .term-at .result) (after-term-at .term-at .ensures) (c .if4 .taken)
 
 -- src/lib.rt:107:20
 filled-on-requires : tie.Need-filled-on-requires
-filled-on-requires c κs = omega (arith, asked-most (c .before .before .before .before .before .before .before .before .before .before .before .before .args .dictionary .now) (c .before .before .before .before .before .before .before .before .before .before .before .before .args .f) (c .before .before .before .before .before .before .before .before .before .before .before .before .pre .0) (c .before .before .before .before .before .before .before .before .before .before .before .before .pre .1) (c .before .before .before .before .before .before .before .before .before .before .length-at .result) (c .before .before .before .before .before .before .before .before .before .before .length-at .ensures) (omega (arith, c .before .before .before .before .before .before .before .before .before .before .before .before .pre .1 .header, c .before .before .before .before .before .before .before .before .before .if1 .left)) (c .before .before .before .before .text-kind .result) (c .before .before .before .number-of .result) (c .before .before .before .before .text-kind .ensures) (c .before .before .before .number-of .ensures), c .before .before .if3 .left, c .before .before .before .number-of .ensures)
+filled-on-requires c κs =
+    let start = c .before .before .before .before .before .before .before .before .before .before .before .before in
+    let after-length-at = c .before .before .before .before .before .before .before .before .before .before in
+    let after-if1 = c .before .before .before .before .before .before .before .before .before in
+    let after-text-kind = c .before .before .before .before in
+    let after-number-of = c .before .before .before in
+    omega (arith, asked-most (start .args .dictionary .now) (start .args .f) (start .pre .0) (start .pre .1) (after-length-at .length-at .result) (after-length-at .length-at .ensures) (omega (arith, start .pre .1 .header, after-if1 .if1 .left)) (after-text-kind .text-kind .result) (after-number-of .number-of .result) (after-text-kind .text-kind .ensures) (after-number-of .number-of .ensures), c .before .before .if3 .left, after-number-of .number-of .ensures)
 
 -- src/lib.rt:84:1
 returns-5 : tie.Need-returns-5
-returns-5 c = asked-right (c .before .before .before .before .before .before .before .before .before .before .before .before .before .args .dictionary .now) (c .before .before .before .before .before .before .before .before .before .before .before .before .before .args .f) (c .before .before .before .before .before .before .before .before .before .before .before .before .before .pre .0) (c .before .before .before .before .before .before .before .before .before .before .before .before .before .pre .1) (c .before .before .before .before .before .before .before .before .before .before .before .length-at .result) (c .before .before .before .before .before .before .before .before .before .before .before .length-at .ensures) (omega (arith, c .before .before .before .before .before .before .before .before .before .before .before .before .before .pre .1 .header, c .before .before .before .before .before .before .before .before .before .before .if1 .left)) (c .before .before .before .before .before .text-kind .result) (c .before .before .before .before .number-of .result) (c .before .before .before .before .before .text-kind .ensures) (c .before .before .before .before .number-of .ensures) (c .before .before .term-at .result) (c .before .before .term-at .ensures) (λ i. omega (arith, c .before .before .before .before .before .before .before .before .before .before .before .before .shared-slice-known .given i)) (sym (c .before .before .before .before .before .before .before .before .is-own-text .ensures) ∙ not-false _ (c .before .before .before .before .before .before .before .if2 .left)) (c .before .before .before .if3 .left) (c .before .if4 .left) (c .filled-on .result) (c .filled-on .ensures)
+returns-5 c =
+    let start = c .before .before .before .before .before .before .before .before .before .before .before .before .before in
+    let after-shared-slice-known = c .before .before .before .before .before .before .before .before .before .before .before .before in
+    let after-length-at = c .before .before .before .before .before .before .before .before .before .before .before in
+    let after-if1 = c .before .before .before .before .before .before .before .before .before .before in
+    let after-is-own-text = c .before .before .before .before .before .before .before .before in
+    let after-if2 = c .before .before .before .before .before .before .before in
+    let after-text-kind = c .before .before .before .before .before in
+    let after-number-of = c .before .before .before .before in
+    let after-if3 = c .before .before .before in
+    let after-term-at = c .before .before in
+    asked-right (start .args .dictionary .now) (start .args .f) (start .pre .0) (start .pre .1) (after-length-at .length-at .result) (after-length-at .length-at .ensures) (omega (arith, start .pre .1 .header, after-if1 .if1 .left)) (after-text-kind .text-kind .result) (after-number-of .number-of .result) (after-text-kind .text-kind .ensures) (after-number-of .number-of .ensures) (after-term-at .term-at .result) (after-term-at .term-at .ensures) (λ i. omega (arith, after-shared-slice-known .shared-slice-known .given i)) (sym (after-is-own-text .is-own-text .ensures) ∙ not-false _ (after-if2 .if2 .left)) (after-if3 .if3 .left) (c .before .if4 .left) (c .filled-on .result) (c .filled-on .ensures)
 
 pub next-entry-spec : {M : Type 1} → statement M
 next-entry-spec =

@@ -28,7 +28,12 @@ returns-2 c = text-repeats (c .before .before .before .before .before .args .dic
 
 -- src/lib.rt:147:1
 returns-3 : tie.Need-returns-3
-returns-3 c = (is-dictionary (c .before .before .before .before .before .args .dictionary .now) (c .before .before .before .before .before .args .f) (c .before .before .before .before .before .pre) (sym (c .before .before .before .are-bytes-zero .ensures) ∙ not-false _ (c .before .before .if1 .left)) (rw (not-false (c .before .are-distinct .result) (c .if2 .left)) at (c .before .are-distinct .ensures)), is-filled (c .before .before .before .before .before .args .dictionary .now) (c .before .before .before .before .before .args .f) (c .before .before .before .before .before .pre) (sym (c .before .before .before .are-bytes-zero .ensures) ∙ not-false _ (c .before .before .if1 .left)) (rw (not-false (c .before .are-distinct .result) (c .if2 .left)) at (c .before .are-distinct .ensures)) (omega arith))
+returns-3 c =
+    let start = c .before .before .before .before .before in
+    let after-are-bytes-zero = c .before .before .before in
+    let after-if1 = c .before .before in
+    let after-are-distinct = c .before in
+    (is-dictionary (start .args .dictionary .now) (start .args .f) (start .pre) (sym (after-are-bytes-zero .are-bytes-zero .ensures) ∙ not-false _ (after-if1 .if1 .left)) (rw (not-false (after-are-distinct .are-distinct .result) (c .if2 .left)) at (after-are-distinct .are-distinct .ensures)), is-filled (start .args .dictionary .now) (start .args .f) (start .pre) (sym (after-are-bytes-zero .are-bytes-zero .ensures) ∙ not-false _ (after-if1 .if1 .left)) (rw (not-false (after-are-distinct .are-distinct .result) (c .if2 .left)) at (after-are-distinct .are-distinct .ensures)) (omega arith))
 
 pub settle-spec : {M : Type 1} → statement M
 settle-spec =

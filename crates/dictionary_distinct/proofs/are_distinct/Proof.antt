@@ -27,7 +27,10 @@ enum-told c = search needs
 
 -- src/lib.rt:85:17
 returns : tie.Need-returns Inv-loop μ-loop
-returns c = compared-repeat (c .before .before .before .before .before .before .args .dictionary .now) (c .before .before .before .before .before .before .args .last) (c .before .before .before .before .loop .first) (c .before .before .before .before .loop .inv) (rw (c .enum-told .given .1) at (c .before .before .next-segment .ensures))
+returns c =
+    let start = c .before .before .before .before .before .before in
+    let turn = c .before .before .before .before in
+    compared-repeat (start .args .dictionary .now) (start .args .last) (turn .loop .first) (turn .loop .inv) (rw (c .enum-told .given .1) at (c .before .before .next-segment .ensures))
 
 -- src/lib.rt:87:26
 enum-known-end : tie.Need-enum-known-end Inv-loop μ-loop
@@ -35,11 +38,19 @@ enum-known-end c = search needs
 
 -- src/lib.rt:82:5
 loop-less : tie.Need-loop-less Inv-loop μ-loop
-loop-less c = apart-less (c .before .before .before .before .before .before .before .args .dictionary .now) (c .before .before .before .before .before .loop .first) (c .before .before .before .before .before .before .before .args .last) _ (rw (c .before .end .given .1) at (c .before .before .before .next-segment .ensures))
+loop-less c =
+    let start = c .before .before .before .before .before .before .before in
+    let turn = c .before .before .before .before .before in
+    let after-next-segment = c .before .before .before in
+    apart-less (start .args .dictionary .now) (turn .loop .first) (start .args .last) _ (rw (c .before .end .given .1) at (after-next-segment .next-segment .ensures))
 
 -- src/lib.rt:82:5
 loop-again : tie.Need-loop-again Inv-loop μ-loop
-loop-again c = compared-more (c .before .before .before .before .before .before .before .args .dictionary .now) (c .before .before .before .before .before .before .before .args .last) (c .before .before .before .before .before .loop .first) (c .before .before .before .before .before .loop .inv) _ (rw (c .before .end .given .1) at (c .before .before .before .next-segment .ensures))
+loop-again c =
+    let start = c .before .before .before .before .before .before .before in
+    let turn = c .before .before .before .before .before in
+    let after-next-segment = c .before .before .before in
+    compared-more (start .args .dictionary .now) (start .args .last) (turn .loop .first) (turn .loop .inv) _ (rw (c .before .end .given .1) at (after-next-segment .next-segment .ensures))
 
 -- src/lib.rt:77:1
 returns-2 : tie.Need-returns-2 Inv-loop μ-loop

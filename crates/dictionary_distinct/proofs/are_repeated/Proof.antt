@@ -20,35 +20,62 @@ loop-holds c = passing-none (c .before .before .args .slots .now) (c .before .be
 
 -- src/lib.rt:54:12
 is-repeated-requires : tie.Need-is-repeated-requires Inv-loop μ-loop
-is-repeated-requires c κs = (c .before .before .before .before .pre .0, omega (arith, (passing-within (c .before .before .before .before .args .slots .now) (c .before .before .before .before .args .dictionary .now) (c .before .before .before .before .args .first) (c .before .before .before .before .args .from) (c .before .before .before .before .args .last) (c .before .loop .at) (c .before .loop .inv) (c .before .before .before .before .pre .1) (c .loop-test .taken)), c .before .before .before .before .pre .1 .within))
+is-repeated-requires c κs =
+    let start = c .before .before .before .before in
+    let turn = c .before in
+    (start .pre .0, omega (arith, (passing-within (start .args .slots .now) (start .args .dictionary .now) (start .args .first) (start .args .from) (start .args .last) (turn .loop .at) (turn .loop .inv) (start .pre .1) (c .loop-test .taken)), start .pre .1 .within))
 
 -- src/lib.rt:55:13
 returns : tie.Need-returns Inv-loop μ-loop
-returns c = λ k X. passing-repeats (c .before .before .before .before .before .before .args .slots .now) (c .before .before .before .before .before .before .args .dictionary .now) (c .before .before .before .before .before .before .args .first) (c .before .before .before .before .before .before .args .from) (c .before .before .before .before .before .before .args .last) (c .before .before .before .loop .at) (c .before .before .before .loop .inv) (c .before .before .before .before .before .before .pre .1) (c .before .before .loop-test .taken) k (rw (c .if1 .taken) at (c .before .is-repeated .ensures k X))
+returns c =
+    let start = c .before .before .before .before .before .before in
+    let turn = c .before .before .before in
+    λ k X. passing-repeats (start .args .slots .now) (start .args .dictionary .now) (start .args .first) (start .args .from) (start .args .last) (turn .loop .at) (turn .loop .inv) (start .pre .1) (c .before .before .loop-test .taken) k (rw (c .if1 .taken) at (c .before .is-repeated .ensures k X))
 
 -- src/lib.rt:57:14
 add-at : tie.Need-add-at Inv-loop μ-loop
-add-at c = omega (arith, (passing-within (c .before .before .before .before .before .before .args .slots .now) (c .before .before .before .before .before .before .args .dictionary .now) (c .before .before .before .before .before .before .args .first) (c .before .before .before .before .before .before .args .from) (c .before .before .before .before .before .before .args .last) (c .before .before .before .loop .at) (c .before .before .before .loop .inv) (c .before .before .before .before .before .before .pre .1) (c .before .before .loop-test .taken)), c .before .before .before .before .before .before .pre .1 .within)
+add-at c =
+    let start = c .before .before .before .before .before .before in
+    let turn = c .before .before .before in
+    omega (arith, (passing-within (start .args .slots .now) (start .args .dictionary .now) (start .args .first) (start .args .from) (start .args .last) (turn .loop .at) (turn .loop .inv) (start .pre .1) (c .before .before .loop-test .taken)), start .pre .1 .within)
 
 -- src/lib.rt:57:28
 length-at-requires : tie.Need-length-at-requires Inv-loop μ-loop
-length-at-requires c κs = omega (arith, (passing-within (c .before .before .before .before .before .before .args .slots .now) (c .before .before .before .before .before .before .args .dictionary .now) (c .before .before .before .before .before .before .args .first) (c .before .before .before .before .before .before .args .from) (c .before .before .before .before .before .before .args .last) (c .before .before .before .loop .at) (c .before .before .before .loop .inv) (c .before .before .before .before .before .before .pre .1) (c .before .before .loop-test .taken)), c .before .before .before .before .before .before .pre .1 .within)
+length-at-requires c κs =
+    let start = c .before .before .before .before .before .before in
+    let turn = c .before .before .before in
+    omega (arith, (passing-within (start .args .slots .now) (start .args .dictionary .now) (start .args .first) (start .args .from) (start .args .last) (turn .loop .at) (turn .loop .inv) (start .pre .1) (c .before .before .loop-test .taken)), start .pre .1 .within)
 
 -- src/lib.rt:57:14
 add-at-2 : tie.Need-add-at-2 Inv-loop μ-loop
-add-at-2 c = omega (arith, (passing-within (c .before .before .before .before .before .before .before .args .slots .now) (c .before .before .before .before .before .before .before .args .dictionary .now) (c .before .before .before .before .before .before .before .args .first) (c .before .before .before .before .before .before .before .args .from) (c .before .before .before .before .before .before .before .args .last) (c .before .before .before .before .loop .at) (c .before .before .before .before .loop .inv) (c .before .before .before .before .before .before .before .pre .1) (c .before .before .before .loop-test .taken)), c .before .before .before .before .before .before .before .pre .1 .within, c .length-at .ensures)
+add-at-2 c =
+    let start = c .before .before .before .before .before .before .before in
+    let turn = c .before .before .before .before in
+    let after-loop-test = c .before .before .before in
+    omega (arith, (passing-within (start .args .slots .now) (start .args .dictionary .now) (start .args .first) (start .args .from) (start .args .last) (turn .loop .at) (turn .loop .inv) (start .pre .1) (after-loop-test .loop-test .taken)), start .pre .1 .within, c .length-at .ensures)
 
 -- src/lib.rt:53:5
 loop-less : tie.Need-loop-less Inv-loop μ-loop
-loop-less c = omega (arith, (passing-within (c .before .before .before .before .before .before .before .args .slots .now) (c .before .before .before .before .before .before .before .args .dictionary .now) (c .before .before .before .before .before .before .before .args .first) (c .before .before .before .before .before .before .before .args .from) (c .before .before .before .before .before .before .before .args .last) (c .before .before .before .before .loop .at) (c .before .before .before .before .loop .inv) (c .before .before .before .before .before .before .before .pre .1) (c .before .before .before .loop-test .taken)), c .length-at .ensures)
+loop-less c =
+    let start = c .before .before .before .before .before .before .before in
+    let turn = c .before .before .before .before in
+    let after-loop-test = c .before .before .before in
+    omega (arith, (passing-within (start .args .slots .now) (start .args .dictionary .now) (start .args .first) (start .args .from) (start .args .last) (turn .loop .at) (turn .loop .inv) (start .pre .1) (after-loop-test .loop-test .taken)), c .length-at .ensures)
 
 -- src/lib.rt:53:5
 loop-again : tie.Need-loop-again Inv-loop μ-loop
-loop-again c = rw (c .length-at .ensures) (passing-more (c .before .before .before .before .before .before .before .args .slots .now) (c .before .before .before .before .before .before .before .args .dictionary .now) (c .before .before .before .before .before .before .before .args .first) (c .before .before .before .before .before .before .before .args .from) (c .before .before .before .before .before .before .before .args .last) (c .before .before .before .before .loop .at) (c .before .before .before .before .loop .inv) (c .before .before .before .before .before .before .before .pre .1) (c .before .before .before .loop-test .taken) (λ k X. rw (c .before .if1 .left) at (c .before .before .is-repeated .ensures k X)))
+loop-again c =
+    let start = c .before .before .before .before .before .before .before in
+    let turn = c .before .before .before .before in
+    let after-loop-test = c .before .before .before in
+    rw (c .length-at .ensures) (passing-more (start .args .slots .now) (start .args .dictionary .now) (start .args .first) (start .args .from) (start .args .last) (turn .loop .at) (turn .loop .inv) (start .pre .1) (after-loop-test .loop-test .taken) (λ k X. rw (c .before .if1 .left) at (c .before .before .is-repeated .ensures k X)))
 
 -- src/lib.rt:47:1
 returns-2 : tie.Need-returns-2 Inv-loop μ-loop
-returns-2 c = passing-all (c .before .before .before .before .args .slots .now) (c .before .before .before .before .args .dictionary .now) (c .before .before .before .before .args .first) (c .before .before .before .before .args .from) (c .before .before .before .before .args .last) (c .before .loop .at) (c .before .loop .inv) (c .loop-test .left)
+returns-2 c =
+    let start = c .before .before .before .before in
+    let turn = c .before in
+    passing-all (start .args .slots .now) (start .args .dictionary .now) (start .args .first) (start .args .from) (start .args .last) (turn .loop .at) (turn .loop .inv) (c .loop-test .left)
 
 pub are-repeated-spec : {M : Type 1} → statement M
 are-repeated-spec =

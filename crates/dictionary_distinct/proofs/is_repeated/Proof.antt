@@ -44,15 +44,33 @@ enum-told-3 c = search needs
 
 -- src/lib.rt:31:1
 returns : tie.Need-returns
-returns c = λ k X. found-repeats (c .before .before .before .before .before .before .before .before .args .slots .now) (c .before .before .before .before .before .before .before .before .args .dictionary .now) (c .before .before .before .before .before .before .before .before .args .first) k (c .before .before .before .before .before .before .before .before .args .at) X _ (search-entry (c .before .before .before .before .before .before .before .before .args .slots .now) (c .before .before .before .before .before .before .before .before .args .dictionary .now) (c .before .before .before .before .before .before .before .before .args .first) (c .before .before .before .before .before .before .before .before .args .at) (c .before .before .before .before .before .length-at .result) (c .before .before .before .before .hash-from .result) (c .before .before .before .slot-of .result) (c .before .before .find-text .result) _ (c .enum-told .given .1) (c .before .before .before .before .before .length-at .ensures) (c .before .before .before .before .hash-from .ensures .0) (c .before .before .before .slot-of .ensures) (c .before .before .find-text .ensures))
+returns c =
+    let start = c .before .before .before .before .before .before .before .before in
+    let after-length-at = c .before .before .before .before .before in
+    let after-hash-from = c .before .before .before .before in
+    let after-slot-of = c .before .before .before in
+    let after-find-text = c .before .before in
+    λ k X. found-repeats (start .args .slots .now) (start .args .dictionary .now) (start .args .first) k (start .args .at) X _ (search-entry (start .args .slots .now) (start .args .dictionary .now) (start .args .first) (start .args .at) (after-length-at .length-at .result) (after-hash-from .hash-from .result) (after-slot-of .slot-of .result) (after-find-text .find-text .result) _ (c .enum-told .given .1) (after-length-at .length-at .ensures) (after-hash-from .hash-from .ensures .0) (after-slot-of .slot-of .ensures) (after-find-text .find-text .ensures))
 
 -- src/lib.rt:31:1
 returns-2 : tie.Need-returns-2
-returns-2 c = λ k X. free-none (c .before .before .before .before .before .before .before .before .args .slots .now) (c .before .before .before .before .before .before .before .before .args .dictionary .now) (c .before .before .before .before .before .before .before .before .args .first) k (c .before .before .before .before .before .before .before .before .args .at) X _ (search-entry (c .before .before .before .before .before .before .before .before .args .slots .now) (c .before .before .before .before .before .before .before .before .args .dictionary .now) (c .before .before .before .before .before .before .before .before .args .first) (c .before .before .before .before .before .before .before .before .args .at) (c .before .before .before .before .before .length-at .result) (c .before .before .before .before .hash-from .result) (c .before .before .before .slot-of .result) (c .before .before .find-text .result) _ (c .enum-told2 .given .1) (c .before .before .before .before .before .length-at .ensures) (c .before .before .before .before .hash-from .ensures .0) (c .before .before .before .slot-of .ensures) (c .before .before .find-text .ensures))
+returns-2 c =
+    let start = c .before .before .before .before .before .before .before .before in
+    let after-length-at = c .before .before .before .before .before in
+    let after-hash-from = c .before .before .before .before in
+    let after-slot-of = c .before .before .before in
+    let after-find-text = c .before .before in
+    λ k X. free-none (start .args .slots .now) (start .args .dictionary .now) (start .args .first) k (start .args .at) X _ (search-entry (start .args .slots .now) (start .args .dictionary .now) (start .args .first) (start .args .at) (after-length-at .length-at .result) (after-hash-from .hash-from .result) (after-slot-of .slot-of .result) (after-find-text .find-text .result) _ (c .enum-told2 .given .1) (after-length-at .length-at .ensures) (after-hash-from .hash-from .ensures .0) (after-slot-of .slot-of .ensures) (after-find-text .find-text .ensures))
 
 -- src/lib.rt:31:1
 returns-3 : tie.Need-returns-3
-returns-3 c = λ k X. past-none (c .before .before .before .before .before .before .before .before .args .slots .now) (c .before .before .before .before .before .before .before .before .args .dictionary .now) (c .before .before .before .before .before .before .before .before .args .first) k (c .before .before .before .before .before .before .before .before .args .at) X (search-entry (c .before .before .before .before .before .before .before .before .args .slots .now) (c .before .before .before .before .before .before .before .before .args .dictionary .now) (c .before .before .before .before .before .before .before .before .args .first) (c .before .before .before .before .before .before .before .before .args .at) (c .before .before .before .before .before .length-at .result) (c .before .before .before .before .hash-from .result) (c .before .before .before .slot-of .result) (c .before .before .find-text .result) _ (c .enum-told3 .given .1) (c .before .before .before .before .before .length-at .ensures) (c .before .before .before .before .hash-from .ensures .0) (c .before .before .before .slot-of .ensures) (c .before .before .find-text .ensures))
+returns-3 c =
+    let start = c .before .before .before .before .before .before .before .before in
+    let after-length-at = c .before .before .before .before .before in
+    let after-hash-from = c .before .before .before .before in
+    let after-slot-of = c .before .before .before in
+    let after-find-text = c .before .before in
+    λ k X. past-none (start .args .slots .now) (start .args .dictionary .now) (start .args .first) k (start .args .at) X (search-entry (start .args .slots .now) (start .args .dictionary .now) (start .args .first) (start .args .at) (after-length-at .length-at .result) (after-hash-from .hash-from .result) (after-slot-of .slot-of .result) (after-find-text .find-text .result) _ (c .enum-told3 .given .1) (after-length-at .length-at .ensures) (after-hash-from .hash-from .ensures .0) (after-slot-of .slot-of .ensures) (after-find-text .find-text .ensures))
 
 pub is-repeated-spec : {M : Type 1} → statement M
 is-repeated-spec =

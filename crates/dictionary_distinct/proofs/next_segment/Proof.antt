@@ -27,15 +27,24 @@ slice-aggregate-are-repeated c = search needs
 
 -- src/lib.rt:70:8
 are-repeated-requires : tie.Need-are-repeated-requires
-are-repeated-requires c κs = (index-within (c .before .before .index-segment .last .0) (c .before .before .before .before .before .before .args .dictionary .now) (c .before .before .before .before .before .before .args .first) (c .before .before .index-segment .result .count) ((c .before .before .index-segment .ensures) .index), behind-segment (c .before .before .index-segment .last .0) (c .before .before .before .before .before .before .args .dictionary .now) (c .before .before .before .before .before .before .args .first) (c .before .before .before .before .before .before .args .last) (c .before .before .before .before .before .before .pre .0) (c .before .before .before .before .before .before .pre .1) (c .before .before .index-segment .result) (c .before .before .index-segment .ensures))
+are-repeated-requires c κs =
+    let start = c .before .before .before .before .before .before in
+    let after-index-segment = c .before .before in
+    (index-within (after-index-segment .index-segment .last .0) (start .args .dictionary .now) (start .args .first) (after-index-segment .index-segment .result .count) ((after-index-segment .index-segment .ensures) .index), behind-segment (after-index-segment .index-segment .last .0) (start .args .dictionary .now) (start .args .first) (start .args .last) (start .pre .0) (start .pre .1) (after-index-segment .index-segment .result) (after-index-segment .index-segment .ensures))
 
 -- src/lib.rt:71:9
 returns : tie.Need-returns
-returns c = segment-repeats (c .before .before .before .before .index-segment .last .0) (c .before .before .before .before .before .before .before .before .args .dictionary .now) (c .before .before .before .before .before .before .before .before .args .first) (c .before .before .before .before .before .before .before .before .args .last) (c .before .before .before .before .before .before .before .before .pre .0) (c .before .before .before .before .before .before .before .before .pre .1) (c .before .before .before .before .index-segment .result) (c .before .before .before .before .index-segment .ensures) (rw (c .if1 .taken) at (c .before .are-repeated .ensures (c .before .before .before .before .index-segment .result .count) ((c .before .before .before .before .index-segment .ensures) .index)))
+returns c =
+    let start = c .before .before .before .before .before .before .before .before in
+    let after-index-segment = c .before .before .before .before in
+    segment-repeats (after-index-segment .index-segment .last .0) (start .args .dictionary .now) (start .args .first) (start .args .last) (start .pre .0) (start .pre .1) (after-index-segment .index-segment .result) (after-index-segment .index-segment .ensures) (rw (c .if1 .taken) at (c .before .are-repeated .ensures (after-index-segment .index-segment .result .count) ((after-index-segment .index-segment .ensures) .index)))
 
 -- src/lib.rt:63:1
 returns-2 : tie.Need-returns-2
-returns-2 c = segment-apart (c .before .before .before .before .index-segment .last .0) (c .before .before .before .before .before .before .before .before .args .dictionary .now) (c .before .before .before .before .before .before .before .before .args .first) (c .before .before .before .before .before .before .before .before .args .last) (c .before .before .before .before .before .before .before .before .pre .0) (c .before .before .before .before .before .before .before .before .pre .1) (c .before .before .before .before .index-segment .result) (c .before .before .before .before .index-segment .ensures) (rw (c .if1 .left) at (c .before .are-repeated .ensures (c .before .before .before .before .index-segment .result .count) ((c .before .before .before .before .index-segment .ensures) .index)))
+returns-2 c =
+    let start = c .before .before .before .before .before .before .before .before in
+    let after-index-segment = c .before .before .before .before in
+    segment-apart (after-index-segment .index-segment .last .0) (start .args .dictionary .now) (start .args .first) (start .args .last) (start .pre .0) (start .pre .1) (after-index-segment .index-segment .result) (after-index-segment .index-segment .ensures) (rw (c .if1 .left) at (c .before .are-repeated .ensures (after-index-segment .index-segment .result .count) ((after-index-segment .index-segment .ensures) .index)))
 
 pub next-segment-spec : {M : Type 1} → statement M
 next-segment-spec =

@@ -1,6 +1,6 @@
 use Prim.Native.Nat.{_-_}
 use borrow.Author.Needs.{needs}
-use Rattle.dictionary_names.proofs.Raising.{room-none, room-is}
+use Rattle.dictionary_names.proofs.Room.{room-none, room-is}
 use Rattle.dictionary_names.proofs.has_room.Statement.{statement}
 use Rattle.dictionary_names.proofs.has_room.Tie as tie
 use Rattle.dictionary_names.proofs.has_room.Reads as reads

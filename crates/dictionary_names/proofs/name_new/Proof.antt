@@ -6,16 +6,16 @@ use Prim.Native.Nat.{_*_}
 use mathlib.Core.List.{_++_}
 use lib.ListN.{length}
 use borrow.Author.Tests.{leb-true, not-true, not-false}
-use Rattle.dictionary_names.proofs.Raising.{number-most, number-least}
+use Rattle.dictionary_numbers.proofs.Numbering.{number-most, number-least}
 use Rattle.dictionary_names.proofs.Naming.{has-kind, kind-most, last-ends, last-within, named-numbers, named-room, named-new}
 use Rattle.dictionary_names.proofs.name_new.Statement.{statement}
 use Rattle.dictionary_names.proofs.name_new.Tie as tie
 use Rattle.dictionary_names.proofs.name_new.Reads as reads
 use Rattle.dictionary_names.proofs.name_new.Lts as lts
 use Rattle.dictionary_entries.proofs.write_entry.Reads as write-entry-reads
-use Rattle.dictionary_names.proofs.filled_on.Reads as filled-on-reads
+use Rattle.dictionary_numbers.proofs.filled_on.Reads as filled-on-reads
 use Rattle.dictionary_names.proofs.has_room.Reads as has-room-reads
-use Rattle.dictionary_names.proofs.number_of.Reads as number-of-reads
+use Rattle.dictionary_numbers.proofs.number_of.Reads as number-of-reads
 use Rattle.ntriples_text.proofs.kind_of.Reads as kind-of-reads
 use Rattle.ntriples_text.proofs.text_length.Reads as text-length-reads
 

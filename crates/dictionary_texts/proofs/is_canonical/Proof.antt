@@ -35,19 +35,39 @@ enum-known-end c = search needs
 
 -- src/lib.rt:24:17
 returns-2 : tie.Need-returns-2
-returns-2 c = more-text (c .before .before .before .before .before .before .before .before .args .text .now) (chars-of (decode (c .before .before .before .before .before .before .before .before .args .text .now)) (sym (c .before .before .before .before .before .before .is-utf8 .ensures) ∙ not-false _ (c .before .before .before .before .before .if1 .left))) _ (there (c .before .before .before .before .before .before .before .before .args .text .now) _ _ (c .before .before .before .before .object-end .ensures) _ (c .before .before .end .given .1)) (c .if2 .taken)
+returns-2 c =
+    let start = c .before .before .before .before .before .before .before .before in
+    let after-is-utf = c .before .before .before .before .before .before in
+    let after-if1 = c .before .before .before .before .before in
+    let after-object-end = c .before .before .before .before in
+    more-text (start .args .text .now) (chars-of (decode (start .args .text .now)) (sym (after-is-utf .is-utf8 .ensures) ∙ not-false _ (after-if1 .if1 .left))) _ (there (start .args .text .now) _ _ (after-object-end .object-end .ensures) _ (c .before .before .end .given .1)) (c .if2 .taken)
 
 -- src/lib.rt:26:13
 is-text-requires : tie.Need-is-text-requires
-is-text-requires c κs = (record { text = _; has = term-read (c .before .before .before .before .before .before .before .before .args .text .now) (chars-of (decode (c .before .before .before .before .before .before .before .before .args .text .now)) (sym (c .before .before .before .before .before .before .is-utf8 .ensures) ∙ not-false _ (c .before .before .before .before .before .if1 .left))) _ (there (c .before .before .before .before .before .before .before .before .args .text .now) _ _ (c .before .before .before .before .object-end .ensures) _ (c .before .before .end .given .1)) .has }, search needs)
+is-text-requires c κs =
+    let start = c .before .before .before .before .before .before .before .before in
+    let after-is-utf = c .before .before .before .before .before .before in
+    let after-if1 = c .before .before .before .before .before in
+    let after-object-end = c .before .before .before .before in
+    (record { text = _; has = term-read (start .args .text .now) (chars-of (decode (start .args .text .now)) (sym (after-is-utf .is-utf8 .ensures) ∙ not-false _ (after-if1 .if1 .left))) _ (there (start .args .text .now) _ _ (after-object-end .object-end .ensures) _ (c .before .before .end .given .1)) .has }, search needs)
 
 -- src/lib.rt:14:1
 returns-3 : tie.Need-returns-3
-returns-3 c = no-text (c .before .before .before .before .before .before .args .text .now) (chars-of (decode (c .before .before .before .before .before .before .args .text .now)) (sym (c .before .before .before .before .is-utf8 .ensures) ∙ not-false _ (c .before .before .before .if1 .left))) (not-there (c .before .before .before .before .before .before .args .text .now) _ _ (c .before .before .object-end .ensures) (c .enum-told .given .1))
+returns-3 c =
+    let start = c .before .before .before .before .before .before in
+    let after-is-utf = c .before .before .before .before in
+    let after-if1 = c .before .before .before in
+    no-text (start .args .text .now) (chars-of (decode (start .args .text .now)) (sym (after-is-utf .is-utf8 .ensures) ∙ not-false _ (after-if1 .if1 .left))) (not-there (start .args .text .now) _ _ (c .before .before .object-end .ensures) (c .enum-told .given .1))
 
 -- src/lib.rt:14:1
 returns-4 : tie.Need-returns-4
-returns-4 c = (c .is-text .ensures) _ (term-read (c .before .before .before .before .before .before .before .before .before .args .text .now) (chars-of (decode (c .before .before .before .before .before .before .before .before .before .args .text .now)) (sym (c .before .before .before .before .before .before .before .is-utf8 .ensures) ∙ not-false _ (c .before .before .before .before .before .before .if1 .left))) _ (there (c .before .before .before .before .before .before .before .before .before .args .text .now) _ _ (c .before .before .before .before .before .object-end .ensures) _ (c .before .before .before .end .given .1)) .has) ∙ whole-text (c .before .before .before .before .before .before .before .before .before .args .text .now) (chars-of (decode (c .before .before .before .before .before .before .before .before .before .args .text .now)) (sym (c .before .before .before .before .before .before .before .is-utf8 .ensures) ∙ not-false _ (c .before .before .before .before .before .before .if1 .left))) _ (there (c .before .before .before .before .before .before .before .before .before .args .text .now) _ _ (c .before .before .before .before .before .object-end .ensures) _ (c .before .before .before .end .given .1)) (c .before .if2 .left)
+returns-4 c =
+    let start = c .before .before .before .before .before .before .before .before .before in
+    let after-is-utf = c .before .before .before .before .before .before .before in
+    let after-if1 = c .before .before .before .before .before .before in
+    let after-object-end = c .before .before .before .before .before in
+    let after-end = c .before .before .before in
+    (c .is-text .ensures) _ (term-read (start .args .text .now) (chars-of (decode (start .args .text .now)) (sym (after-is-utf .is-utf8 .ensures) ∙ not-false _ (after-if1 .if1 .left))) _ (there (start .args .text .now) _ _ (after-object-end .object-end .ensures) _ (after-end .end .given .1)) .has) ∙ whole-text (start .args .text .now) (chars-of (decode (start .args .text .now)) (sym (after-is-utf .is-utf8 .ensures) ∙ not-false _ (after-if1 .if1 .left))) _ (there (start .args .text .now) _ _ (after-object-end .object-end .ensures) _ (after-end .end .given .1)) (c .before .if2 .left)
 
 pub is-canonical-spec : {M : Type 1} → statement M
 is-canonical-spec =
