@@ -1,8 +1,7 @@
 -- Laws of a reading by its questions. Assumes nothing.
-use Prim.Native.Nat.{ℕ, zero, suc, _+_, _-_, _*_, _≤_, _<_, min}
+use Prim.Native.Nat.{ℕ, _+_, _-_, _*_, _≤_, _<_, min}
 use mathlib.Core.Path.{_≡_, refl, sym, ap, _∙_}
-use mathlib.Core.Logic.{⊎-elim}
-use mathlib.Core.Bool.{true, false}
+use mathlib.Core.Bool.{true, false, _&&_}
 use mathlib.Core.List.{List, _++_, map}
 use native.Mathlib.Omega.{arith}
 use lib.ListN.{length, replicate}
@@ -17,7 +16,7 @@ use Rattle.delivery_format.specs.Encoding.{encode}
 use Rattle.spec_ntriples.specs.declared.ByteReply.the-variants.{Length, Refused}
 use Rattle.spec_ntriples.specs.Lines.{TextTriple, Document, refused, triples, document}
 use Rattle.spec_ntriples.specs.Dictionary.{Entry, entriesBytes, dictionaryBytes, entries, areNumbersEnough, isDictionary}
-use Rattle.spec_ntriples.specs.Reading.{withAll, tripleOf, additions, ReadFile, readFile, concludeReading, readNTriples}
+use Rattle.spec_ntriples.specs.Reading.{withAll, tripleOf, additions, readFile, concludeReading, readNTriples}
 use Rattle.spec_ntriples.specs.Promises.{RefusedBy, Accepted}
 use Rattle.spec_ntriples.specs.inside.Entries.{Holds}
 use Rattle.spec_ntriples.proofs.TripleTexts.{document-texts}
@@ -25,12 +24,11 @@ use Rattle.spec_ntriples.proofs.ReadingRefused.{additions-length, length-map, a
 use Rattle.dictionary_bytes.specs.declared.Filled.{Filled}
 use Rattle.dictionary_bytes.specs.inside.Entries.{FilledBy}
 use Rattle.dictionary_entries.proofs.Held.{held-within}
-use Rattle.ntriples_document.specs.declared.Counted.{Counted}
 use Rattle.ntriples_document.specs.declared.Counted.the-variants as counted
 use Rattle.ntriples_document.specs.inside.Bytes.{countOf}
 use Rattle.ntriples_segments.specs.declared.Batched.{Batched}
 use Rattle.ntriples_segments.specs.declared.Batched.the-variants.{Named, NoSpace}
-use Rattle.ntriples_segments.specs.inside.Segments.{DoNotFit, LackSpace}
+use Rattle.ntriples_segments.specs.inside.Segments.{TextsLackSpace}
 use Rattle.ntriples_batches.specs.inside.Batches.{CanNameFile, FileNamed, IsFile}
 use Rattle.ntriples_batches.proofs.Files.{Grown, all-grown, filled-have}
 use Rattle.ntriples_read.specs.inside.Reading.{CanRead}
@@ -93,7 +91,7 @@ module _ (file : List ℕ) (n : ℕ) (bs : List ℕ) (f : Filled) (delivery : Li
     -- ---- question 14
 
     module _ (e : b ≡ NoSpace g) where
-      lacking : LackSpace (entries bs) (C .lines) bs' g
+      lacking : TextsLackSpace (entries bs) (C .lines) bs' g
       lacking = rw e at N
 
       pub lacking-within : g .end ≤ length bs'
@@ -101,10 +99,11 @@ module _ (file : List ℕ) (n : ℕ) (bs : List ℕ) (f : Filled) (delivery : Li
 
       no-space : RefusedBy bs file (length delivery) 14
       no-space =
-          ⊎-elim
-          (λ h. RefusedBy.no-space refl (C .formed) (C .lines) (C .said) (omega (arith, h, long)))
-          (λ h. RefusedBy.no-number refl (C .formed) (C .lines) (C .said) h)
-          (lacking .lacks)
+          let a = leb (length (entriesBytes es)) (length bs) in
+          let h : (a && areNumbersEnough es) ≡ false = rw long at (lacking .lacks) in
+          by-test a
+          (λ p. RefusedBy.no-number refl (C .formed) (C .lines) (C .said) (rw p at h))
+          (λ p. RefusedBy.no-space refl (C .formed) (C .lines) (C .said) (leb-false (length (entriesBytes es)) (length bs) p))
 
       pub refused-14
           : (cs : List ℕ) → length cs ≡ length bs' → ((ds fs : List Entry) → Holds bs' (g .end) (ds ++ fs) → f .end ≡ length (entriesBytes ds) → Holds cs (f .end) ds)

@@ -57,15 +57,15 @@ fn read_triples(
 {
     let mut terms = no_terms();
     match name_file(file, n, dictionary, f, &mut terms) {
-        Batched::NoSpace(g) => {
-            take_back(dictionary, f.end, g.end);
+        Batched::NoSpace(tried) => {
+            take_back(dictionary, f.end, tried.end);
             ByteReply::Refused(14)
         }
-        Batched::Named(g) => {
+        Batched::Named(named) => {
             if has_room(n, delivery.len()) {
                 return ByteReply::Length(write_delivery(&terms, n, delivery));
             }
-            take_back(dictionary, f.end, g.end);
+            take_back(dictionary, f.end, named.end);
             ByteReply::Refused(15)
         }
     }
