@@ -1,45 +1,43 @@
 -- Laws of naming a file in one batch more. Assumes nothing.
-use Prim.Native.Nat.{ℕ, zero, suc, _+_, _-_, _*_, _≤_, _<_, min}
+use Prim.Native.Nat.{ℕ, _+_, _-_, _^_, _≤_, _<_}
 use mathlib.Core.Path.{_≡_, refl, sym, ap, _∙_}
-use mathlib.Core.List.{List, [], _∷_, _++_, map, append-assoc, append-nil, flatMap}
+use mathlib.Core.List.{List, [], _∷_, _++_, map, append-assoc, append-nil}
+use mathlib.Core.Bool.{true, _&&_}
 use mathlib.Core.Logic.{_⊎_, inl, inr, ⊎-elim}
 use native.Mathlib.Omega.{arith}
-use lib.ListN.{length, take, drop, getD, length-drop, take-append-drop}
+use lib.ListN.{length, take, drop, length-drop, take-append-drop}
 use lib.Seq.{getD-take, length-take-le, take-length}
+use lib.Dec.{leb}
+use borrow.Author.Tests.{le-leb, leb-true}
 use Rattle.spec.specs.Tables.{firstRows}
+use Rattle.spec.proofs.Lists.{by-test, true-not-false}
+use Rattle.spec.proofs.Ascending.{and-left, and-right}
 use Rattle.spec.specs.inside.Each.{Each}
-use Rattle.spec_ntriples.specs.Texts.{Text}
 use Rattle.spec_ntriples.specs.Lines.{TextTriple, triples, document}
-use Rattle.spec_ntriples.specs.Dictionary.{Entry}
+use Rattle.spec_ntriples.specs.Dictionary.{Entry, entriesBytes, firstNumber, nextNumber, areNumbersEnough}
 use Rattle.spec_ntriples.specs.Reading.{withTexts, withAll, tripleOf}
-use Rattle.spec_ntriples.proofs.Numbers.{each-front, each-back}
+use Rattle.spec_ntriples.proofs.Numbers.{each-front, each-back, textsOfKind, Enough, numbers-enough, enough-front}
 use Rattle.spec_ntriples.specs.Sights.{firstSights, knownTexts, fileTexts}
 use Rattle.spec_ntriples.proofs.KnownTexts.{HasTerm, nextEntries, first-sights, has-kept}
 use Rattle.spec_ntriples.proofs.ReadingDictionary.{with-all}
 use Rattle.spec_ntriples.proofs.TripleTexts.{TextsRight, document-texts}
+use Rattle.dictionary_entries.proofs.Standing.{entries-length}
 use Rattle.dictionary_bytes.specs.declared.Filled.{Filled}
 use Rattle.dictionary_bytes.specs.inside.Entries.{FilledBy}
 use Rattle.ntriples_batch.specs.declared.Batch.{Batch}
 use Rattle.ntriples_batch.specs.inside.Batches.{noTriple, Gathered}
-use Rattle.ntriples_naming.specs.inside.Progress.{lineTexts, linesTexts}
 use Rattle.ntriples_naming.proofs.Entries.{have-terms}
 use Rattle.ntriples_segments.specs.declared.Batched.{Batched}
 use Rattle.ntriples_segments.specs.declared.Batched.the-variants.{Named, NoSpace}
-use Rattle.ntriples_segments.specs.inside.Segments.{HasKind, IsBatch, AllNamed, LackSpace, IsBatched, CanNameBatch}
-use Rattle.ntriples_segments.proofs.Growing.{fit-less}
-use Rattle.ntriples_batches.specs.inside.Batches.{FileNamed, IsFile}
+use Rattle.ntriples_segments.specs.inside.Segments.{IsBatch, AllNamed, DoNotFit, TextsLackSpace, IsBatched, CanNameBatch}
+use Rattle.ntriples_batches.specs.inside.Batches.{FileNamed}
 
 -- ---- entries with the texts of triples
 
-pub with-then : (es : List Entry) (ts us : List TextTriple) → withAll es (ts ++ us) ≡ withAll (withAll es ts) us
+with-then : (es : List Entry) (ts us : List TextTriple) → withAll es (ts ++ us) ≡ withAll (withAll es ts) us
 unfolding withAll
 with-then es [] us = refl
 with-then es (t ∷ ts) us = with-then (withTexts es t) ts us
-
-lines-kinds : (ts : List TextTriple) → Each TextsRight ts → Each HasKind (linesTexts ts)
-unfolding linesTexts lineTexts flatMap
-lines-kinds [] h = tt
-lines-kinds (t ∷ ts) h = (h .0 .subjectKind, (h .0 .propertyKind, (h .0 .objectKind, lines-kinds ts (h .1))))
 
 -- The entries with the texts of some triples are those before, and more behind them.
 pub record Grown (es fs : List Entry) : Type 0 where
@@ -53,11 +51,29 @@ module _ (es : List Entry) (ts : List TextTriple) (h : Each HasTerm es) (k : Eac
   all-terms : Each HasTerm (withAll es ts)
   all-terms = rw (with-all es ts k) (has-kept es (fileTexts ts) h)
 
+-- Fewer entries have enough numbers where more have.
+are-enough : (es : List Entry) → Enough es → areNumbersEnough es ≡ true
+unfolding areNumbersEnough nextNumber firstNumber textsOfKind
+are-enough es E = rw (le-leb (nextNumber 0 es) (2 ^ 30) (E .uris), le-leb (nextNumber 1 es) (2 ^ 30) (E .blanks), le-leb (nextNumber 2 es) (2 ^ 30) (E .literals))
+
+-- Entries that do not fit, do not with more behind them.
+fit-less : (len : ℕ) (es fs : List Entry) → DoNotFit len es → DoNotFit len (es ++ fs)
+fit-less len es fs N =
+    let a = leb (length (entriesBytes (es ++ fs))) len in
+    let b = areNumbersEnough (es ++ fs) in
+    by-test (a && b)
+    (λ p.
+    let s : length (entriesBytes es) ≤ len = omega (arith, entries-length es fs, leb-true (length (entriesBytes (es ++ fs))) len (and-left a b p)) in
+    let q : areNumbersEnough es ≡ true = are-enough es (enough-front es fs (numbers-enough (es ++ fs) (and-right a b p))) in
+    let t : (leb (length (entriesBytes es)) len && areNumbersEnough es) ≡ true = rw (le-leb (length (entriesBytes es)) len s, q) in
+    absurd (true-not-false (sym t ∙ N)))
+    (λ p. p)
+
 -- ---- batches
 
 -- The batches before a byte index are named: the dictionary has the entries es with the texts of the triples done; left stand behind. Where
 -- all triples are one batch, the rows are theirs once it is named.
-pub record Going (file : List ℕ) (es : List Entry) (ts : List TextTriple) (bs : List ℕ) (from left : ℕ) (f : Filled) (ws : List ℕ) : Type 0 where
+pub record Underway (file : List ℕ) (es : List Entry) (ts : List TextTriple) (bs : List ℕ) (from left : ℕ) (f : Filled) (ws : List ℕ) : Type 0 where
   pub done : List TextTriple
   pub rest : List TextTriple
   pub parts : ts ≡ done ++ rest
@@ -68,7 +84,7 @@ pub record Going (file : List ℕ) (es : List Entry) (ts : List TextTriple) (bs 
 
 pub none-done
     : (file : List ℕ) (es : List Entry) (ts : List TextTriple) (bs : List ℕ) (n : ℕ) (f : Filled) (ws : List ℕ) → document file ≡ triples ts → n ≡ length ts → FilledBy bs f es
-    → Going file es ts bs 0 n f ws
+    → Underway file es ts bs 0 n f ws
 unfolding withAll
 none-done file es ts bs n f ws e c F = record { done = []; rest = ts; parts = refl; behind = e; counted = c; filled = F; rows = inl refl }
 
@@ -76,7 +92,7 @@ no-list : {A : Type 0} (l : List A) → length l ≡ 0 → l ≡ []
 no-list [] e = refl
 no-list (x ∷ l) e = absurd (omega (arith, e))
 
-module _ (file : List ℕ) (es : List Entry) (ts : List TextTriple) (bs : List ℕ) (from left : ℕ) (f : Filled) (ws : List ℕ) (G : Going file es ts bs from left f ws) where
+module _ (file : List ℕ) (es : List Entry) (ts : List TextTriple) (bs : List ℕ) (from left : ℕ) (f : Filled) (ws : List ℕ) (G : Underway file es ts bs from left f ws) where
   -- All are done.
   pub all-done : left ≤ 0 → FileNamed es ts bs f ws
   unfolding withAll firstRows
@@ -131,7 +147,6 @@ module _ (file : List ℕ) (es : List Entry) (ts : List TextTriple) (bs : List �
         record {
           counted = sym here-long;
           stand = λ i h. rw (getD-take (r .count) (G .rest) i noTriple h) (H .begins i h);
-          kinds = lines-kinds here here-right;
         }
 
     pub can-name : 16380 ≤ length ws → CanNameBatch bs f file lines (r .count) ws
@@ -147,7 +162,7 @@ module _ (file : List ℕ) (es : List Entry) (ts : List TextTriple) (bs : List �
 
     module _ (bs' ws' : List ℕ) (b : Batched) (N : (es : List Entry) (us : List TextTriple) → IsBatch file lines (r .count) us → FilledBy bs f es → IsBatched es us bs' ws' b) (F : Each HasTerm es) (g : Filled) where
       -- It is named.
-      pub more-done : b ≡ Named g → 0 < left → Going file es ts bs' (r .next) (left - r .count) g ws'
+      pub more-done : b ≡ Named g → 0 < left → Underway file es ts bs' (r .next) (left - r .count) g ws'
       unfolding withAll
       more-done e some =
           let A : AllNamed (withAll es (G .done)) here bs' g ws' = rw e at (N (withAll es (G .done)) here here-batch (G .filled)) in
@@ -173,9 +188,9 @@ module _ (file : List ℕ) (es : List Entry) (ts : List TextTriple) (bs : List �
           }
 
       -- A text of it has no space.
-      pub more-lacks : b ≡ NoSpace g → LackSpace es ts bs' g
+      pub more-lacks : b ≡ NoSpace g → TextsLackSpace es ts bs' g
       more-lacks e =
-          let A : LackSpace (withAll es (G .done)) here bs' g = rw e at (N (withAll es (G .done)) here here-batch (G .filled)) in
+          let A : TextsLackSpace (withAll es (G .done)) here bs' g = rw e at (N (withAll es (G .done)) here here-batch (G .filled)) in
           let D = all-grown es (G .done) F done-right in
           let K = all-terms es (G .done) F done-right in
           let X = all-grown (withAll (withAll es (G .done)) here) later (all-terms (withAll es (G .done)) here K here-right) later-right in

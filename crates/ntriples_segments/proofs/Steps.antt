@@ -1,9 +1,9 @@
 -- Laws of naming a batch in one segment more. Assumes nothing.
-use Prim.Native.Nat.{ℕ, zero, suc, _+_, _-_, _*_, _≤_, _<_}
+use Prim.Native.Nat.{ℕ, _+_, _-_, _*_, _≤_, _<_}
 use mathlib.Core.Path.{_≡_, refl, sym, ap, _∙_}
-use mathlib.Core.List.{List, [], _∷_, _++_, append-assoc, append-nil}
+use mathlib.Core.List.{List, [], _++_, append-assoc, append-nil}
 use native.Mathlib.Omega.{arith}
-use lib.ListN.{length, getD, take, drop, take-append-drop}
+use lib.ListN.{length, take, drop, take-append-drop}
 use Rattle.spec.specs.inside.Each.{Each}
 use Rattle.spec_ntriples.specs.Texts.{Text}
 use Rattle.spec_ntriples.specs.Lines.{TextTriple}
@@ -27,13 +27,12 @@ use Rattle.ntriples_terms.specs.inside.Words.{tripleBy, foundRow, RowsBy}
 use Rattle.ntriples_naming.specs.declared.Last.{Last}
 use Rattle.ntriples_naming.specs.declared.Progress.{Progress}
 use Rattle.ntriples_naming.specs.declared.Progress.the-variants.{Going, Full, NoSpace}
-use Rattle.ntriples_naming.specs.inside.Progress.{linesTexts, noText, withEach, Stands, Reached, Begins}
+use Rattle.ntriples_naming.specs.inside.Progress.{linesTexts, withEach, Stands, Reached, Begins}
 use Rattle.ntriples_naming.proofs.Entries.{have-terms, each-lines}
-use Rattle.ntriples_naming.proofs.Batch.{lines-length}
-use Rattle.ntriples_segments.specs.inside.Segments.{IsBatch, AllNamed, LackSpace, Looked, IsStep}
+use Rattle.ntriples_naming.proofs.Outcomes.{all-entered, all-rows, lacks-ground}
+use Rattle.ntriples_naming.proofs.Looking.{words-vocabulary, words-found}
+use Rattle.ntriples_segments.specs.inside.Segments.{IsBatch, AllNamed, TextsLackSpace, Looked, IsSegmentStep}
 use Rattle.ntriples_segments.specs.declared.Step.the-variants.{Done, Lacks, Next}
-use Rattle.ntriples_segments.proofs.Words.{vocabulary-words, found-words, rows-named}
-use Rattle.ntriples_segments.proofs.Growing.{each-known, lacks-fit}
 
 -- ---- before any segment
 
@@ -50,7 +49,7 @@ looked-none es ts bs f file lines n ws vs B F R =
       starts = refl;
       grown = sym (append-nil es);
       same = refl;
-      words = vocabulary-words es ts n ws vs (B .counted) R;
+      words = words-vocabulary es ts ws vs (rw (B .counted) at R);
     }
 
 pub index-leads : (slots bs : List ℕ) (first : ℕ) (es : List Entry) → IndexOf slots bs first es → LeadWithin slots bs first
@@ -103,7 +102,7 @@ module _ (es : List Entry) (ts : List TextTriple) (bs : List ℕ) (first : ℕ) 
           starts = segment-ends slots bs (f .end) first (L .before) (L .behind) g (L .filled .holds) (L .starts) G;
           grown = sym here-rest ∙ L .grown;
           same = rw here-rest at (L .same);
-          words = found-words (L .before) here rest ts n ws vs (each-front HasTerm (L .before) (L .behind) T) (B .counted) (rw here-rest at (L .words)) R;
+          words = words-found (L .before) here rest (each-front HasTerm (L .before) (L .behind) T) ts ws vs (rw here-rest at (L .words)) (rw (B .counted) at R);
         }
 
     -- The last segment.
@@ -151,7 +150,7 @@ module _ (es : List Entry) (ts : List TextTriple) (bs : List ℕ) (first : ℕ) 
             starts = S .last .filled .holds .ends;
             grown = e ∙ all-grown;
             same = rw e all-same;
-            words = found-words (L .before) (S .entries) [] ts n ws' vs (each-front HasTerm (L .before) (S .entries) all-terms) (B .counted) (rw e (S .words)) R;
+            words = words-found (L .before) (S .entries) [] (each-front HasTerm (L .before) (S .entries) all-terms) ts ws' vs (rw e (S .words)) (rw (B .counted) at R);
           }
 
       last-some : 0 < length (S .entries) → first < l .filled .end
@@ -165,20 +164,19 @@ module _ (es : List Entry) (ts : List TextTriple) (bs : List ℕ) (first : ℕ) 
     reached-all l (S, N) =
         let m : n * 3 ≡ length ts * 3 = ap (λ (k : ℕ). k * 3) (B .counted) in
         let N' = rw m at N in
-        let k : withEach (all l S) texts ≡ all l S = each-known (all l S) texts (λ i h. let p = N i (omega (arith, h, m, lines-length ts)) in omega (arith, p, S .words i h .right p)) in
-        let e : all l S ≡ withAll es ts = sym k ∙ each-lines (all l S) ts ∙ all-same l S in
+        let e : all l S ≡ withAll es ts = all-entered (L .before) (L .behind) ts slots' bs' first ws' l S N' ∙ L .same in
         record {
           filled = rw e at (S .last .filled);
-          rows = rw e at (rows-named (L .before) (all l S) ts ws' (S .words) N');
+          rows = rw e at (all-rows (L .before) (L .behind) ts slots' bs' first ws' l S N');
         }
 
-    reached-lacks : (l : Last) → Reached (L .before) (L .behind) texts (n * 3) slots' bs' first ws' (NoSpace l) → LackSpace es ts bs' (l .filled)
+    reached-lacks : (l : Last) → Reached (L .before) (L .behind) texts (n * 3) slots' bs' first ws' (NoSpace l) → TextsLackSpace es ts bs' (l .filled)
     reached-lacks l (S, K) =
         let e : withEach (all l S) texts ≡ withAll es ts = each-lines (all l S) ts ∙ all-same l S in
         record {
           more = L .more ++ S .more;
           filled = rw (all-grown l S) at (S .last .filled);
-          lacks = rw e at (lacks-fit (length bs') (all l S) texts (all-terms l S) (B .kinds) K);
+          lacks = rw e at (lacks-ground (length bs') (all l S) texts (all-terms l S) K);
         }
 
 -- What naming in the last segment did, by how far it came.
@@ -188,10 +186,10 @@ module _ (es : List Entry) (ts : List TextTriple) (bs : List ℕ) (first : ℕ) 
   last-begins = begins es ts bs first (l .filled) ws L slots file lines n l B S
 
   module _ (slots' bs' ws' : List ℕ) (p : Progress) (R : Reached (L .before) (L .behind) (linesTexts ts) (n * 3) slots' bs' first ws' p) (k : Last) where
-    pub last-done : p ≡ Going k → IsStep es ts bs' first ws' (Done (k .filled))
+    pub last-done : p ≡ Going k → IsSegmentStep es ts bs' first ws' (Done (k .filled))
     last-done e = reached-all es ts bs first (l .filled) ws L file lines n B slots' bs' ws' k (rw e at R)
 
-    pub last-lacks : p ≡ NoSpace k → IsStep es ts bs' first ws' (Lacks (k .filled))
+    pub last-lacks : p ≡ NoSpace k → IsSegmentStep es ts bs' first ws' (Lacks (k .filled))
     last-lacks e = reached-lacks es ts bs first (l .filled) ws L file lines n B slots' bs' ws' k (rw e at R)
 
     pub full-leads : p ≡ Full k → LeadWithin slots' bs' first
@@ -199,7 +197,7 @@ module _ (es : List Entry) (ts : List TextTriple) (bs : List ℕ) (first : ℕ) 
         let F : Reached (L .before) (L .behind) (linesTexts ts) (n * 3) slots' bs' first ws' (Full k) = rw e at R in
         index-leads slots' bs' first (F .0 .entries) (F .0 .last .index)
 
-    pub last-next : p ≡ Full k → (vs : List ℕ) → ((fs : List Entry) → IndexOf slots' bs' first fs → RowsBy (foundRow fs) ts n ws' vs) → IsStep es ts bs' first vs (Next (k .filled .end) (k .filled))
+    pub last-next : p ≡ Full k → (vs : List ℕ) → ((fs : List Entry) → IndexOf slots' bs' first fs → RowsBy (foundRow fs) ts n ws' vs) → IsSegmentStep es ts bs' first vs (Next (k .filled .end) (k .filled))
     last-next e vs f =
         let F : Reached (L .before) (L .behind) (linesTexts ts) (n * 3) slots' bs' first ws' (Full k) = rw e at R in (
           last-some es ts bs first (l .filled) ws L file lines n B slots' bs' ws' k (F .0) (F .1),

@@ -12,7 +12,7 @@ ghost use Rattle.spec_ntriples.specs.Lines.{TextTriple};
 ghost use Rattle.spec_ntriples.specs.Dictionary.{Entry};
 ghost use Rattle.dictionary_bytes.specs.inside.Entries.{FilledBy};
 ghost use Rattle.dictionary_names.specs.inside.Naming.{LastSegment};
-ghost use Rattle.ntriples_segments.specs.inside.Segments.{IsBatch, IsBatched, Looked, CanLook, CanNameLast, IsStep, CanNameBatch};
+ghost use Rattle.ntriples_segments.specs.inside.Segments.{IsBatch, IsBatched, Looked, CanLook, CanNameLast, IsSegmentStep, CanNameBatch};
 
 // What naming a batch gives: how far the dictionary is filled; or, where a text has no space, how far it was filled before that.
 pub enum Batched {
@@ -39,7 +39,7 @@ fn name_last(
     terms: &mut [u32],
 ) -> Step
     requires { ⌜ CanNameLast (now slots) (now dictionary) first last (now file) (now lines) n (now terms) ⌝ }
-    ensures { λ r. ⌜ ((es : List Entry) (ts : List TextTriple) → IsBatch (now (file .entry)) (now (lines .entry)) n ts → (L : Looked es ts (now (dictionary .entry)) first (last .filled) (now (terms .entry))) → LastSegment (now (slots .entry)) (now (dictionary .entry)) first (last .count) (last .filled) (L .before) (L .behind) → IsStep es ts (now (dictionary .exit)) first (now (terms .exit)) r) ⌝ }
+    ensures { λ r. ⌜ ((es : List Entry) (ts : List TextTriple) → IsBatch (now (file .entry)) (now (lines .entry)) n ts → (L : Looked es ts (now (dictionary .entry)) first (last .filled) (now (terms .entry))) → LastSegment (now (slots .entry)) (now (dictionary .entry)) first (last .count) (last .filled) (L .before) (L .behind) → IsSegmentStep es ts (now (dictionary .exit)) first (now (terms .exit)) r) ⌝ }
 {
     match name_terms(slots, dictionary, first, last, file, lines, n, terms) {
         Progress::Going(l) => {
@@ -69,7 +69,7 @@ fn name_segment(
     terms: &mut [u32],
 ) -> Step
     requires { ⌜ CanLook (now dictionary) first f (now file) (now lines) n (now terms) ⌝ }
-    ensures { λ r. ⌜ ((es : List Entry) (ts : List TextTriple) → IsBatch (now (file .entry)) (now (lines .entry)) n ts → Looked es ts (now (dictionary .entry)) first f (now (terms .entry)) → IsStep es ts (now (dictionary .exit)) first (now (terms .exit)) r) ⌝ }
+    ensures { λ r. ⌜ ((es : List Entry) (ts : List TextTriple) → IsBatch (now (file .entry)) (now (lines .entry)) n ts → Looked es ts (now (dictionary .entry)) first f (now (terms .entry)) → IsSegmentStep es ts (now (dictionary .exit)) first (now (terms .exit)) r) ⌝ }
 {
     let mut slots = no_slots();
     let segment = index_segment(&mut slots, dictionary, first, f.end);

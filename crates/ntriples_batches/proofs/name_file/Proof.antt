@@ -7,7 +7,7 @@ use lib.ListN.{length}
 use Rattle.spec_ntriples.specs.Lines.{TextTriple, triples, document}
 use Rattle.spec_ntriples.specs.Dictionary.{Entry}
 use Rattle.dictionary_bytes.specs.inside.Entries.{FilledBy}
-use Rattle.ntriples_batches.proofs.Files.{Going, none-done, all-done, count-few, count-some, can-name, more-done, more-lacks, filled-have}
+use Rattle.ntriples_batches.proofs.Files.{Underway, none-done, all-done, count-few, count-some, can-name, more-done, more-lacks, filled-have}
 use Rattle.ntriples_batches.proofs.name_file.Statement.{statement}
 use Rattle.ntriples_batches.proofs.name_file.Tie as tie
 use Rattle.ntriples_batches.proofs.name_file.Reads as reads
@@ -17,7 +17,7 @@ use Rattle.ntriples_batches.proofs.no_lines.Reads as no-lines-reads
 use Rattle.ntriples_segments.proofs.name_batch.Reads as name-batch-reads
 
 abbrev Inv-loop : tie.InvT-loop
-Inv-loop file n dictionary₀ terms₀ lines₀ from₀ left₀ filled₀ dictionary terms lines from left filled = (length dictionary ≡ length dictionary₀) × (length terms ≡ length terms₀) × (length lines ≡ 5460) × (from ≤ length file) × ((es : List Entry) (ts : List TextTriple) → document file ≡ triples ts → n ≡ length ts → FilledBy dictionary₀ filled₀ es → Going file es ts dictionary from left filled terms)
+Inv-loop file n dictionary₀ terms₀ lines₀ from₀ left₀ filled₀ dictionary terms lines from left filled = (length dictionary ≡ length dictionary₀) × (length terms ≡ length terms₀) × (length lines ≡ 5460) × (from ≤ length file) × ((es : List Entry) (ts : List TextTriple) → document file ≡ triples ts → n ≡ length ts → FilledBy dictionary₀ filled₀ es → Underway file es ts dictionary from left filled terms)
 
 abbrev μ-loop : tie.MeasureT-loop
 μ-loop file n dictionary₀ terms₀ lines₀ from₀ left₀ filled₀ dictionary terms lines from left filled = left

@@ -1,5 +1,5 @@
 -- A file whose texts get their terms batch by batch. Definitions only.
-use Prim.Native.Nat.{ℕ, _*_, _≤_}
+use Prim.Native.Nat.{ℕ, _≤_}
 use mathlib.Core.Path.{_≡_}
 use mathlib.Core.List.{List, map}
 use lib.ListN.{length}
@@ -11,7 +11,7 @@ use Rattle.dictionary_bytes.specs.declared.Filled.{Filled}
 use Rattle.dictionary_bytes.specs.inside.Entries.{FilledBy}
 use Rattle.ntriples_segments.specs.declared.Batched.{Batched}
 use Rattle.ntriples_segments.specs.declared.Batched.the-variants.{Named, NoSpace}
-use Rattle.ntriples_segments.specs.inside.Segments.{LackSpace}
+use Rattle.ntriples_segments.specs.inside.Segments.{TextsLackSpace}
 
 -- The file is a document of n triples; the dictionary has some entries; and there are words for the triples of a batch.
 pub record CanNameFile (file : List ℕ) (n : ℕ) (bs : List ℕ) (f : Filled) (ws : List ℕ) : Type 0 where
@@ -31,4 +31,4 @@ pub record FileNamed (es : List Entry) (ts : List TextTriple) (bs : List ℕ) (f
 -- They have; or the entries with them do not fit.
 abbrev pub IsFile : (es : List Entry) (ts : List TextTriple) (bs ws : List ℕ) → Batched → Type 0
 IsFile es ts bs ws (Named f) = FileNamed es ts bs f ws
-IsFile es ts bs ws (NoSpace f) = LackSpace es ts bs f
+IsFile es ts bs ws (NoSpace f) = TextsLackSpace es ts bs f

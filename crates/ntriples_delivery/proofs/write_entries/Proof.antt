@@ -15,7 +15,7 @@ use Rattle.ntriples_delivery.proofs.write_entries.Tie as tie
 use Rattle.ntriples_delivery.proofs.write_entries.Reads as reads
 use Rattle.ntriples_delivery.proofs.write_entries.Lts as lts
 use Rattle.ntriples_delivery.proofs.bytes.write_entry.Reads as write-entry-reads
-use Rattle.spec.proofs.Triple.is_statement.Reads as is-statement-reads
+use Rattle.terms.proofs.is_statement.Reads as is-statement-reads
 use Rattle.table.proofs.row_from.Reads as row-from-reads
 
 abbrev Inv-loop : tie.InvT-loop

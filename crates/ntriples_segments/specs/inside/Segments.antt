@@ -1,15 +1,13 @@
 -- A batch of lines whose texts get their terms segment by segment. Definitions only.
 use Prim.Native.Nat.{ℕ, _*_, _≤_, _<_}
 use mathlib.Core.Path.{_≡_}
-use mathlib.Core.Logic.{_⊎_}
-use mathlib.Core.Bool.{false}
+use mathlib.Core.Bool.{false, _&&_}
 use mathlib.Core.List.{List, _++_, map}
 use lib.ListN.{length}
+use lib.Dec.{leb}
 use Rattle.spec.specs.Tables.{firstRows}
-use Rattle.spec.specs.inside.Each.{Each}
-use Rattle.spec_ntriples.specs.Texts.{Text}
 use Rattle.spec_ntriples.specs.Lines.{TextTriple}
-use Rattle.spec_ntriples.specs.Dictionary.{Entry, entriesBytes, kindOf, areNumbersEnough}
+use Rattle.spec_ntriples.specs.Dictionary.{Entry, entriesBytes, areNumbersEnough}
 use Rattle.spec_ntriples.specs.Reading.{withAll, tripleOf}
 use Rattle.dictionary_bytes.specs.declared.Filled.{Filled}
 use Rattle.dictionary_bytes.specs.inside.Entries.{FilledBy}
@@ -24,15 +22,10 @@ use Rattle.ntriples_segments.specs.declared.Step.the-variants.{Done, Lac
 
 -- ---- batches
 
--- A text has the kind of its bytes.
-abbrev pub HasKind : Text → Type 0
-HasKind x = kindOf (x .bytes) ≡ x .kind
-
 -- The first n lines that are noted are those of some triples, and of no more.
 pub record IsBatch (file lines : List ℕ) (n : ℕ) (ts : List TextTriple) : Type 0 where
   pub counted : n ≡ length ts
   pub stand : LinesAt file lines n ts
-  pub kinds : Each HasKind (linesTexts ts)
 
 -- ---- what naming it did
 
@@ -41,12 +34,12 @@ pub record AllNamed (es : List Entry) (ts : List TextTriple) (bs : List ℕ) (f 
   pub filled : FilledBy bs f (withAll es ts)
   pub rows : firstRows (length ts) ws ≡ map (tripleOf (withAll es ts)) ts
 
--- Some entries do not fit a dictionary of len bytes: they are longer, or a kind has too few numbers.
+-- Question 14 says no to some entries in a dictionary of len bytes: they are longer, or a kind has too few numbers.
 abbrev pub DoNotFit : ℕ → List Entry → Type 0
-DoNotFit len es = (len < length (entriesBytes es)) ⊎ (areNumbersEnough es ≡ false)
+DoNotFit len es = (leb (length (entriesBytes es)) len && areNumbersEnough es) ≡ false
 
 -- The dictionary has the entries es and perhaps more, and with the texts of some triples they do not fit.
-pub record LackSpace (es : List Entry) (ts : List TextTriple) (bs : List ℕ) (f : Filled) : Type 0 where
+pub record TextsLackSpace (es : List Entry) (ts : List TextTriple) (bs : List ℕ) (f : Filled) : Type 0 where
   pub more : List Entry
   pub filled : FilledBy bs f (es ++ more)
   pub lacks : DoNotFit (length bs) (withAll es ts)
@@ -54,7 +47,7 @@ pub record LackSpace (es : List Entry) (ts : List TextTriple) (bs : List ℕ) (f
 -- One of both.
 abbrev pub IsBatched : (es : List Entry) (ts : List TextTriple) (bs ws : List ℕ) → Batched → Type 0
 IsBatched es ts bs ws (Named f) = AllNamed es ts bs f ws
-IsBatched es ts bs ws (NoSpace f) = LackSpace es ts bs f
+IsBatched es ts bs ws (NoSpace f) = TextsLackSpace es ts bs f
 
 -- ---- segments
 
@@ -87,10 +80,10 @@ pub record CanNameLast (slots bs : List ℕ) (first : ℕ) (l : Last) (file line
 
 -- What naming a batch in the segment that begins at first did: all texts have terms; or the entries do not fit; or the texts were looked for
 -- in the segment's entries too, of which there is at least one.
-abbrev pub IsStep : (es : List Entry) (ts : List TextTriple) (bs : List ℕ) (first : ℕ) (ws : List ℕ) → Step → Type 0
-IsStep es ts bs first ws (Done f) = AllNamed es ts bs f ws
-IsStep es ts bs first ws (Lacks f) = LackSpace es ts bs f
-IsStep es ts bs first ws (Next end f) = (first < end) × (end ≤ length bs) × Looked es ts bs end f ws
+abbrev pub IsSegmentStep : (es : List Entry) (ts : List TextTriple) (bs : List ℕ) (first : ℕ) (ws : List ℕ) → Step → Type 0
+IsSegmentStep es ts bs first ws (Done f) = AllNamed es ts bs f ws
+IsSegmentStep es ts bs first ws (Lacks f) = TextsLackSpace es ts bs f
+IsSegmentStep es ts bs first ws (Next end f) = (first < end) × (end ≤ length bs) × Looked es ts bs end f ws
 
 -- ---- the whole dictionary
 
