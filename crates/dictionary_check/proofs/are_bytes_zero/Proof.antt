@@ -5,7 +5,7 @@ use mathlib.Core.Bool.{_&&_}
 use lib.ListN.{length, drop}
 use Rattle.spec.specs.Tables.{areZero}
 use Rattle.spec.proofs.TableAll.{zeros-end}
-use Rattle.table_check.proofs.Tests.{fold-end, zeros-fold}
+use Rattle.table_zeros.proofs.Folds.{fold-end, zeros-fold}
 use Rattle.dictionary_check.proofs.are_bytes_zero.Statement.{statement}
 use Rattle.dictionary_check.proofs.are_bytes_zero.Tie as tie
 use Rattle.dictionary_check.proofs.are_bytes_zero.Reads as reads
