@@ -1,5 +1,5 @@
-//! Our library by itself where one thing has half of the facts, where one object is that of half of the facts, and where all facts
-//! share classes, objects and properties two by two.
+//! Our library by itself where one thing has half of the facts, where one object is that of half of the facts, where one thing has very
+//! many properties, and where all facts share classes, objects and properties two by two.
 
 use crate::alone::{asked, by_size, Asked};
 use crate::contest::Outcome;
@@ -46,6 +46,19 @@ fn one_object(n: usize) -> Asked {
     store(n, |i| [THING + i, PROPERTY, HUB], questions)
 }
 
+/// The first of the properties of a thing that has many.
+const OWN: u32 = 6_000_000;
+
+/// A question about a thing with a property for each eight facts, whose objects it has by one property more.
+fn many_properties(n: usize) -> Asked {
+    let [x, y, z] = [0, 1, 2].map(variable);
+    let questions = vec![("x has a property y, and x is related to y by z", question(&[[x, SHARING, y], [x, z, y]], &[x, y, z]))];
+    let m = n as u32 / 8;
+    let mut facts = workload::facts(n - 2 * m as usize, 200, GROWING, 7);
+    facts.extend((0..m).flat_map(|i| [[HUB, SHARING, THING + i], [HUB, OWN + i, THING + i]]));
+    asked(&STATEMENTS, &facts, questions)
+}
+
 /// A property of facts whose objects two things share, and one of facts whose objects are properties of two facts.
 const SHARING: u32 = 40;
 const NAMING: u32 = 41;
@@ -67,12 +80,19 @@ fn in_pairs(n: usize) -> Asked {
     asked(&STATEMENTS, &(0..m).flat_map(made).collect::<Vec<Triple>>(), questions)
 }
 
-/// All three, on stores of several sizes.
+/// All four, on stores of several sizes.
 pub fn hubs(scale: &Scale) -> Outcome<String> {
     let mut out = String::new();
     let of_object = "One object is that of half of the facts";
     let in_twos = "Two facts share each class, each object and each property";
-    for (title, of) in [("One thing has half of the facts", one_thing as fn(usize) -> Asked), (of_object, one_object), (in_twos, in_pairs)] {
+    let of_properties = "One thing has a property for each eight facts";
+    let stores = [
+        ("One thing has half of the facts", one_thing as fn(usize) -> Asked),
+        (of_object, one_object),
+        (of_properties, many_properties),
+        (in_twos, in_pairs),
+    ];
+    for (title, of) in stores {
         out += &format!("{title}.\n\n{}", by_size(scale, scale.sizes.iter().map(|&n| of(n)).collect())?);
     }
     Ok(out)

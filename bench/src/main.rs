@@ -63,7 +63,7 @@ fn measured(scale: &Scale, contestants: &mut [Box<dyn Contestant>]) -> Outcome<(
         ("Saturation thresholds", thresholds::thresholds(&names, &task.questions, &contest, &alone, scale.changed)),
         ("The cost of upkeep", thresholds::upkeep(&contest.figures[0], &alone, scale.changed)),
         ("Our library alone: questions by size", alone::questions_by_size(scale, &task.statements, workload::GROWING)?),
-        ("Our library alone: one thing with half of the facts, one object of half of the facts, and facts that share two by two", hub::hubs(scale)?),
+        ("Our library alone: one thing with half of the facts, one object of half of the facts, one thing with many properties, and facts that share two by two", hub::hubs(scale)?),
         ("Our library alone: question 1", alone::first_questions(scale, &task.statements, workload::GROWING)),
         ("Our library alone: updates by size", alone::updates_by_size(scale, &task.statements, workload::GROWING)),
         ("Our library alone: listings", alone::listings(scale, &task.statements, workload::GROWING)),

@@ -38,7 +38,7 @@ const VU: u32 = VARIABLE + 4;
 type Case = fn(&mut Session, u32) -> Result<(), Failure>;
 
 /// All cases, by name.
-pub const CASES: [(&str, fn(&mut Harness) -> Result<(), Failure>); 21] = [
+pub const CASES: [(&str, fn(&mut Harness) -> Result<(), Failure>); 22] = [
     ("windows of objects, the kept way", |h| run(h, kept_objects)),
     ("windows of objects, the rewritten way", |h| run(h, objects)),
     ("windows of one object", |h| run(h, one_object)),
@@ -59,6 +59,7 @@ pub const CASES: [(&str, fn(&mut Harness) -> Result<(), Failure>); 21] = [
     ("windows of an object that two share", |h| run(h, shared_object)),
     ("joins by what facts give", joins_of_given),
     ("a thing with many facts", many_facts),
+    ("a thing with many properties", many_properties),
     ("an object of many facts", popular_object),
 ];
 
@@ -519,6 +520,34 @@ fn many_facts(harness: &mut Harness) -> Result<(), Failure> {
             judged(session, way, &[[X, VY, VZ]], &[VY, VZ])?;
             judged(session, way, &[[VX, A, VY], [VX, VZ, VY]], &[VX, VY, VZ])?;
             judged(session, way, &[[VX, A, VY], [VX, TYPE, VZ]], &[VX, VZ])?;
+        }
+    }
+    Ok(())
+}
+
+/// One thing has facts of few or of many properties, of which some have a class as their object that statements
+/// name, and some one that they do not. Each question knows the thing and an object, and not the property.
+fn many_properties(harness: &mut Harness) -> Result<(), Failure> {
+    let statements = [
+        [A, SUBPROPERTY, B],
+        [B, DOMAIN, CLASS],
+        [CLASS, SUBCLASS, CLASS + 1],
+        [C, RANGE, CLASS + 2],
+    ];
+    for n in [1, 2, 3, 30, 31, 150] {
+        let mut facts: Vec<Triple> = (0..n).flat_map(|i| [[X, A, Z + i], [X, P + i, Z + i * 2]]).collect();
+        facts.extend([[X, P, CLASS], [X, P + 1, CLASS + 3], [X, TYPE, CLASS + 4], [X, C, X], [X + 1, A, Z]]);
+        for way in [Way::Kept, Way::Rewritten] {
+            let session = &mut Session::new(harness);
+            lend(session, &statements, way, facts.clone())?;
+            for object in [Z, Z + 1, Z + n * 2 - 2, Z + n * 2, X].into_iter().chain(CLASS..CLASS + 6) {
+                judged(session, way, &[[X, VZ, object]], &[VZ])?;
+                judged(session, way, &[[VX, VZ, object]], &[VX, VZ])?;
+            }
+            for property in [VU, TYPE, A, B, C] {
+                judged(session, way, &[[VX, property, VY], [VX, VZ, VY]], &[VX, VY, VZ])?;
+                judged(session, way, &[[VX, property, VY], [X, VZ, VY]], &[VX, VY, VZ])?;
+            }
         }
     }
     Ok(())
