@@ -30,7 +30,7 @@ use contest::{Contestant, Outcome};
 use measure::{Changed, Contest, Task};
 use plot::Panel;
 use readers::Reader;
-use report::{write, write_documents, Report};
+use report::Report;
 use scale::Scale;
 use workload::GROWING;
 
@@ -166,14 +166,11 @@ fn run(asked: &Asked) -> Outcome<()> {
     for part in asked.only.map_or(PARTS.map(|(_, part)| part).to_vec(), |part| vec![part]) {
         report.go_on(part(&scale, &asked.peers)?);
     }
-    let text = report.text();
-    write("target/bench/report.md", &text)?;
-    report.plot.iter().try_for_each(|plot| write("target/bench/plot.svg", plot))?;
+    report.write("target/bench/report.md", "target/bench/plot.svg")?;
     if asked.docs {
-        write_documents(&report, asked.only.is_none())?;
+        report.write_documents(asked.only.is_none())?;
     }
-    println!("{text}");
-    progress("written: target/bench/report.md and target/bench/plot.svg");
+    println!("{}", report.text());
     Ok(())
 }
 

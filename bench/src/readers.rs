@@ -78,7 +78,7 @@ impl Reader for Jena {
         let expected = if self.parts == Parts::Triples { laid.triples } else { laid.terms };
         let mut all = Vec::new();
         while all.iter().sum::<Duration>() < scale.read_again {
-            let (count, times) = self.client.read_times(self.parts, &laid.file, scale.runs)?;
+            let (count, times) = self.client.read_times(self.parts, &laid.file, scale.readings)?;
             same(self, expected, count)?;
             all.extend(times);
         }

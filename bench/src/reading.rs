@@ -1,7 +1,7 @@
 //! Our library's reader of N-Triples beside those of Apache Jena and of raptor, on the same files; and by itself, as files and dictionaries
 //! grow. Each time is the least of some, since what runs beside a reading can only make it longer.
 
-use crate::clock::{least, progress, ratio, timed};
+use crate::clock::{least, progress, timed};
 use crate::contest::Outcome;
 use crate::goods::{dictionary, files, File, TEXTS};
 use crate::numbers::{digits, grouped, time};
@@ -80,8 +80,11 @@ impl Measured {
     /// Has our library and the others read a file.
     fn of(scale: &Scale, file: File, dictionaries: &[Vec<u8>], readers: &mut [Box<dyn Reader>]) -> Outcome<Measured> {
         progress(&format!("our library: reading: {}", file.name));
-        let ours = dictionaries.iter().map(|dictionary| ours(&file.text, dictionary, scale.runs)).collect::<Outcome<Vec<_>>>()?;
+        let ours = dictionaries.iter().map(|dictionary| ours(&file.text, dictionary, scale.readings)).collect::<Outcome<Vec<_>>>()?;
         let Read { triples, terms, .. } = ours[0].1;
+        if ours.iter().any(|(_, read)| read.triples != file.text.lines().count() || read.terms != terms) {
+            return Err(format!("our library: {}: not all triples, or other terms with another dictionary", file.name));
+        }
         let laid = Laid::new(&file.text, scale.copies, triples, terms)?;
         let mut others = Vec::new();
         for reader in readers {
@@ -125,21 +128,16 @@ pub fn contest(scale: &Scale, readers: &mut [Box<dyn Reader>]) -> Outcome<String
     Ok(out)
 }
 
-/// Our library by itself on files of several lengths, with each dictionary. The last column has the growth of the time less that of an empty
-/// file, from the first length to the last, divided by that of the lines.
+/// Our library by itself on files of several lengths about new goods, with each dictionary. The last column has what a line takes: the time
+/// of the longest file less that of an empty one, which has question 1 alone, divided by the lines.
 pub fn by_size(scale: &Scale) -> Outcome<String> {
     progress("our library: reading by size");
+    let [_, file, _] = files(scale.most_lines());
     let lengths: Vec<String> = scale.lines.iter().map(|&n| format!("{} lines", grouped(n))).collect();
-    let columns: Vec<&str> = lengths.iter().map(String::as_str).chain(["growth / proportional"]).collect();
-    let mut out = String::new();
-    for file in files(scale.most_lines()) {
-        let mut name = file.name.to_string();
-        name[..1].make_ascii_uppercase();
-        out += &format!("{name}.\n\n{}", head(&["texts of the dictionary", "its bytes", "no lines"], &columns));
-        for n in TEXTS {
-            out += &by_lines(scale, &file, n)?;
-        }
-        out += "\n";
+    let columns: Vec<&str> = lengths.iter().map(String::as_str).chain(["a line"]).collect();
+    let mut out = head(&["texts of the dictionary", "its bytes", "no lines"], &columns);
+    for n in TEXTS {
+        out += &by_lines(scale, &file, n)?;
     }
     Ok(out)
 }
@@ -147,11 +145,10 @@ pub fn by_size(scale: &Scale) -> Outcome<String> {
 /// The row of a dictionary of n texts.
 fn by_lines(scale: &Scale, file: &File, n: usize) -> Outcome<String> {
     let dictionary = dictionary(n);
-    let measured = |lines: usize| ours(file.first(lines), &dictionary, scale.runs).map(|(time, _)| time);
+    let measured = |lines: usize| ours(file.first(lines), &dictionary, scale.readings).map(|(time, _)| time);
     let empty = measured(0)?;
     let times = scale.lines.iter().map(|&lines| measured(lines)).collect::<Outcome<Vec<Duration>>>()?;
-    let last = times.len() - 1;
-    let growth = ratio(times[last].saturating_sub(empty), times[0].saturating_sub(empty)) * scale.lines[0] as f64 / scale.lines[last] as f64;
+    let line = times[times.len() - 1].saturating_sub(empty).as_secs_f64() * 1e6 / scale.most_lines() as f64;
     let cells: String = times.iter().map(|&measured| format!(" {} |", time(measured))).collect();
-    Ok(format!("| {} | {} | {} |{cells} {} |\n", grouped(n), grouped(dictionary.len()), time(empty), digits(growth, 2)))
+    Ok(format!("| {} | {} | {} |{cells} {} µs |\n", grouped(n), grouped(dictionary.len()), time(empty), digits(line, 2)))
 }

@@ -14,8 +14,10 @@ pub struct Scale {
     /// The facts and statements withdrawn and added, and the facts at each size of a growing store.
     pub changed: [usize; 2],
     pub changed_growing: usize,
-    /// The lengths through which files of N-Triples grow, and how many times over rapper reads the longest at once.
+    /// The lengths through which files of N-Triples grow, of how many readings a time is the least, and how many times over rapper reads
+    /// the longest file at once.
     pub lines: Vec<usize>,
+    pub readings: usize,
     pub copies: usize,
     /// For how long Jena reads a file again and again, for the compiler inside Java.
     pub read_again: Duration,
@@ -32,6 +34,7 @@ impl Scale {
             changed: [1_000, 20],
             changed_growing: 10,
             lines: vec![500, 1_000, 2_500, 5_000],
+            readings: 21,
             copies: 50,
             read_again: Duration::from_secs(5),
         }
@@ -47,6 +50,7 @@ impl Scale {
             changed: [100, 4],
             changed_growing: 5,
             lines: vec![50, 500],
+            readings: 3,
             copies: 2,
             read_again: Duration::from_millis(200),
         }

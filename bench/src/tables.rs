@@ -6,7 +6,7 @@ use crate::measure::{Contest, Figures, DELIVERED, FACTS, STATEMENTS};
 use crate::numbers::{grouped, time, times};
 use std::time::Duration;
 
-/// The head of a table whose last columns are ours and the others.
+/// The head of a table: its first columns, and what is measured, as our library and the others.
 pub fn head(first: &[&str], names: &[&str]) -> String {
     let columns: Vec<&str> = first.iter().chain(names).copied().collect();
     format!("| {} |\n|{}\n", columns.join(" | "), "---|".repeat(columns.len()))
