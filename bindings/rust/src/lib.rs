@@ -22,12 +22,17 @@
 //! # Ok::<(), families::Refusal>(())
 //! ```
 //!
+//! Products that come as N-Triples are read by [`read_ntriples`] into a delivery, which
+//! [`Store::deliver`] takes.
+//!
 //! A call needs up to some 0.8 MB of stack: a thread that makes calls should have 2 MB, as Rust
 //! gives by default.
 
+mod reading;
 mod refusal;
 mod store;
 pub mod sys;
 
+pub use reading::read_ntriples;
 pub use refusal::Refusal;
 pub use store::{Borrowed, Capacities, Delivered, Order, Rows, Store, Table, Triple, Updated};

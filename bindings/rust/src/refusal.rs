@@ -3,12 +3,14 @@
 use std::error::Error;
 use std::fmt;
 
-/// The refusals of document 01, "Questions at the door", by their numbers. A refused update or
-/// delivery changes no table; a refused question, alternatives call or listing leaves its whole
-/// output zero.
+/// The refusals of document 01, "Questions at the door", and of document 02, by their numbers. A
+/// refused update or delivery changes no table; a refused question, alternatives call or listing
+/// leaves its whole output zero; a refused reading changes no byte of the dictionary and leaves the
+/// delivery zero.
 #[derive(Clone, Copy, PartialEq, Eq, Debug)]
 pub enum Refusal {
-    /// The tables are not well formed. No call leaves such tables; a caller who writes them can.
+    /// The tables, or a dictionary, are not well formed. No call leaves such; a caller who writes
+    /// them can.
     Malformed = 1,
     /// The three words of an update are no triple.
     NoTriple = 2,
@@ -32,11 +34,18 @@ pub enum Refusal {
     DeliveryNumber = 11,
     /// There is no such column order. [`Order`](crate::Order) has no value that is refused.
     Order = 12,
+    /// A file is no UTF-8, a line breaks the grammar of N-Triples or has a relative IRI, or an escape
+    /// gives no character or one that may not stand there.
+    Line = 13,
+    /// The dictionary has no room for the new texts, or no numbers left.
+    DictionaryFull = 14,
+    /// The delivery does not fit its bytes, or would be too long.
+    DeliveryFull = 15,
 }
 
 impl Refusal {
     /// All of them, by number.
-    pub const ALL: [Refusal; 12] = [
+    pub const ALL: [Refusal; 15] = [
         Refusal::Malformed,
         Refusal::NoTriple,
         Refusal::Sides,
@@ -49,9 +58,12 @@ impl Refusal {
         Refusal::Section,
         Refusal::DeliveryNumber,
         Refusal::Order,
+        Refusal::Line,
+        Refusal::DictionaryFull,
+        Refusal::DeliveryFull,
     ];
 
-    /// Its number in document 01.
+    /// Its number in the documents.
     pub fn number(self) -> u32 {
         self as u32
     }
@@ -66,7 +78,7 @@ impl Refusal {
     /// What was found wrong.
     fn reason(self) -> &'static str {
         match self {
-            Refusal::Malformed => "the tables are not well formed",
+            Refusal::Malformed => "the tables or the dictionary are not well formed",
             Refusal::NoTriple => "it is no triple",
             Refusal::Sides => "a side of the statement is not allowed",
             Refusal::TableFull => "its table is full",
@@ -80,6 +92,9 @@ impl Refusal {
                 "the delivery number stands there twice or is not four bytes"
             }
             Refusal::Order => "there is no such order",
+            Refusal::Line => "a line of the file is not N-Triples",
+            Refusal::DictionaryFull => "the new texts do not fit the dictionary",
+            Refusal::DeliveryFull => "the triples do not fit the delivery",
         }
     }
 }

@@ -154,4 +154,16 @@ extern "C" {
         rows_len: usize,
         count: *mut u64,
     ) -> u32;
+
+    /// Reads a file of N-Triples with a dictionary into a delivery: 0, or the number that refused.
+    /// The length is that of the delivery, 0 where it was refused.
+    pub fn families_read_ntriples(
+        file: *const u8,
+        file_len: usize,
+        dictionary: *mut u8,
+        dictionary_len: usize,
+        delivery: *mut u8,
+        delivery_len: usize,
+        length: *mut u64,
+    ) -> u32;
 }

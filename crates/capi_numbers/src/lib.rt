@@ -2,10 +2,12 @@
 use spec::Answer;
 use spec::Delivered;
 use spec::Reply;
+use spec_ntriples::ByteReply;
 ghost use mathlib.Core.Path.{_≡_};
 ghost use Rattle.spec.specs.Outputs.{replyNumber, replyCount};
 ghost use Rattle.spec.specs.Updates.{answerNumber};
 ghost use Rattle.spec.specs.Exported.{resultWords};
+ghost use Rattle.spec_ntriples.specs.Exported.{byteReplyNumber, byteReplyLength};
 
 // The number of an answer.
 pub fn answer_number(answer: Answer) -> u32
@@ -42,6 +44,22 @@ pub fn reply_number(reply: Reply, count: &mut u64) -> u32
         }
         Reply::Refused(n) => {
             *count = 0;
+            n
+        }
+    }
+}
+
+// The number of a reply with bytes, with its length written to length, and 0 there where it is a refusal.
+pub fn byte_reply_number(reply: ByteReply, length: &mut u64) -> u32
+    ensures { λ r. ⌜ (r ≡ byteReplyNumber reply) × (now (length .exit) ≡ byteReplyLength reply) ⌝ }
+{
+    match reply {
+        ByteReply::Length(n) => {
+            *length = n as u64;
+            0
+        }
+        ByteReply::Refused(n) => {
+            *length = 0;
             n
         }
     }

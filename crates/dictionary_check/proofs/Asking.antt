@@ -8,7 +8,8 @@ use lib.ListN.{length, take, drop}
 use lib.Dec.{eqb}
 use borrow.Author.Tests.{eqb-true, eqb-false}
 use Rattle.spec.proofs.Lists.{by-test}
-use Rattle.spec_ntriples.specs.Dictionary.{frontTerm, vocabularyOf, kindOf, isCanonical, isDictionary}
+use Rattle.spec_ntriples.specs.Dictionary.{frontTerm, vocabularyOf, kindOf, isDictionary}
+use Rattle.spec_ntriples.specs.computed.Canonical.{isCanonical}
 use Rattle.spec_ntriples.proofs.Numbers.{kind-least}
 use Rattle.dictionary_bytes.specs.inside.Entries.{lengthAt, textAt, entriesAt}
 use Rattle.dictionary_bytes.specs.declared.Filled.{Filled}

@@ -14,9 +14,11 @@ use Rattle.spec.proofs.Lists.{by-test, true-not-false}
 use Rattle.spec.proofs.Ascending.{and-left, and-right}
 use Rattle.spec.proofs.TableAll.{replicate-of, areZero-replicate}
 use Rattle.spec_ntriples.specs.Texts.{isSame}
-use Rattle.spec_ntriples.specs.Dictionary.{Entry, entriesBytes, dictionaryBytes, bytesNumber, frontTerm, entries, kindOf, nextNumber, nextTerm, areNumbersEnough, areNumbered, areTexts, isCanonical, vocabularyOf, isDictionary}
+use Rattle.spec_ntriples.specs.Dictionary.{Entry, entriesBytes, dictionaryBytes, bytesNumber, frontTerm, entries, kindOf, nextNumber, nextTerm, areNumbersEnough, areNumbered, areTexts, vocabularyOf, isDictionary}
+use Rattle.spec_ntriples.specs.computed.Canonical.{isCanonical}
 use Rattle.spec_ntriples.specs.inside.Entries.{Holds}
-use Rattle.spec_ntriples.proofs.Numbers.{each-append, kind-least, numbers-enough, numbered-entries}
+use Rattle.spec.proofs.Each.{each-append}
+use Rattle.spec_ntriples.proofs.Numbers.{kind-least, numbers-enough, numbered-entries}
 use Rattle.spec_ntriples.proofs.KnownTexts.{numbered-has}
 use Rattle.spec_ntriples.proofs.EntryBytes.{dictionary-written, writable}
 use Rattle.dictionary_bytes.specs.inside.Entries.{lengthAt, textAt, placeAt, entriesAt, FilledBy}

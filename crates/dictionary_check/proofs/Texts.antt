@@ -9,7 +9,8 @@ use borrow.Author.Tests.{ne-eqb}
 use Rattle.spec.proofs.Lists.{by-test}
 use Rattle.spec.specs.inside.Each.{Each}
 use Rattle.spec_ntriples.specs.Texts.{isSame}
-use Rattle.spec_ntriples.specs.Dictionary.{Entry, vocabularyOf, termIn, isCanonical, areTexts}
+use Rattle.spec_ntriples.specs.Dictionary.{Entry, vocabularyOf, termIn, areTexts}
+use Rattle.spec_ntriples.specs.computed.Canonical.{isCanonical}
 use Rattle.spec_ntriples.proofs.KnownTexts.{HasTerm}
 use Rattle.dictionary_bytes.specs.inside.Entries.{lengthAt, textAt, placeAt, entriesAt}
 use Rattle.dictionary_bytes.proofs.Same.{equal-same, differ-other}

@@ -8,7 +8,7 @@ use lib.Seq.{take-at, drop-at, take-length}
 use Rattle.spec.specs.inside.Each.{Each}
 use Rattle.spec_ntriples.specs.Dictionary.{Entry, entriesBytes, dictionaryBytes, frontTerm}
 use Rattle.spec_ntriples.specs.inside.Entries.{Writable, Holds}
-use Rattle.spec_ntriples.proofs.Numbers.{each-back}
+use Rattle.spec.proofs.Each.{each-back}
 use Rattle.dictionary_bytes.specs.inside.Entries.{textAt, placeAt, entriesAt}
 use Rattle.dictionary_entries.proofs.Standing.{entry-at, entries-append, entries-length, entries-stand, places-stand}
 

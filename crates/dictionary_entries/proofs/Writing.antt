@@ -8,7 +8,7 @@ use lib.ListN.{length, drop, set, replicate, length-append, length-replicate, re
 use lib.Seq.{sets, sets-eq, length-sets, take-at, drop-at, drop-append-add}
 use Rattle.spec_ntriples.specs.Dictionary.{Entry, entry, numberBytes, entryBytes, entriesBytes, dictionaryBytes}
 use Rattle.spec_ntriples.specs.inside.Entries.{Writable, Holds}
-use Rattle.spec_ntriples.proofs.Numbers.{each-append, each-front}
+use Rattle.spec.proofs.Each.{each-append, each-front}
 use Rattle.spec_ntriples.proofs.EntryBytes.{length-number, length-entry}
 use Rattle.ntriples_text.proofs.Writing.{sets-append}
 use Rattle.dictionary_entries.proofs.Standing.{entries-append, entries-length}

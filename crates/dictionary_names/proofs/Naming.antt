@@ -12,7 +12,8 @@ use borrow.Author.Tests.{eqb-true, ltb-true, ltb-false, leb-false}
 use Rattle.spec_ntriples.specs.Texts.{Text}
 use Rattle.spec_ntriples.specs.Dictionary.{Entry, entry, entriesBytes, frontTerm, nextNumber, kindOf}
 use Rattle.spec_ntriples.specs.inside.Entries.{Writable, Holds}
-use Rattle.spec_ntriples.proofs.Numbers.{each-back, kind-least}
+use Rattle.spec.proofs.Each.{each-back}
+use Rattle.spec_ntriples.proofs.Numbers.{kind-least}
 use Rattle.spec_ntriples.proofs.Canonical.{text-kind}
 use Rattle.ntriples_bytes.specs.inside.Places.{HasText}
 use Rattle.dictionary_bytes.specs.declared.Filled.{Filled}

@@ -8,11 +8,12 @@ use lib.ListN.{length, take, drop, drop-of-length-le}
 use lib.Seq.{take-length}
 use lib.Dec.{eqb, ltb}
 use borrow.Author.Tests.{ltb-true}
-use Rattle.spec_ntriples.specs.Utf8.{Decoded, broken, decoded, decode}
+use Rattle.spec_ntriples.specs.computed.Decoded.{Decoded, broken, decoded, decode}
 use Rattle.spec_ntriples.specs.Characters.{codes}
 use Rattle.spec_ntriples.specs.Texts.{Text, isSame}
-use Rattle.spec_ntriples.specs.Lines.{readObject}
-use Rattle.spec_ntriples.specs.Dictionary.{isNone, givesItself, decodesToItself, isCanonical, kindOf, vocabularyOf}
+use Rattle.spec_ntriples.specs.computed.Lines.{readObject}
+use Rattle.spec_ntriples.specs.Dictionary.{kindOf, vocabularyOf}
+use Rattle.spec_ntriples.specs.computed.Canonical.{isNone, givesItself, decodesToItself, isCanonical}
 use Rattle.spec_ntriples.proofs.Canonical.{canonical-text, text-kind}
 use Rattle.ntriples_bytes.specs.inside.Places.{charsAt, HasText}
 use Rattle.ntriples_bytes.specs.inside.Whole.{areChars}

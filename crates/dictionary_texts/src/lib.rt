@@ -8,7 +8,8 @@ use ntriples_text::vocabulary_of;
 ghost use mathlib.Core.Path.{_≡_};
 ghost use mathlib.Core.Bool.{true, _&&_};
 ghost use lib.Dec.{eqb};
-ghost use Rattle.spec_ntriples.specs.Dictionary.{isCanonical, vocabularyOf, kindOf};
+ghost use Rattle.spec_ntriples.specs.Dictionary.{vocabularyOf, kindOf};
+ghost use Rattle.spec_ntriples.specs.computed.Canonical.{isCanonical};
 
 // The lengths of the shortest and of the longest text of the vocabulary.
 const SHORTEST: usize = 44;

@@ -10,8 +10,9 @@ use lib.Seq.{getD-set-same, getD-set-other}
 use lib.Dec.{ltb}
 use borrow.Author.Tests.{ltb-true, ltb-false, lt-ltb}
 use Rattle.spec.proofs.Lists.{le-or}
-use Rattle.spec_ntriples.specs.Utf8.{Decoded, broken, decoded, decode}
-use Rattle.spec_ntriples.specs.Lines.{TextTriple, Line, wrong, empty, full, readLine, Document, refused, triples, withTriple, withLine, document}
+use Rattle.spec_ntriples.specs.computed.Decoded.{Decoded, broken, decoded, decode}
+use Rattle.spec_ntriples.specs.Texts.{TextTriple}
+use Rattle.spec_ntriples.specs.computed.Lines.{Line, wrong, empty, full, readLine, Document, refused, triples, withTriple, withLine, document}
 use Rattle.ntriples_bytes.specs.inside.Places.{Utf8From}
 use Rattle.ntriples_bytes.proofs.Decoding.{at-start}
 use Rattle.ntriples_lines.specs.declared.Tokens.{Tokens}

@@ -10,8 +10,9 @@ ghost use mathlib.Core.Path.{_≡_};
 ghost use mathlib.Core.List.{List};
 ghost use Prim.Native.Nat.{_+_, _-_, _≤_, _<_};
 ghost use lib.ListN.{length, take, drop};
-ghost use Rattle.spec_ntriples.specs.Utf8.{decode};
-ghost use Rattle.spec_ntriples.specs.Lines.{TextTriple, triples, document};
+ghost use Rattle.spec_ntriples.specs.computed.Decoded.{decode};
+ghost use Rattle.spec_ntriples.specs.Texts.{TextTriple};
+ghost use Rattle.spec_ntriples.specs.computed.Lines.{triples, document};
 ghost use Rattle.ntriples_document.specs.inside.Bytes.{lineOf};
 ghost use Rattle.ntriples_batch.specs.inside.Batches.{hasTriple, LineAt, Gathered, IsLineOfTriple, HaveTexts};
 

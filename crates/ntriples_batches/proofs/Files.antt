@@ -13,13 +13,16 @@ use Rattle.spec.specs.Tables.{firstRows}
 use Rattle.spec.proofs.Lists.{by-test, true-not-false}
 use Rattle.spec.proofs.Ascending.{and-left, and-right}
 use Rattle.spec.specs.inside.Each.{Each}
-use Rattle.spec_ntriples.specs.Lines.{TextTriple, triples, document}
+use Rattle.spec_ntriples.specs.Texts.{TextTriple}
+use Rattle.spec_ntriples.specs.computed.Lines.{triples, document}
 use Rattle.spec_ntriples.specs.Dictionary.{Entry, entriesBytes, firstNumber, nextNumber, areNumbersEnough}
 use Rattle.spec_ntriples.specs.Reading.{withTexts, withAll, tripleOf}
-use Rattle.spec_ntriples.proofs.Numbers.{each-front, each-back, textsOfKind, Enough, numbers-enough, enough-front}
+use Rattle.spec.proofs.Each.{each-front, each-back}
+use Rattle.spec_ntriples.proofs.Numbers.{textsOfKind, Enough, numbers-enough, enough-front}
 use Rattle.spec_ntriples.specs.Sights.{firstSights, knownTexts, fileTexts}
 use Rattle.spec_ntriples.proofs.KnownTexts.{HasTerm, nextEntries, first-sights, has-kept}
 use Rattle.spec_ntriples.proofs.ReadingDictionary.{with-all}
+use Rattle.spec_ntriples.proofs.ReadingAgain.{with-then}
 use Rattle.spec_ntriples.proofs.TripleTexts.{TextsRight, document-texts}
 use Rattle.dictionary_entries.proofs.Standing.{entries-length}
 use Rattle.dictionary_bytes.specs.declared.Filled.{Filled}
@@ -33,11 +36,6 @@ use Rattle.ntriples_segments.specs.inside.Segments.{IsBatch, AllNamed, DoNotFit
 use Rattle.ntriples_batches.specs.inside.Batches.{FileNamed}
 
 -- ---- entries with the texts of triples
-
-with-then : (es : List Entry) (ts us : List TextTriple) → withAll es (ts ++ us) ≡ withAll (withAll es ts) us
-unfolding withAll
-with-then es [] us = refl
-with-then es (t ∷ ts) us = with-then (withTexts es t) ts us
 
 -- The entries with the texts of some triples are those before, and more behind them.
 pub record Grown (es fs : List Entry) : Type 0 where

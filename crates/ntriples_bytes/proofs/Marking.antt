@@ -9,7 +9,8 @@ use lib.ListN.{length, getD, drop, length-drop}
 use lib.Seq.{drop-cons}
 use lib.Dec.{eqb, leb, ltb}
 use borrow.Author.Tests.{lt-leb, le-leb, ne-eqb, eqb-false, lt-ltb, le-ltb, leb-true, eqb-true, ltb-true, ltb-false}
-use Rattle.spec_ntriples.specs.Utf8.{isBetween, Decoded, broken, decoded, withChar, Due, bad, due, firstByte, furtherByte, nextByte, noByte, decodeFrom, decode}
+use Rattle.spec_ntriples.specs.Utf8.{isBetween}
+use Rattle.spec_ntriples.specs.computed.Decoded.{Decoded, broken, decoded, withChar, Due, bad, due, firstByte, furtherByte, nextByte, noByte, decodeFrom, decode}
 use Rattle.ntriples_bytes.specs.inside.Places.{At, Utf8From, Marks}
 use Rattle.ntriples_bytes.specs.declared.Mark.{Mark}
 use Rattle.ntriples_bytes.proofs.Decoding.{broken-not, front-char, behind-front, whole, bad-stays, at-within, First, first-at}

@@ -6,7 +6,8 @@ use mathlib.Core.List.{List, [], _∷_, _++_}
 use native.Mathlib.Omega.{arith}
 use lib.Dec.{eqb, leb, ltb}
 use borrow.Author.Tests.{lt-leb, lt-ltb, eqb-true, ltb-false}
-use Rattle.spec_ntriples.specs.Utf8.{isBetween, Decoded, broken, decoded, withChar, Due, bad, due, firstByte, furtherByte, nextByte, noByte, decodeFrom, decode}
+use Rattle.spec_ntriples.specs.Utf8.{isBetween}
+use Rattle.spec_ntriples.specs.computed.Decoded.{Decoded, broken, decoded, withChar, Due, bad, due, firstByte, furtherByte, nextByte, noByte, decodeFrom, decode}
 use Rattle.ntriples_bytes.specs.inside.Parts.{joined, hasAny}
 use Rattle.ntriples_bytes.proofs.Decoding.{broken-not, whole, bad-stays}
 use Rattle.ntriples_bytes.proofs.Marking.{by-test, between}

@@ -9,7 +9,8 @@ use lib.ListN.{length, getD, drop, drop-of-length-le}
 use lib.Seq.{drop-cons}
 use lib.Dec.{eqb, leb, ltb}
 use borrow.Author.Tests.{lt-leb, le-leb, ne-eqb, eq-eqb, lt-ltb, le-ltb, eqb-true, ltb-true}
-use Rattle.spec_ntriples.specs.Utf8.{isBetween, Decoded, broken, decoded, withChar, Due, bad, due, firstByte, furtherByte, nextByte, noByte, decodeFrom, decode}
+use Rattle.spec_ntriples.specs.Utf8.{isBetween}
+use Rattle.spec_ntriples.specs.computed.Decoded.{Decoded, broken, decoded, withChar, Due, bad, due, firstByte, furtherByte, nextByte, noByte, decodeFrom, decode}
 use Rattle.ntriples_bytes.specs.inside.Whole.{areChars, areCharsFrom}
 use Rattle.ntriples_bytes.specs.declared.Open.{Open}
 use Rattle.ntriples_bytes.specs.declared.Open.the-variants.{Broken, Due as Left}

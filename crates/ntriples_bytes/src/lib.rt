@@ -3,7 +3,7 @@ ghost use mathlib.Core.Path.{_≡_};
 ghost use mathlib.Core.List.{List, _∷_};
 ghost use Prim.Native.Nat.{ℕ, _<_};
 ghost use lib.ListN.{length, getD};
-ghost use Rattle.spec_ntriples.specs.Utf8.{decode, decodeFrom, firstByte};
+ghost use Rattle.spec_ntriples.specs.computed.Decoded.{decode, decodeFrom, firstByte};
 ghost use Rattle.ntriples_bytes.specs.inside.Places.{Utf8From, Marks};
 ghost use Rattle.ntriples_bytes.specs.inside.Whole.{areChars, areCharsFrom};
 

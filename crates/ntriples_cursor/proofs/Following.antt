@@ -9,7 +9,7 @@ use lib.Dec.{eqb}
 use lib.ListN.{length}
 use Rattle.spec_ntriples.specs.Utf8.{encode, encodeChar}
 use Rattle.spec_ntriples.specs.Characters.{codes, isOneOf}
-use Rattle.spec_ntriples.specs.Terminals.{outside, iriStep, stringStep, scan, got, skip}
+use Rattle.spec_ntriples.specs.computed.Terminals.{outside, iriStep, stringStep, scan, got, skip}
 use Rattle.spec_ntriples.specs.Texts.{Text, text, isSame, iriText, blankText, canonicalChar, canonicalChars, xsdString}
 use Rattle.ntriples_bytes.specs.inside.Places.{At, Utf8From, Marks, HasText, charsAt}
 use Rattle.ntriples_bytes.specs.declared.Mark.{Mark}

@@ -7,7 +7,7 @@ use mathlib.Core.List.{List, [], _∷_, _++_}
 use native.Mathlib.Omega.{arith}
 use lib.ListN.{length}
 use Rattle.spec_ntriples.specs.Utf8.{encode}
-use Rattle.spec_ntriples.specs.Terminals.{skip}
+use Rattle.spec_ntriples.specs.computed.Terminals.{skip}
 use Rattle.spec_ntriples.specs.Texts.{isSame}
 use Rattle.ntriples_bytes.specs.inside.Places.{At, Marks}
 use Rattle.ntriples_bytes.specs.declared.Mark.{Mark}

@@ -6,7 +6,7 @@ use mathlib.Core.List.{List, [], _∷_, _++_, append-assoc}
 use native.Mathlib.Omega.{arith}
 use lib.ListN.{length}
 use Rattle.spec_ntriples.specs.Utf8.{encode}
-use Rattle.spec_ntriples.specs.Terminals.{outside, iriStep, stringStep, skip}
+use Rattle.spec_ntriples.specs.computed.Terminals.{outside, iriStep, stringStep, skip}
 use Rattle.spec_ntriples.specs.Texts.{Text}
 use Rattle.ntriples_bytes.specs.inside.Places.{At, HasText}
 use Rattle.ntriples_cursor.specs.declared.Mode.{Mode}

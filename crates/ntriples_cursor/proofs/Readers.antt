@@ -11,7 +11,7 @@ use lib.ListN.{length}
 use borrow.Author.Tests.{lt-ltb, le-ltb, eq-eqb, ne-eqb, eqb-true, eqb-false, ltb-true, ltb-false}
 use Rattle.spec_ntriples.specs.Utf8.{isBetween, isScalar, encodeChar}
 use Rattle.spec_ntriples.specs.Characters.{codes, isOneOf, isIriChar, isStringChar, hexValue, noChar, echar}
-use Rattle.spec_ntriples.specs.Terminals.{State, outside, slash, digits, Step, ends, breaks, leads, gives, Got, none, got, push, digit, hexStep, iriStep, stringStep, afterStep, scan}
+use Rattle.spec_ntriples.specs.computed.Terminals.{State, outside, slash, digits, Step, ends, breaks, leads, gives, Got, none, got, push, digit, hexStep, iriStep, stringStep, afterStep, scan}
 use Rattle.spec_ntriples.specs.Texts.{canonicalChar}
 use Rattle.ntriples_bytes.specs.inside.Places.{At, Utf8From, Marks}
 use Rattle.ntriples_bytes.specs.declared.Mark.{Mark}

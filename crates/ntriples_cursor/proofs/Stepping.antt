@@ -11,8 +11,8 @@ use lib.Seq.{length-take-le}
 use borrow.Author.Tests.{eqb-true}
 use Rattle.spec_ntriples.specs.Utf8.{isBetween, encode, encodeChar}
 use Rattle.spec_ntriples.specs.Characters.{codes, isOneOf}
-use Rattle.spec_ntriples.specs.Terminals.{outside, iriStep, stringStep, scan, got, lowerChar, skip}
-use Rattle.spec_ntriples.specs.Texts.{Text, text, iriText, blankText, canonicalChar, canonicalChars}
+use Rattle.spec_ntriples.specs.computed.Terminals.{outside, iriStep, stringStep, scan, got, skip}
+use Rattle.spec_ntriples.specs.Texts.{lowerChar, Text, text, iriText, blankText, canonicalChar, canonicalChars}
 use Rattle.ntriples_bytes.specs.inside.Places.{At, Utf8From, Marks, HasText}
 use Rattle.ntriples_bytes.specs.declared.Mark.{Mark}
 use Rattle.ntriples_bytes.proofs.Decoding.{at-same, at-within, some-at}

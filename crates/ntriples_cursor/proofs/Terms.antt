@@ -10,9 +10,9 @@ use lib.ListN.{length, length-append}
 use borrow.Author.Tests.{eqb-true}
 use Rattle.spec_ntriples.specs.Utf8.{isBetween, encode, encodeChar}
 use Rattle.spec_ntriples.specs.Characters.{codes, isOneOf, isLetter, isDigit, isLetterOrDigit, isPnChars, isPnCharsU}
-use Rattle.spec_ntriples.specs.Terminals.{State, outside, Step, ends, breaks, leads, gives, Got, none, got, push, iriStep, stringStep, afterStep, scan, dotted, label, headIs, lowerChar, tag, skip}
-use Rattle.spec_ntriples.specs.Texts.{Text, text, isSame, isAbsolute, iriText, blankText, canonicalChars, stringText, taggedText, typedText, xsdString}
-use Rattle.spec_ntriples.specs.Lines.{Read, nothing, read, iriOf, readIri, blankOf, readBlank, typedOf, readType, taggedOf, suffixed, literalOf, readSubject, readObject}
+use Rattle.spec_ntriples.specs.computed.Terminals.{State, outside, Step, ends, breaks, leads, gives, Got, none, got, push, iriStep, stringStep, afterStep, scan, dotted, label, headIs, tag, skip}
+use Rattle.spec_ntriples.specs.Texts.{lowerChar, Text, text, isSame, isAbsolute, iriText, blankText, canonicalChars, stringText, taggedText, typedText, xsdString}
+use Rattle.spec_ntriples.specs.computed.Lines.{Read, nothing, read, iriOf, readIri, blankOf, readBlank, typedOf, readType, taggedOf, suffixed, literalOf, readSubject, readObject}
 use Rattle.ntriples_bytes.specs.inside.Places.{At}
 use Rattle.ntriples_bytes.proofs.Decoding.{at-same}
 use Rattle.ntriples_bytes.proofs.Marking.{by-test, and-left, and-right, between}

@@ -8,7 +8,8 @@ use native.Mathlib.Omega.{arith}
 use lib.Dec.{eqb, leb, ltb}
 use lib.ListN.{length, drop, length-append, length-drop}
 use borrow.Author.Tests.{lt-ltb, le-ltb, eqb-true, eqb-false, ltb-true, ltb-false}
-use Rattle.spec_ntriples.specs.Utf8.{isBetween, encodeChar, encode, Decoded, broken, decoded, withChar, Due, bad, due, firstByte, furtherByte, nextByte, noByte, decodeFrom, decode}
+use Rattle.spec_ntriples.specs.Utf8.{isBetween, encodeChar, encode}
+use Rattle.spec_ntriples.specs.computed.Decoded.{Decoded, broken, decoded, withChar, Due, bad, due, firstByte, furtherByte, nextByte, noByte, decodeFrom, decode}
 use Rattle.ntriples_bytes.specs.inside.Places.{At}
 use Rattle.ntriples_bytes.proofs.Decoding.{broken-not, front-char, behind-front, whole, bad-stays, first-at, at-start, at-within}
 use Rattle.ntriples_bytes.proofs.Marking.{by-test, between}

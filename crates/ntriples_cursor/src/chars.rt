@@ -5,7 +5,7 @@ use ntriples_chars::echar;
 use ntriples_chars::hex_value;
 ghost use mathlib.Core.List.{List};
 ghost use Prim.Native.Nat.{ℕ, _≤_};
-ghost use Rattle.spec_ntriples.specs.Terminals.{State, Step, slash, digits, outside};
+ghost use Rattle.spec_ntriples.specs.computed.Terminals.{State, Step, slash, digits, outside};
 ghost use Rattle.ntriples_cursor.specs.inside.Readers.{IsReader, Reads, InState, NotClosed, AtChar, Gives};
 
 const BACKSLASH: u32 = 0x5C;

@@ -16,8 +16,7 @@ ghost use mathlib.Core.Bool.{true, _&&_};
 ghost use mathlib.Core.List.{List, _++_};
 ghost use Prim.Native.Nat.{ℕ, _+_, _-_, _≤_, _<_};
 ghost use lib.ListN.{length, take, drop};
-ghost use Rattle.spec_ntriples.specs.Terminals.{lowerChar};
-ghost use Rattle.spec_ntriples.specs.Texts.{isSame};
+ghost use Rattle.spec_ntriples.specs.Texts.{lowerChar, isSame};
 ghost use Rattle.ntriples_bytes.specs.inside.Places.{At};
 ghost use Rattle.ntriples_cursor.specs.inside.Coming.{Typed, Follows, ComingIn, Coming, SomeComing, SomeTyped, SomeFollows, Stepped, IriStepped, typeTail};
 

@@ -6,8 +6,9 @@ use mathlib.Core.List.{List, [], _∷_}
 use native.Mathlib.Omega.{arith}
 use lib.ListN.{length, getD, take, drop, drop-of-length-le, length-drop}
 use lib.Seq.{drop-drop}
-use Rattle.spec_ntriples.specs.Utf8.{Decoded, broken, decoded, decode}
-use Rattle.spec_ntriples.specs.Lines.{TextTriple, Line, wrong, empty, full, readLine, Document, refused, triples, withTriple, withLine, document}
+use Rattle.spec_ntriples.specs.computed.Decoded.{Decoded, broken, decoded, decode}
+use Rattle.spec_ntriples.specs.Texts.{TextTriple}
+use Rattle.spec_ntriples.specs.computed.Lines.{Line, wrong, empty, full, readLine, Document, refused, triples, withTriple, withLine, document}
 use Rattle.ntriples_bytes.specs.inside.Places.{Utf8From}
 use Rattle.ntriples_bytes.specs.inside.Whole.{areChars}
 use Rattle.ntriples_bytes.proofs.Decoding.{at-start}

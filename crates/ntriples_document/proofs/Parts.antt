@@ -9,10 +9,10 @@ use lib.ListN.{length, getD, take, drop, drop-of-length-le}
 use lib.Seq.{drop-cons}
 use lib.Dec.{eqb, leb, ltb}
 use borrow.Author.Tests.{ne-eqb, ltb-true, ltb-false}
-use Rattle.spec_ntriples.specs.Utf8.{Decoded, broken, decoded, withChar, decode}
+use Rattle.spec_ntriples.specs.computed.Decoded.{Decoded, broken, decoded, withChar, decode}
 use Rattle.spec_ntriples.specs.Characters.{codes, isOneOf}
-use Rattle.spec_ntriples.specs.Terminals.{skip}
-use Rattle.spec_ntriples.specs.Lines.{Line, wrong, empty, full, isRest, readLine, addToLine, lines, Document, refused, triples, withTriple, withLine, readLines, documentOf, document}
+use Rattle.spec_ntriples.specs.computed.Terminals.{skip}
+use Rattle.spec_ntriples.specs.computed.Lines.{Line, wrong, empty, full, isRest, readLine, addToLine, lines, Document, refused, triples, withTriple, withLine, readLines, documentOf, document}
 use Rattle.ntriples_bytes.specs.inside.Parts.{joined, hasAny}
 use Rattle.ntriples_bytes.proofs.Parting.{decode-parts, none-passes}
 use Rattle.ntriples_bytes.proofs.Marking.{by-test}

@@ -5,8 +5,8 @@ use ntriples_lines::read_line;
 ghost use mathlib.Core.Path.{_≡_};
 ghost use Prim.Native.Nat.{ℕ, suc, _+_, _≤_, _<_};
 ghost use lib.ListN.{length, drop};
-ghost use Rattle.spec_ntriples.specs.Utf8.{decode};
-ghost use Rattle.spec_ntriples.specs.Lines.{document};
+ghost use Rattle.spec_ntriples.specs.computed.Decoded.{decode};
+ghost use Rattle.spec_ntriples.specs.computed.Lines.{document};
 ghost use Rattle.ntriples_lines.specs.inside.Reading.{IsLine};
 ghost use Rattle.ntriples_document.specs.inside.Bytes.{lineLength, lineOf, countOf, IsNext};
 

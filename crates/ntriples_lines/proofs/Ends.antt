@@ -3,7 +3,7 @@ use Prim.Native.Nat.{ℕ}
 use mathlib.Core.Path.{_≡_, refl, sym, ap, _∙_}
 use mathlib.Core.Bool.{Bool, true, false}
 use mathlib.Core.List.{List, [], _∷_}
-use Rattle.spec_ntriples.specs.Terminals.{headIs}
+use Rattle.spec_ntriples.specs.computed.Terminals.{headIs}
 use Rattle.ntriples_bytes.specs.inside.Places.{Utf8From, charsAt}
 use Rattle.ntriples_terminals.specs.inside.Ends.{Behind, nowhere, behind, behindHead, Ended, IsEnd}
 use Rattle.ntriples_terminals.specs.declared.Found.{Found}

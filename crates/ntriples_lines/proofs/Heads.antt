@@ -7,9 +7,9 @@ use mathlib.Core.List.{List, [], _∷_}
 use native.Mathlib.Omega.{arith}
 use lib.Dec.{eqb}
 use Rattle.spec_ntriples.specs.Characters.{isLetter, isDigit, isPnCharsU}
-use Rattle.spec_ntriples.specs.Terminals.{Got, none, got, outside, stringStep, scan, label, headIs, tag, skip}
+use Rattle.spec_ntriples.specs.computed.Terminals.{Got, none, got, outside, stringStep, scan, label, headIs, tag, skip}
 use Rattle.spec_ntriples.specs.Texts.{Text, text, stringText}
-use Rattle.spec_ntriples.specs.Lines.{Read, nothing, read, readIri, blankOf, readBlank, typedOf, readType, taggedOf, suffixed, literalOf, readSubject, readObject}
+use Rattle.spec_ntriples.specs.computed.Lines.{Read, nothing, read, readIri, blankOf, readBlank, typedOf, readType, taggedOf, suffixed, literalOf, readSubject, readObject}
 use Rattle.ntriples_bytes.proofs.Marking.{by-test}
 use Rattle.ntriples_terminals.specs.inside.Ends.{Behind, nowhere, behind, behindHead, behindGot, behindRead, goesOn}
 use Rattle.ntriples_lines.specs.inside.Reading.{behindLabelled, behindTag, behindType}

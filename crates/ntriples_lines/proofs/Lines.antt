@@ -8,10 +8,10 @@ use native.Mathlib.Omega.{arith}
 use lib.ListN.{length}
 use lib.Dec.{eqb}
 use borrow.Author.Tests.{eqb-true, ne-eqb}
-use Rattle.spec_ntriples.specs.Utf8.{decoded, decode}
-use Rattle.spec_ntriples.specs.Terminals.{headIs, skip}
-use Rattle.spec_ntriples.specs.Texts.{Text}
-use Rattle.spec_ntriples.specs.Lines.{Read, nothing, read, readIri, readSubject, readObject, TextTriple, Line, wrong, empty, full, isRest, endOf, afterObject, afterProperty, afterSubject, readLine}
+use Rattle.spec_ntriples.specs.computed.Decoded.{decoded, decode}
+use Rattle.spec_ntriples.specs.computed.Terminals.{headIs, skip}
+use Rattle.spec_ntriples.specs.Texts.{Text, TextTriple}
+use Rattle.spec_ntriples.specs.computed.Lines.{Read, nothing, read, readIri, readSubject, readObject, Line, wrong, empty, full, isRest, endOf, afterObject, afterProperty, afterSubject, readLine}
 use Rattle.ntriples_bytes.specs.declared.Mark.{Mark}
 use Rattle.ntriples_bytes.specs.inside.Places.{At, Utf8From, charsAt, Marks, HasText}
 use Rattle.ntriples_bytes.proofs.Decoding.{at-start, chars-are, chars-stand, chars-end, chars-marked}

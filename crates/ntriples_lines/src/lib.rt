@@ -12,10 +12,10 @@ ghost use mathlib.Core.Path.{_≡_};
 ghost use mathlib.Core.Bool.{true};
 ghost use mathlib.Core.List.{List};
 ghost use Prim.Native.Nat.{ℕ};
-ghost use Rattle.spec_ntriples.specs.Utf8.{decoded, decode};
-ghost use Rattle.spec_ntriples.specs.Terminals.{skip};
+ghost use Rattle.spec_ntriples.specs.computed.Decoded.{decoded, decode};
+ghost use Rattle.spec_ntriples.specs.computed.Terminals.{skip};
 ghost use Rattle.spec_ntriples.specs.Texts.{Text};
-ghost use Rattle.spec_ntriples.specs.Lines.{readIri, readObject, isRest, afterObject, afterProperty, readLine};
+ghost use Rattle.spec_ntriples.specs.computed.Lines.{readIri, readObject, isRest, afterObject, afterProperty, readLine};
 ghost use Rattle.ntriples_bytes.specs.inside.Places.{Utf8From, charsAt, HasText};
 ghost use Rattle.ntriples_lines.specs.inside.Reading.{isEnded, IsLine};
 

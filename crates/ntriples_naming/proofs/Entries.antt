@@ -8,8 +8,7 @@ use lib.Dec.{eqb}
 use borrow.Author.Tests.{eq-eqb, ne-eqb}
 use Rattle.spec.proofs.Lists.{by-test}
 use Rattle.spec.specs.inside.Each.{Each}
-use Rattle.spec_ntriples.specs.Texts.{Text, isSame}
-use Rattle.spec_ntriples.specs.Lines.{TextTriple}
+use Rattle.spec_ntriples.specs.Texts.{Text, isSame, TextTriple}
 use Rattle.spec_ntriples.specs.Dictionary.{Entry, entry, vocabularyOf, termIn, termOf, nextTerm, kindOf}
 use Rattle.spec_ntriples.specs.Reading.{withText, withTexts, withAll}
 use Rattle.spec_ntriples.specs.inside.Entries.{Writable}

@@ -12,7 +12,7 @@ use Rattle.spec.specs.Tables.{tripleFrom}
 use Rattle.spec.proofs.Lists.{by-test}
 use Rattle.spec.proofs.TableRows.{tripleFrom-drop}
 use Rattle.spec.specs.inside.Each.{Each}
-use Rattle.spec_ntriples.specs.Lines.{TextTriple}
+use Rattle.spec_ntriples.specs.Texts.{TextTriple}
 use Rattle.spec_ntriples.specs.Dictionary.{Entry, vocabularyOf, termIn, termOf}
 use Rattle.spec_ntriples.proofs.KnownTexts.{HasTerm, term-more}
 use Rattle.ntriples_batch.specs.inside.Batches.{noTriple}

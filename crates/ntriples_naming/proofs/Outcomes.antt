@@ -13,8 +13,7 @@ use Rattle.spec.specs.inside.Comparison.{triple-eq}
 use Rattle.spec.proofs.Lists.{by-test}
 use Rattle.spec.proofs.TableRows.{tripleFrom-drop}
 use Rattle.spec.specs.inside.Each.{Each}
-use Rattle.spec_ntriples.specs.Texts.{Text}
-use Rattle.spec_ntriples.specs.Lines.{TextTriple}
+use Rattle.spec_ntriples.specs.Texts.{Text, TextTriple}
 use Rattle.spec_ntriples.specs.Dictionary.{Entry, entry, entriesBytes, termOf, nextTerm, areNumbersEnough}
 use Rattle.spec_ntriples.specs.Reading.{withText, withAll, tripleOf}
 use Rattle.spec_ntriples.proofs.KnownTexts.{HasTerm}

@@ -15,7 +15,7 @@ use Rattle.spec_ntriples.specs.Dictionary.{Entry, entry, termIn, termOf, nextTe
 use Rattle.spec_ntriples.specs.Reading.{withText}
 use Rattle.spec_ntriples.specs.inside.Entries.{Writable}
 use Rattle.spec_ntriples.proofs.EntryBytes.{length-entries}
-use Rattle.spec_ntriples.proofs.Numbers.{each-front, each-back}
+use Rattle.spec.proofs.Each.{each-front, each-back}
 use Rattle.spec_ntriples.proofs.KnownTexts.{HasTerm, term-more}
 use Rattle.dictionary_bytes.specs.declared.Filled.{Filled}
 use Rattle.dictionary_names.specs.declared.Named as names

@@ -10,7 +10,7 @@ use lib.Dec.{eqb, leb, ltb}
 use borrow.Author.Tests.{lt-ltb, le-ltb, lt-leb, le-leb, eq-eqb, ne-eqb, eqb-true, eqb-false, ltb-true}
 use Rattle.spec_ntriples.specs.Utf8.{isScalar}
 use Rattle.spec_ntriples.specs.Characters.{codes, isOneOf, isIriChar, isStringChar, hexValue, noChar, echar}
-use Rattle.spec_ntriples.specs.Terminals.{Got, none, got, push, State, outside, slash, digits, Step, ends, breaks, leads, gives, digit, hexStep, iriStep, stringStep, afterStep, scan}
+use Rattle.spec_ntriples.specs.computed.Terminals.{Got, none, got, push, State, outside, slash, digits, Step, ends, breaks, leads, gives, digit, hexStep, iriStep, stringStep, afterStep, scan}
 use Rattle.ntriples_bytes.specs.declared.Mark.{Mark}
 use Rattle.ntriples_bytes.specs.inside.Places.{Utf8From, charsAt, Marks}
 use Rattle.ntriples_bytes.proofs.Decoding.{chars-end, chars-marked, from-marked}

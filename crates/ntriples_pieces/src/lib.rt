@@ -14,7 +14,7 @@ ghost use Prim.Native.Nat.{ℕ, _≤_, _<_};
 ghost use lib.ListN.{length};
 ghost use lib.Dec.{ltb};
 ghost use Rattle.spec_ntriples.specs.Utf8.{isScalar};
-ghost use Rattle.spec_ntriples.specs.Terminals.{State, outside, slash, digits, scan};
+ghost use Rattle.spec_ntriples.specs.computed.Terminals.{State, outside, slash, digits, scan};
 ghost use Rattle.ntriples_bytes.specs.inside.Places.{Utf8From, charsAt};
 ghost use Rattle.ntriples_pieces.specs.inside.Pieces.{stepOf, mayStand, mayEscape, closingOf, IsPiece};
 

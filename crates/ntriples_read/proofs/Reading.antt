@@ -13,7 +13,8 @@ use Rattle.spec.specs.Tables.{firstRows}
 use Rattle.spec.specs.Lists.{padded}
 use Rattle.spec.specs.Messages.{mostBytes, encode}
 use Rattle.spec_ntriples.specs.declared.ByteReply.the-variants.{Length, Refused}
-use Rattle.spec_ntriples.specs.Lines.{TextTriple, Document, refused, triples, document}
+use Rattle.spec_ntriples.specs.Texts.{TextTriple}
+use Rattle.spec_ntriples.specs.computed.Lines.{Document, refused, triples, document}
 use Rattle.spec_ntriples.specs.Dictionary.{Entry, entriesBytes, dictionaryBytes, entries, areNumbersEnough, isDictionary}
 use Rattle.spec_ntriples.specs.Reading.{withAll, tripleOf, additions, readFile, concludeReading, readNTriples}
 use Rattle.spec_ntriples.specs.Promises.{RefusedBy, Accepted}

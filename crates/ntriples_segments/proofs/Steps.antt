@@ -5,12 +5,11 @@ use mathlib.Core.List.{List, [], _++_, append-assoc, append-nil}
 use native.Mathlib.Omega.{arith}
 use lib.ListN.{length, take, drop, take-append-drop}
 use Rattle.spec.specs.inside.Each.{Each}
-use Rattle.spec_ntriples.specs.Texts.{Text}
-use Rattle.spec_ntriples.specs.Lines.{TextTriple}
+use Rattle.spec_ntriples.specs.Texts.{Text, TextTriple}
 use Rattle.spec_ntriples.specs.Dictionary.{Entry, entriesBytes, vocabularyOf}
 use Rattle.spec_ntriples.specs.Reading.{withAll}
 use Rattle.spec_ntriples.proofs.EntryBytes.{length-entries}
-use Rattle.spec_ntriples.proofs.Numbers.{each-front}
+use Rattle.spec.proofs.Each.{each-front}
 use Rattle.spec_ntriples.proofs.KnownTexts.{HasTerm}
 use Rattle.dictionary_bytes.specs.declared.Filled.{Filled}
 use Rattle.dictionary_bytes.specs.inside.Entries.{placeAt, FilledBy}

@@ -8,7 +8,7 @@ use ntriples_naming::name_terms;
 use ntriples_terms::find_terms;
 use ntriples_terms::name_vocabulary;
 ghost use mathlib.Core.List.{List};
-ghost use Rattle.spec_ntriples.specs.Lines.{TextTriple};
+ghost use Rattle.spec_ntriples.specs.Texts.{TextTriple};
 ghost use Rattle.spec_ntriples.specs.Dictionary.{Entry};
 ghost use Rattle.dictionary_bytes.specs.inside.Entries.{FilledBy};
 ghost use Rattle.dictionary_names.specs.inside.Naming.{LastSegment};

@@ -9,9 +9,9 @@ use lib.ListN.{length, getD}
 use lib.Dec.{eqb, leb, ltb}
 use borrow.Author.Tests.{lt-ltb, le-ltb, eq-eqb, ne-eqb}
 use Rattle.spec_ntriples.specs.Characters.{codes, isOneOf, isLetter, isLetterOrDigit}
-use Rattle.spec_ntriples.specs.Terminals.{Got, none, got, push, outside, iriStep, stringStep, scan, skip}
+use Rattle.spec_ntriples.specs.computed.Terminals.{Got, none, got, push, outside, iriStep, stringStep, scan, skip}
 use Rattle.spec_ntriples.specs.Texts.{text, iriText, isScheme, isAbsolute}
-use Rattle.spec_ntriples.specs.Lines.{Read, nothing, read, iriOf, readIri}
+use Rattle.spec_ntriples.specs.computed.Lines.{Read, nothing, read, iriOf, readIri}
 use Rattle.ntriples_bytes.specs.declared.Mark.{Mark}
 use Rattle.ntriples_bytes.specs.inside.Places.{At, Utf8From, charsAt, Marks}
 use Rattle.ntriples_bytes.proofs.Decoding.{chars-end, chars-stand, chars-marked, from-marked}

@@ -9,7 +9,8 @@ use lib.ListN.{length, getD}
 use lib.Dec.{eqb, leb, ltb}
 use borrow.Author.Tests.{eq-eqb, ne-eqb}
 use Rattle.spec_ntriples.specs.Characters.{isLetter, isLetterOrDigit, isPnChars}
-use Rattle.spec_ntriples.specs.Terminals.{Got, none, got, push, dotted, label, headIs, lowerChar, tag}
+use Rattle.spec_ntriples.specs.computed.Terminals.{Got, none, got, push, dotted, label, headIs, tag}
+use Rattle.spec_ntriples.specs.Texts.{lowerChar}
 use Rattle.ntriples_bytes.specs.declared.Mark.{Mark}
 use Rattle.ntriples_bytes.specs.inside.Places.{Utf8From, charsAt, Marks}
 use Rattle.ntriples_bytes.proofs.Decoding.{chars-end, chars-marked, from-marked}

@@ -12,7 +12,7 @@ use Rattle.spec.specs.Terms.{triple}
 use Rattle.spec.specs.Tables.{tripleFrom}
 use Rattle.spec.specs.inside.Comparison.{triple-eq}
 use Rattle.spec.proofs.Lists.{le-or}
-use Rattle.spec_ntriples.specs.Lines.{TextTriple}
+use Rattle.spec_ntriples.specs.Texts.{TextTriple}
 use Rattle.ntriples_lines.specs.declared.Tokens.{Tokens}
 use Rattle.ntriples_text.specs.inside.Tokens.{IsToken}
 use Rattle.ntriples_document.specs.inside.Bytes.{lineLength}

@@ -10,12 +10,14 @@ use borrow.Author.Tests.{eqb-true, eq-eqb}
 use Rattle.spec.specs.Lists.{all}
 use Rattle.spec.proofs.Lists.{by-test, true-not-false}
 use Rattle.spec.proofs.Ascending.{and-left, and-right}
-use Rattle.spec_ntriples.specs.Utf8.{isScalar, Decoded, broken, decoded, decode}
+use Rattle.spec_ntriples.specs.Utf8.{isScalar}
+use Rattle.spec_ntriples.specs.computed.Decoded.{Decoded, broken, decoded, decode}
 use Rattle.spec_ntriples.specs.Characters.{codes}
-use Rattle.spec_ntriples.specs.Texts.{Text, isSame, iriText, blankText, stringText, taggedText, xsdString, typedText}
-use Rattle.spec_ntriples.specs.Lines.{Read, nothing, read, readObject, TextTriple, triples, document}
-use Rattle.spec_ntriples.specs.Dictionary.{kindOf, isNone, givesItself, decodesToItself, isCanonical}
-use Rattle.spec_ntriples.specs.Meaning.{Means, TripleLine, LineSays, Says}
+use Rattle.spec_ntriples.specs.Texts.{Text, isSame, iriText, blankText, stringText, taggedText, xsdString, typedText, TextTriple}
+use Rattle.spec_ntriples.specs.computed.Lines.{Read, nothing, read, readObject, triples, document}
+use Rattle.spec_ntriples.specs.Dictionary.{kindOf}
+use Rattle.spec_ntriples.specs.computed.Canonical.{isNone, givesItself, decodesToItself, isCanonical}
+use Rattle.spec_ntriples.specs.Meaning.{Means, TextOfTerm, TripleLine, LineSays, Says}
 use Rattle.spec_ntriples.proofs.Decoding.{decode-encode}
 use Rattle.spec_ntriples.proofs.Terms.{object-read, read-object}
 use Rattle.spec_ntriples.proofs.LineRead.{nil-ends}
@@ -81,14 +83,6 @@ pub text-canonical : (cs : List ℕ) (t : Text) (rest : List ℕ) → all isScal
 text-canonical cs t rest h e =
     let i = object-read cs t rest e in
     means-canonical (i .term) t (all-front isScalar (i .term) rest (rw (i .spelled) at h)) (i .means)
-
--- A text that a term means.
-pub record TextOfTerm (bytes : List ℕ) : Type 0 where
-  pub spelling : List ℕ
-  pub term : Text
-  pub scalar : all isScalar spelling ≡ true
-  pub means : Means spelling term
-  pub same : term .bytes ≡ bytes
 
 -- Canonical texts are exactly those that terms mean.
 pub canonical-means : (t : List ℕ) → (isCanonical t ≡ true) ↔ TextOfTerm t

@@ -10,7 +10,8 @@ use borrow.Author.Tests.{ltb-true, ltb-false, leb-true, eqb-true, eqb-false, lt-
 use Rattle.spec.specs.Lists.{all}
 use Rattle.spec.proofs.Lists.{cond-elim, by-test}
 use Rattle.spec.proofs.Ascending.{and-left, and-right}
-use Rattle.spec_ntriples.specs.Utf8.{isBetween, isScalar, encodeChar, encode, Decoded, broken, decoded, withChar, Due, bad, due, firstByte, furtherByte, nextByte, noByte, decodeFrom, decode}
+use Rattle.spec_ntriples.specs.Utf8.{isBetween, isScalar, encodeChar, encode}
+use Rattle.spec_ntriples.specs.computed.Decoded.{Decoded, broken, decoded, withChar, Due, bad, due, firstByte, furtherByte, nextByte, noByte, decodeFrom, decode}
 
 -- ---- decoded characters
 

@@ -9,9 +9,10 @@ use borrow.Author.Tests.{not-true}
 use Rattle.spec.specs.Lists.{all}
 use Rattle.spec.proofs.Lists.{cond-elim}
 use Rattle.spec.proofs.Ascending.{and-left, and-right}
-use Rattle.spec_ntriples.specs.Utf8.{Decoded, broken, decoded, decode}
+use Rattle.spec_ntriples.specs.computed.Decoded.{Decoded, broken, decoded, decode}
 use Rattle.spec_ntriples.specs.Characters.{codes, isOneOf}
-use Rattle.spec_ntriples.specs.Lines.{TextTriple, Line, wrong, empty, full, readLine, addToLine, lines, Document, refused, triples, withTriple, withLine, readLines, documentOf, document}
+use Rattle.spec_ntriples.specs.Texts.{TextTriple}
+use Rattle.spec_ntriples.specs.computed.Lines.{Line, wrong, empty, full, readLine, addToLine, lines, Document, refused, triples, withTriple, withLine, readLines, documentOf, document}
 use Rattle.spec_ntriples.specs.Expressions.{Matches, Repeated, many, oneOf}
 use Rattle.spec_ntriples.specs.Meaning.{isOneLine, LineSays, Says, FileSays}
 use Rattle.spec_ntriples.proofs.Decoding.{decode-encode}

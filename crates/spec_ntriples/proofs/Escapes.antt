@@ -13,7 +13,7 @@ use Rattle.spec.proofs.Lists.{cond-elim, by-test, true-not-false}
 use Rattle.spec.proofs.Ascending.{and-left, and-right}
 use Rattle.spec_ntriples.specs.Utf8.{isBetween, isScalar}
 use Rattle.spec_ntriples.specs.Characters.{codes, isOneOf, isIriChar, isStringChar, hexValue, noChar, echar}
-use Rattle.spec_ntriples.specs.Terminals.{Got, none, got, push, State, outside, slash, digits, Step, ends, breaks, leads, gives, digit, hexStep, iriStep, stringStep, afterStep, scan}
+use Rattle.spec_ntriples.specs.computed.Terminals.{Got, none, got, push, State, outside, slash, digits, Step, ends, breaks, leads, gives, digit, hexStep, iriStep, stringStep, afterStep, scan}
 use Rattle.spec_ntriples.specs.Expressions.{Expression, Matches, Repeated, set, _or_, many, times}
 use Rattle.spec_ntriples.specs.Productions.{HEX, UCHAR, ECHAR}
 use Rattle.spec_ntriples.specs.Meaning.{hexNumber, Uchar, IriPiece, StringPiece, Resolves}

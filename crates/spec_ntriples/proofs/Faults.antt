@@ -6,9 +6,9 @@ use mathlib.Core.Logic.{_↔_, _⊎_, inl, inr, ⊎-elim}
 use mathlib.Core.List.{List, [], _∷_, _++_, map, append-assoc, append-nil}
 use Rattle.spec.proofs.Lists.{by-test}
 use Rattle.spec_ntriples.specs.Characters.{codes}
-use Rattle.spec_ntriples.specs.Terminals.{lowerChar, skip}
-use Rattle.spec_ntriples.specs.Texts.{Text, text, isAbsolute, iriText, blankText, stringText, taggedText, typedText}
-use Rattle.spec_ntriples.specs.Lines.{nothing, iriOf, readIri, typedOf, literalOf, readSubject, readObject, TextTriple, wrong, afterObject, afterProperty, afterSubject, readLine}
+use Rattle.spec_ntriples.specs.Texts.{lowerChar, Text, text, isAbsolute, iriText, blankText, stringText, taggedText, typedText, TextTriple}
+use Rattle.spec_ntriples.specs.computed.Terminals.{skip}
+use Rattle.spec_ntriples.specs.computed.Lines.{nothing, iriOf, readIri, typedOf, literalOf, readSubject, readObject, wrong, afterObject, afterProperty, afterSubject, readLine}
 use Rattle.spec_ntriples.specs.Expressions.{Matches}
 use Rattle.spec_ntriples.specs.Productions.{IRIREF, STRING-LITERAL-QUOTE, WS, subject, literal, object, tripleLine, emptyLine}
 use Rattle.spec_ntriples.specs.Meaning.{IriPiece, Resolves, Iri, Quoted, Means, Parts, TripleLine}

@@ -11,10 +11,11 @@ use Rattle.spec.proofs.Lists.{by-test, true-not-false}
 use Rattle.spec.proofs.Ascending.{and-left, and-right}
 use Rattle.spec.specs.inside.Each.{Each}
 use Rattle.spec_ntriples.specs.Texts.{isSame}
-use Rattle.spec_ntriples.specs.Dictionary.{Entry, entry, vocabularyTexts, placeOf, vocabularyOf, termIn, termOf, firstNumber, nextNumber, nextTerm, kindOf, areNumbered, isCanonical, areTexts}
+use Rattle.spec_ntriples.specs.Dictionary.{Entry, entry, vocabularyTexts, placeOf, vocabularyOf, termIn, termOf, firstNumber, nextNumber, nextTerm, kindOf, areNumbered, areTexts}
+use Rattle.spec_ntriples.specs.computed.Canonical.{isCanonical}
 use Rattle.spec_ntriples.specs.Sights.{isAmong, firstSights, knownTexts}
 use Rattle.spec_ntriples.proofs.Canonical.{same-bytes, same-itself}
-use Rattle.spec_ntriples.proofs.Numbers.{each-append}
+use Rattle.spec.proofs.Each.{each-append}
 
 -- No entry has the term 0.
 abbrev pub HasTerm : Entry → Type 0

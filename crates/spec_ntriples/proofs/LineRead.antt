@@ -11,9 +11,9 @@ use borrow.Author.Tests.{eqb-true}
 use Rattle.spec.proofs.Lists.{by-test}
 use Rattle.spec.proofs.Ascending.{and-left, and-right}
 use Rattle.spec_ntriples.specs.Characters.{codes, isOneOf, isPnCharsBase, isPnCharsU, isPnChars}
-use Rattle.spec_ntriples.specs.Terminals.{got, label, tag, skip}
-use Rattle.spec_ntriples.specs.Texts.{Text}
-use Rattle.spec_ntriples.specs.Lines.{Read, nothing, read, readIri, suffixed, readSubject, readObject, TextTriple, Line, wrong, empty, full, isRest, endOf, afterObject, afterProperty, afterSubject, readLine}
+use Rattle.spec_ntriples.specs.computed.Terminals.{got, label, tag, skip}
+use Rattle.spec_ntriples.specs.Texts.{Text, TextTriple}
+use Rattle.spec_ntriples.specs.computed.Lines.{Read, nothing, read, readIri, suffixed, readSubject, readObject, Line, wrong, empty, full, isRest, endOf, afterObject, afterProperty, afterSubject, readLine}
 use Rattle.spec_ntriples.specs.Expressions.{Matches, Joined, Repeated, set, many, optional}
 use Rattle.spec_ntriples.specs.Productions.{WS, COMMENT, subject, predicate, object, tripleLine, emptyLine}
 use Rattle.spec_ntriples.specs.Meaning.{Means, Parts, TripleLine}

@@ -13,24 +13,13 @@ use Rattle.spec.specs.Terms.{kind, number}
 use Rattle.spec.specs.Lists.{select}
 use Rattle.spec.proofs.Lists.{by-test}
 use Rattle.spec.proofs.Ascending.{and-left, and-right}
+use Rattle.spec.proofs.Each.{each-append}
 use Rattle.spec.specs.inside.Each.{Each}
 use Rattle.spec_ntriples.specs.Dictionary.{Entry, areNumbersEnough, firstNumber, nextNumber, nextTerm, kindOf, areNumbered}
 
 -- ---- what holds of each of a list
 
 module _ {A : Type 0} where
-  pub each-append : (P : A → Type 0) (xs ys : List A) → Each P xs → Each P ys → Each P (xs ++ ys)
-  each-append P [] ys h k = k
-  each-append P (x ∷ xs) ys h k = (h .0, each-append P xs ys (h .1) k)
-
-  pub each-front : (P : A → Type 0) (xs ys : List A) → Each P (xs ++ ys) → Each P xs
-  each-front P [] ys h = tt
-  each-front P (x ∷ xs) ys h = (h .0, each-front P xs ys (h .1))
-
-  pub each-back : (P : A → Type 0) (xs ys : List A) → Each P (xs ++ ys) → Each P ys
-  each-back P [] ys h = h
-  each-back P (x ∷ xs) ys h = each-back P xs ys (h .1)
-
   pub each-map : (P Q : A → Type 0) (xs : List A) → ((x : A) → P x → Q x) → Each P xs → Each Q xs
   each-map P Q [] f h = tt
   each-map P Q (x ∷ xs) f h = (f x (h .0), each-map P Q xs f (h .1))

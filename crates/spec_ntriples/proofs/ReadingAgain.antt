@@ -4,9 +4,10 @@ use mathlib.Core.Path.{_≡_, refl, sym, ap, _∙_}
 use mathlib.Core.List.{List, [], _∷_, _++_, map, append-assoc}
 use lib.ListN.{length}
 use Rattle.spec.specs.declared.Triple.{Triple}
-use Rattle.spec_ntriples.specs.Utf8.{isScalar, encodeChar, encode, withChar, decoded, decode}
+use Rattle.spec_ntriples.specs.Utf8.{isScalar, encodeChar, encode}
+use Rattle.spec_ntriples.specs.computed.Decoded.{withChar, decoded, decode}
 use Rattle.spec_ntriples.specs.Characters.{codes, isOneOf}
-use Rattle.spec_ntriples.specs.Lines.{TextTriple}
+use Rattle.spec_ntriples.specs.Texts.{TextTriple}
 use Rattle.spec_ntriples.specs.Dictionary.{Entry, dictionaryBytes, entries}
 use Rattle.spec_ntriples.specs.Reading.{withAll, tripleOf, concludeReading, readNTriples}
 use Rattle.spec_ntriples.specs.Expressions.{Matches, Repeated}
@@ -99,7 +100,8 @@ file-then a b ts us F G =
       says = says-then (F .chars) (G .chars) ts us (F .says) (G .says);
     }
 
-with-then : (es : List Entry) (ts us : List TextTriple) → withAll es (ts ++ us) ≡ withAll (withAll es ts) us
+-- Entering the texts of some triples and then of more enters those of all.
+pub with-then : (es : List Entry) (ts us : List TextTriple) → withAll es (ts ++ us) ≡ withAll (withAll es ts) us
 unfolding withAll
 with-then es [] us = refl
 with-then es (t ∷ ts) us = with-then _ ts us

@@ -17,7 +17,7 @@ use Rattle.spec.specs.computed.Decoded.{read}
 use Rattle.spec.proofs.Lists.{by-test}
 use Rattle.spec.specs.inside.Each.{Each}
 use Rattle.delivery_format.proofs.Encoding.{read-encode, encode-whole}
-use Rattle.spec_ntriples.specs.Lines.{TextTriple}
+use Rattle.spec_ntriples.specs.Texts.{TextTriple}
 use Rattle.spec_ntriples.specs.Dictionary.{Entry, dictionaryBytes, termOf, kindOf, areNumbered}
 use Rattle.spec_ntriples.specs.Reading.{tripleOf, additions, concludeReading, readNTriples}
 use Rattle.spec_ntriples.specs.Sights.{tripleTexts, fileTexts, wordTexts}

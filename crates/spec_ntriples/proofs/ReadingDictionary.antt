@@ -7,9 +7,9 @@ use native.Mathlib.Omega.{arith}
 use lib.ListN.{length}
 use Rattle.spec.proofs.Ascending.{and-left, and-right}
 use Rattle.spec.specs.inside.Each.{Each}
-use Rattle.spec_ntriples.specs.Texts.{Text, isSame}
-use Rattle.spec_ntriples.specs.Lines.{TextTriple}
-use Rattle.spec_ntriples.specs.Dictionary.{Entry, entriesBytes, dictionaryBytes, entries, termOf, kindOf, areNumbered, areNumbersEnough, isCanonical, areTexts, isDictionary}
+use Rattle.spec_ntriples.specs.Texts.{Text, isSame, TextTriple}
+use Rattle.spec_ntriples.specs.Dictionary.{Entry, entriesBytes, dictionaryBytes, entries, termOf, kindOf, areNumbered, areNumbersEnough, areTexts, isDictionary}
+use Rattle.spec_ntriples.specs.computed.Canonical.{isCanonical}
 use Rattle.spec_ntriples.specs.Reading.{withText, withTexts, withAll, concludeReading, readNTriples}
 use Rattle.spec_ntriples.specs.Sights.{tripleTexts, fileTexts, firstSights, knownTexts}
 use Rattle.spec_ntriples.specs.Promises.{entriesWith, Accepted, Entered}

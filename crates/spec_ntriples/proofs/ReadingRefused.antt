@@ -18,7 +18,8 @@ use Rattle.spec.specs.Messages.{mostBytes}
 use Rattle.spec.proofs.Lists.{by-test}
 use Rattle.spec.specs.Messages as format
 use Rattle.spec_ntriples.specs.declared.ByteReply.the-variants.{Length, Refused}
-use Rattle.spec_ntriples.specs.Lines.{TextTriple, Document, refused, triples, document}
+use Rattle.spec_ntriples.specs.Texts.{TextTriple}
+use Rattle.spec_ntriples.specs.computed.Lines.{Document, refused, triples, document}
 use Rattle.spec_ntriples.specs.Dictionary.{Entry, entriesBytes, areNumbersEnough, isDictionary}
 use Rattle.spec_ntriples.specs.Reading.{tripleOf, additions, textTriples, isRight, ReadFile, readFile, concludeReading, readNTriples}
 use Rattle.spec_ntriples.specs.Promises.{entriesWith, RefusedBy, Accepted}

@@ -15,8 +15,7 @@ use Rattle.spec.proofs.Ascending.{and-left, and-right}
 use Rattle.spec.proofs.TableAll.{all-append}
 use Rattle.spec_ntriples.specs.Utf8.{isBetween, isScalar, encodeChar, encode}
 use Rattle.spec_ntriples.specs.Characters.{codes, isOneOf, isLetter, isDigit, isLetterOrDigit, isIriChar, isStringChar, echar}
-use Rattle.spec_ntriples.specs.Terminals.{lowerChar}
-use Rattle.spec_ntriples.specs.Texts.{Text, text, isSame, iriText, blankText, canonicalChar, canonicalChars, stringText, taggedText, xsdString, typedText}
+use Rattle.spec_ntriples.specs.Texts.{lowerChar, Text, text, isSame, iriText, blankText, canonicalChar, canonicalChars, stringText, taggedText, xsdString, typedText}
 use Rattle.spec_ntriples.specs.Expressions.{Expression, Matches, Repeated, set, exactly, _then_, _or_, many}
 use Rattle.spec_ntriples.specs.Productions.{LANGTAG}
 use Rattle.spec_ntriples.specs.Meaning.{IriPiece, StringPiece, Resolves, Iri, Quoted, Means}

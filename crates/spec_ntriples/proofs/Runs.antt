@@ -12,7 +12,8 @@ use Rattle.spec.proofs.Lists.{by-test, or-cases, true-not-false}
 use Rattle.spec.proofs.Ascending.{and-left, and-right}
 use Rattle.spec_ntriples.specs.Utf8.{isBetween}
 use Rattle.spec_ntriples.specs.Characters.{codes, isOneOf, isLetter, isDigit, isLetterOrDigit, isPnCharsBase, isPnCharsU, isPnChars}
-use Rattle.spec_ntriples.specs.Terminals.{Got, none, got, push, dotted, label, headIs, lowerChar, tag, skip}
+use Rattle.spec_ntriples.specs.computed.Terminals.{Got, none, got, push, dotted, label, headIs, tag, skip}
+use Rattle.spec_ntriples.specs.Texts.{lowerChar}
 use Rattle.spec_ntriples.specs.Expressions.{Expression, Matches, Single, Repeated, set, exactly, _then_, _or_, many, quoted, between, optional, some}
 use Rattle.spec_ntriples.specs.Productions.{PN-CHARS-BASE, PN-CHARS-U, PN-CHARS, WS}
 use Rattle.spec_ntriples.proofs.Escapes.{each-one, pushed, none-not}

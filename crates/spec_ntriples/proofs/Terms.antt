@@ -12,9 +12,9 @@ use borrow.Author.Tests.{eqb-true}
 use Rattle.spec.proofs.Lists.{by-test}
 use Rattle.spec.proofs.Ascending.{and-left, and-right}
 use Rattle.spec_ntriples.specs.Characters.{codes, isOneOf, isLetter, isDigit, isIriChar, isStringChar, isPnCharsU}
-use Rattle.spec_ntriples.specs.Terminals.{Got, none, got, outside, iriStep, stringStep, scan, label, headIs, lowerChar, tag, skip}
-use Rattle.spec_ntriples.specs.Texts.{Text, text, isAbsolute, iriText, blankText, stringText, taggedText, typedText}
-use Rattle.spec_ntriples.specs.Lines.{Read, nothing, read, iriOf, readIri, blankOf, readBlank, typedOf, readType, taggedOf, suffixed, literalOf, readSubject, readObject}
+use Rattle.spec_ntriples.specs.computed.Terminals.{Got, none, got, outside, iriStep, stringStep, scan, label, headIs, tag, skip}
+use Rattle.spec_ntriples.specs.Texts.{lowerChar, Text, text, isAbsolute, iriText, blankText, stringText, taggedText, typedText}
+use Rattle.spec_ntriples.specs.computed.Lines.{Read, nothing, read, iriOf, readIri, blankOf, readBlank, typedOf, readType, taggedOf, suffixed, literalOf, readSubject, readObject}
 use Rattle.spec_ntriples.specs.Expressions.{Matches, Single, Repeated, set, _or_, many}
 use Rattle.spec_ntriples.specs.Productions.{UCHAR, ECHAR, IRIREF, STRING-LITERAL-QUOTE, BLANK-NODE-LABEL, LANGTAG, WS, subject, predicate, object}
 use Rattle.spec_ntriples.specs.Meaning.{IriPiece, StringPiece, Resolves, Iri, Quoted, Means}

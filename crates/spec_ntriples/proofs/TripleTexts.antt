@@ -11,16 +11,16 @@ use Rattle.spec.proofs.Lists.{by-test}
 use Rattle.spec.specs.inside.Each.{Each}
 use Rattle.spec_ntriples.specs.Utf8.{isScalar}
 use Rattle.spec_ntriples.specs.Characters.{isDigit, isPnCharsU}
-use Rattle.spec_ntriples.specs.Terminals.{Got, none, got, outside, iriStep, scan, label}
-use Rattle.spec_ntriples.specs.Texts.{isAbsolute}
-use Rattle.spec_ntriples.specs.Lines.{Read, nothing, read, iriOf, readIri, blankOf, readBlank, readSubject, TextTriple, triples, document}
+use Rattle.spec_ntriples.specs.computed.Terminals.{Got, none, got, outside, iriStep, scan, label}
+use Rattle.spec_ntriples.specs.Texts.{isAbsolute, TextTriple}
+use Rattle.spec_ntriples.specs.computed.Lines.{Read, nothing, read, iriOf, readIri, blankOf, readBlank, readSubject, triples, document}
 use Rattle.spec_ntriples.specs.Dictionary.{kindOf}
 use Rattle.spec_ntriples.specs.Meaning.{TripleLine, LineSays, Says}
 use Rattle.spec_ntriples.proofs.Respelling.{all-front, all-back}
 use Rattle.spec_ntriples.proofs.Terms.{read-subject, read-predicate}
 use Rattle.spec_ntriples.proofs.DocumentRead.{document-read}
 use Rattle.spec_ntriples.proofs.Canonical.{CanonicalTriple, line-canonical, means-kind}
-use Rattle.spec_ntriples.proofs.Numbers.{each-append}
+use Rattle.spec.proofs.Each.{each-append}
 
 -- ---- kinds
 

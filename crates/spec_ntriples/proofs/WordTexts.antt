@@ -16,7 +16,8 @@ use Rattle.spec_ntriples.specs.Texts.{isSame}
 use Rattle.spec_ntriples.specs.Dictionary.{Entry, vocabularyTexts, placeOf, vocabularyOf, termIn, termOf, firstNumber, nextNumber, nextTerm, kindOf, areNumbered}
 use Rattle.spec_ntriples.specs.Sights.{textIn, textOf}
 use Rattle.spec_ntriples.proofs.Canonical.{same-bytes}
-use Rattle.spec_ntriples.proofs.Numbers.{textsOfKind, first-positive, each-back, each-map, Enough, enough-front, Numbered, numbered-kind, next-number, numbered-split, numbered-entries}
+use Rattle.spec.proofs.Each.{each-back}
+use Rattle.spec_ntriples.proofs.Numbers.{textsOfKind, first-positive, each-map, Enough, enough-front, Numbered, numbered-kind, next-number, numbered-split, numbered-entries}
 
 -- ---- the entry of a text
 

@@ -6,10 +6,11 @@ use mathlib.Core.Bool.{true, false}
 use mathlib.Core.List.{List, [], _∷_, _++_, map}
 use lib.ListN.{replicate}
 use Rattle.spec_ntriples.specs.declared.ByteReply.the-variants.{Length, Refused}
-use Rattle.spec_ntriples.specs.Utf8.{encode, Decoded, broken, decoded, decode}
+use Rattle.spec_ntriples.specs.Utf8.{encode}
+use Rattle.spec_ntriples.specs.computed.Decoded.{Decoded, broken, decoded, decode}
 use Rattle.spec_ntriples.specs.Characters.{codes}
-use Rattle.spec_ntriples.specs.Texts.{Text, text}
-use Rattle.spec_ntriples.specs.Lines.{TextTriple, Line, wrong, empty, full, readLine, triples, document}
+use Rattle.spec_ntriples.specs.Texts.{Text, text, TextTriple}
+use Rattle.spec_ntriples.specs.computed.Lines.{Line, wrong, empty, full, readLine, triples, document}
 use Rattle.spec_ntriples.specs.Dictionary.{entry, dictionaryBytes, isDictionary}
 use Rattle.spec_ntriples.specs.Reading.{readFile, readNTriples}
 use Rattle.spec_ntriples.specs.inside.Compute.{compute}

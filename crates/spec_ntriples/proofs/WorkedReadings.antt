@@ -6,8 +6,7 @@ use native.Mathlib.Omega.{arith}
 use lib.ListN.{replicate}
 use Rattle.spec_ntriples.specs.declared.ByteReply.the-variants.{Length}
 use Rattle.spec_ntriples.specs.Characters.{codes}
-use Rattle.spec_ntriples.specs.Texts.{text}
-use Rattle.spec_ntriples.specs.Lines.{TextTriple}
+use Rattle.spec_ntriples.specs.Texts.{text, TextTriple}
 use Rattle.spec_ntriples.specs.Dictionary.{entry, entriesBytes, dictionaryBytes}
 use Rattle.spec_ntriples.specs.Reading.{readFile, readNTriples}
 use Rattle.spec_ntriples.specs.Sights.{firstSights, knownTexts, textOf}

@@ -1,15 +1,14 @@
 -- The dictionary in lent bytes: terms and their texts (document 02, slip 1, where it is called the term book). Definitions only.
 use Prim.Native.Nat.{ℕ, zero, suc, _+_, _-_, _*_, _/_, _%_, _^_}
 use Prim.Native.Char.{code}
-use mathlib.Core.Bool.{Bool, true, false, _&&_, _||_, cond}
+use mathlib.Core.Bool.{Bool, true, _&&_, _||_, cond}
 use mathlib.Core.List.{List, [], _∷_, _++_}
 use lib.ListN.{length, getD, take, drop, replicate}
 use lib.Dec.{eqb, leb, ltb}
 use Rattle.spec.specs.Lists.{select}
-use Rattle.spec_ntriples.specs.Utf8.{Decoded, broken, decoded, decode}
 use Rattle.spec_ntriples.specs.Characters.{codes}
 use Rattle.spec_ntriples.specs.Texts.{isSame}
-use Rattle.spec_ntriples.specs.Lines.{Read, nothing, read, readObject}
+use Rattle.spec_ntriples.specs.computed.Canonical.{isCanonical}
 
 -- "An entry for each text": its term, and its bytes.
 pub record Entry : Type 0 where
@@ -124,25 +123,6 @@ areNumbersEnough es = leb (nextNumber 0 es) (2 ^ 30) && (leb (nextNumber 1 es) (
 unfoldable pub areNumbered : List Entry → List Entry → Bool
 areNumbered before [] = true
 areNumbered before (e ∷ es) = eqb (e .term) (nextTerm (kindOf (e .text)) before) && areNumbered (before ++ (e ∷ [])) es
-
--- Whether nothing is left.
-unfoldable pub isNone : List ℕ → Bool
-isNone [] = true
-isNone (c ∷ cs) = false
-
--- Whether what was read of a text is the text itself, to its end.
-unfoldable pub givesItself : List ℕ → Read → Bool
-givesItself t nothing = false
-givesItself t (read u rest) = isNone rest && isSame (u .bytes) t
-
--- The same of the text's characters.
-unfoldable pub decodesToItself : List ℕ → Decoded → Bool
-decodesToItself t broken = false
-decodesToItself t (decoded cs) = givesItself t (readObject cs)
-
--- "Its texts canonical": a text that, read as a term, gives itself.
-unfoldable pub isCanonical : List ℕ → Bool
-isCanonical t = decodesToItself t (decode t)
 
 -- "Canonical, distinct and none of 1 to 5."
 unfoldable pub areTexts : List Entry → Bool

@@ -1,8 +1,6 @@
 pub mod Utf8
 pub mod Characters
-pub mod Terminals
 pub mod Texts
-pub mod Lines
 pub mod Expressions
 pub mod Productions
 pub mod Meaning
@@ -11,4 +9,6 @@ pub mod Dictionary
 pub mod Reading
 pub mod Sights
 pub mod Promises
+pub mod Exported
+pub mod computed
 pub mod inside

@@ -8,9 +8,7 @@ use lib.ListN.{getD, drop}
 use Rattle.spec.specs.Lists.{all}
 use Rattle.spec_ntriples.specs.Utf8.{isScalar, encode}
 use Rattle.spec_ntriples.specs.Characters.{codes, isOneOf, isIriChar, isStringChar, hexValue, echar}
-use Rattle.spec_ntriples.specs.Terminals.{lowerChar}
-use Rattle.spec_ntriples.specs.Texts.{Text, text, isAbsolute, iriText, blankText, stringText, taggedText, typedText}
-use Rattle.spec_ntriples.specs.Lines.{TextTriple}
+use Rattle.spec_ntriples.specs.Texts.{lowerChar, Text, text, isAbsolute, iriText, blankText, stringText, taggedText, typedText, TextTriple}
 use Rattle.spec_ntriples.specs.Expressions.{Matches, optional}
 use Rattle.spec_ntriples.specs.Productions.{UCHAR, ECHAR, BLANK-NODE-LABEL, LANGTAG, EOL, WS, COMMENT, subject, predicate, object, emptyLine}
 
@@ -79,6 +77,14 @@ pub data Means (u : List ℕ) (t : Text) : Type 0 where
   typed
       : (string cs w w' type ds : List ℕ) → u ≡ string ++ (w ++ (codes "^^" ++ (w' ++ type))) → Quoted string cs → Matches WS w → Matches WS w'
       → Iri type ds → t ≡ text 2 (typedText (stringText cs) (iriText ds)) → Means u t
+
+-- A canonical text: one that some spelling of a term means.
+pub record TextOfTerm (bytes : List ℕ) : Type 0 where
+  pub spelling : List ℕ
+  pub term : Text
+  pub scalar : all isScalar spelling ≡ true
+  pub means : Means spelling term
+  pub same : term .bytes ≡ bytes
 
 -- ---- lines
 

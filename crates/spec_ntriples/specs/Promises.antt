@@ -11,7 +11,8 @@ use Rattle.spec.specs.Refusals.{firstRefusal}
 use Rattle.spec.specs.Deliveries.{isFact, messageChecks}
 use Rattle.spec.specs.Messages.{mostBytes}
 use Rattle.spec.specs.computed.Decoded.{read}
-use Rattle.spec_ntriples.specs.Lines.{TextTriple, refused, triples, document}
+use Rattle.spec_ntriples.specs.Texts.{TextTriple}
+use Rattle.spec_ntriples.specs.computed.Lines.{refused, triples, document}
 use Rattle.spec_ntriples.specs.Dictionary.{Entry, entriesBytes, entries, areNumbersEnough, areNumbered, isDictionary}
 use Rattle.spec_ntriples.specs.Reading.{withAll}
 use Rattle.spec_ntriples.specs.Sights.{tripleTexts, fileTexts, firstSights, knownTexts, wordTexts}

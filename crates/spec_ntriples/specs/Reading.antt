@@ -12,8 +12,8 @@ use Rattle.spec.specs.Deliveries.{isFact}
 use Rattle.spec.specs.Messages.{Message, mostBytes, encode}
 use Rattle.spec_ntriples.specs.declared.ByteReply.{ByteReply}
 use Rattle.spec_ntriples.specs.declared.ByteReply.the-variants.{Length, Refused}
-use Rattle.spec_ntriples.specs.Texts.{Text}
-use Rattle.spec_ntriples.specs.Lines.{TextTriple, Document, refused, triples, document}
+use Rattle.spec_ntriples.specs.Texts.{Text, TextTriple}
+use Rattle.spec_ntriples.specs.computed.Lines.{Document, refused, triples, document}
 use Rattle.spec_ntriples.specs.Dictionary.{Entry, entry, entriesBytes, dictionaryBytes, entries, termOf, nextTerm, areNumbersEnough, isDictionary}
 
 -- ---- terms

@@ -6,9 +6,7 @@ use lib.ListN.{getD}
 use lib.Dec.{eqb}
 use Rattle.spec.specs.declared.Triple.{Triple}
 use Rattle.spec.specs.Terms.{isVocabulary}
-use Rattle.spec.specs.Lists.{select}
-use Rattle.spec_ntriples.specs.Texts.{isSame}
-use Rattle.spec_ntriples.specs.Lines.{TextTriple}
+use Rattle.spec_ntriples.specs.Texts.{isSame, TextTriple}
 use Rattle.spec_ntriples.specs.Dictionary.{Entry, vocabularyTexts}
 
 -- ---- texts in order of first sight

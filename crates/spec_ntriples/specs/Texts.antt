@@ -1,10 +1,10 @@
 -- The canonical texts of terms (RDF 1.1 N-Triples, section 4: "Canonical N-Triples"), as bytes in UTF-8. Definitions only.
-use Prim.Native.Nat.{ℕ}
+use Prim.Native.Nat.{ℕ, _+_}
 use Prim.Native.Char.{code}
 use mathlib.Core.Bool.{Bool, true, false, _&&_, _||_, cond}
 use mathlib.Core.List.{List, [], _∷_, _++_}
 use lib.Dec.{eqb}
-use Rattle.spec_ntriples.specs.Utf8.{encodeChar, encode}
+use Rattle.spec_ntriples.specs.Utf8.{isBetween, encodeChar, encode}
 use Rattle.spec_ntriples.specs.Characters.{codes, isOneOf, isLetter, isLetterOrDigit}
 
 -- A term by its kind, 0 URI, 1 blank or 2 literal, and its "canonical text with its marks".
@@ -15,6 +15,12 @@ pub record Text : Type 0 where
 -- A text by its parts.
 abbrev pub text : ℕ → List ℕ → Text
 text k bs = record { kind = k; bytes = bs }
+
+-- The texts of a triple.
+pub record TextTriple : Type 0 where
+  pub subject : Text
+  pub property : Text
+  pub object : Text
 
 -- Whether two texts have the same bytes.
 unfoldable pub isSame : List ℕ → List ℕ → Bool
@@ -57,6 +63,10 @@ canonicalChars (c ∷ cs) = canonicalChar c ++ canonicalChars cs
 -- A string between its quotes.
 unfoldable pub stringText : List ℕ → List ℕ
 stringText cs = code "\"" ∷ (canonicalChars cs ++ (code "\"" ∷ []))
+
+-- "Language tags put in lower case": A to Z.
+unfoldable pub lowerChar : ℕ → ℕ
+lowerChar c = cond (isBetween 65 90 c) (c + 32) c
 
 -- A literal's string with a language tag.
 unfoldable pub taggedText : List ℕ → List ℕ → List ℕ

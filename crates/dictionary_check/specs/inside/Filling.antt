@@ -6,7 +6,8 @@ use mathlib.Core.List.{List, [], _++_}
 use lib.ListN.{length, getD, take, drop}
 use lib.Dec.{eqb}
 use Rattle.spec.specs.inside.Each.{Each}
-use Rattle.spec_ntriples.specs.Dictionary.{Entry, entry, entriesBytes, frontTerm, entries, vocabularyOf, areNumbered, isCanonical, isDictionary}
+use Rattle.spec_ntriples.specs.Dictionary.{Entry, entry, entriesBytes, frontTerm, entries, vocabularyOf, areNumbered, isDictionary}
+use Rattle.spec_ntriples.specs.computed.Canonical.{isCanonical}
 use Rattle.dictionary_bytes.specs.inside.Entries.{textAt, placeAt, entriesAt, FilledBy}
 use Rattle.dictionary_bytes.specs.declared.Filled.{Filled}
 use Rattle.dictionary_numbers.specs.inside.Numbers.{Counts}

@@ -1,6 +1,6 @@
 use mathlib.Core.Path.{sym, _∙_}
 use borrow.Author.Tests.{not-true, not-false}
-use Rattle.spec_ntriples.specs.Utf8.{decode}
+use Rattle.spec_ntriples.specs.computed.Decoded.{decode}
 use Rattle.ntriples_document.proofs.Counting.{chars-of, utf8-whole}
 use Rattle.ntriples_lines.proofs.Ends.{not-there, there}
 use Rattle.dictionary_texts.proofs.Reading.{broken-text, no-text, term-read, more-text, whole-text}

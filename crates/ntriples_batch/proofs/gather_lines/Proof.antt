@@ -4,7 +4,8 @@ use mathlib.Core.Path.{_≡_, refl, sym, _∙_}
 use Prim.Native.Nat.{_+_, _-_, _≤_}
 use mathlib.Core.List.{List}
 use lib.ListN.{length, drop, length-set}
-use Rattle.spec_ntriples.specs.Lines.{TextTriple, triples, document}
+use Rattle.spec_ntriples.specs.Texts.{TextTriple}
+use Rattle.spec_ntriples.specs.computed.Lines.{triples, document}
 use Rattle.ntriples_batch.proofs.Gathering.{lines-left, places-left, nothing-left, Gathering, none-gathered, no-triple, one-triple, went-on, all-gathered}
 use Rattle.ntriples_document.proofs.Counting.{end-within}
 use Rattle.ntriples_batch.proofs.gather_lines.Statement.{statement}

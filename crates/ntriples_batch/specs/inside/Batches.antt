@@ -4,9 +4,9 @@ use mathlib.Core.Path.{_≡_}
 use mathlib.Core.Bool.{Bool, true, false}
 use mathlib.Core.List.{List, []}
 use lib.ListN.{length, getD, take, drop}
-use Rattle.spec_ntriples.specs.Utf8.{decode}
-use Rattle.spec_ntriples.specs.Texts.{text}
-use Rattle.spec_ntriples.specs.Lines.{TextTriple, Line, wrong, empty, full, triples, document}
+use Rattle.spec_ntriples.specs.computed.Decoded.{decode}
+use Rattle.spec_ntriples.specs.Texts.{text, TextTriple}
+use Rattle.spec_ntriples.specs.computed.Lines.{Line, wrong, empty, full, triples, document}
 use Rattle.ntriples_bytes.specs.inside.Places.{HasText}
 use Rattle.ntriples_lines.specs.declared.Tokens.{Tokens}
 use Rattle.ntriples_document.specs.inside.Bytes.{lineLength, lineOf}

@@ -4,7 +4,8 @@ use Prim.Native.Nat.{_≤_}
 use mathlib.Core.Path.{_≡_, refl, _∙_}
 use mathlib.Core.List.{List}
 use lib.ListN.{length}
-use Rattle.spec_ntriples.specs.Lines.{TextTriple, triples, document}
+use Rattle.spec_ntriples.specs.Texts.{TextTriple}
+use Rattle.spec_ntriples.specs.computed.Lines.{triples, document}
 use Rattle.spec_ntriples.specs.Dictionary.{Entry}
 use Rattle.dictionary_bytes.specs.inside.Entries.{FilledBy}
 use Rattle.ntriples_batches.proofs.Files.{Underway, none-done, all-done, count-few, count-some, can-name, more-done, more-lacks, filled-have}

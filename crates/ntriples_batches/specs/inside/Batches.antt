@@ -4,7 +4,8 @@ use mathlib.Core.Path.{_≡_}
 use mathlib.Core.List.{List, map}
 use lib.ListN.{length}
 use Rattle.spec.specs.Tables.{firstRows}
-use Rattle.spec_ntriples.specs.Lines.{TextTriple, triples, document}
+use Rattle.spec_ntriples.specs.Texts.{TextTriple}
+use Rattle.spec_ntriples.specs.computed.Lines.{triples, document}
 use Rattle.spec_ntriples.specs.Dictionary.{Entry}
 use Rattle.spec_ntriples.specs.Reading.{withAll, tripleOf}
 use Rattle.dictionary_bytes.specs.declared.Filled.{Filled}

@@ -3,7 +3,7 @@ use native.Mathlib.Omega.{arith}
 use mathlib.Core.Path.{_≡_, refl, sym, _∙_, ap}
 use lib.ListN.{length, drop}
 use Prim.Native.Nat.{_-_, _≤_}
-use Rattle.spec_ntriples.specs.Utf8.{decode}
+use Rattle.spec_ntriples.specs.computed.Decoded.{decode}
 use Rattle.ntriples_bytes.specs.inside.Whole.{areChars, areCharsFrom}
 use Rattle.ntriples_bytes.specs.declared.Open.the-variants.{Due}
 use Rattle.ntriples_bytes.proofs.Scanning.{none-read, ascii-read, broken-read, due-read, all-read}

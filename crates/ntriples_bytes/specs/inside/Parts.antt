@@ -2,7 +2,7 @@
 use Prim.Native.Nat.{ℕ}
 use mathlib.Core.Bool.{Bool, false, _||_}
 use mathlib.Core.List.{List, [], _∷_, _++_}
-use Rattle.spec_ntriples.specs.Utf8.{Decoded, broken, decoded}
+use Rattle.spec_ntriples.specs.computed.Decoded.{Decoded, broken, decoded}
 
 -- The characters of one part and of the next; broken where one of them is.
 unfoldable pub joined : Decoded → Decoded → Decoded

@@ -3,9 +3,9 @@ use Prim.Native.Nat.{ℕ, _≤_, _<_}
 use mathlib.Core.Path.{_≡_}
 use mathlib.Core.List.{List, [], _∷_}
 use lib.ListN.{length, drop}
-use Rattle.spec_ntriples.specs.Utf8.{Decoded, broken, decoded, decode}
+use Rattle.spec_ntriples.specs.computed.Decoded.{Decoded, broken, decoded, decode}
 use Rattle.spec_ntriples.specs.Texts.{Text}
-use Rattle.spec_ntriples.specs.Lines.{read, readObject}
+use Rattle.spec_ntriples.specs.computed.Lines.{read, readObject}
 use Rattle.ntriples_bytes.specs.declared.Mark.{Mark}
 
 -- The characters cs stand in the bytes from an index on, up to the last.

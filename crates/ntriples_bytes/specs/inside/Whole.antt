@@ -2,7 +2,7 @@
 use Prim.Native.Nat.{ℕ}
 use mathlib.Core.Bool.{Bool, true, false}
 use mathlib.Core.List.{List}
-use Rattle.spec_ntriples.specs.Utf8.{Decoded, broken, decoded, due, decodeFrom}
+use Rattle.spec_ntriples.specs.computed.Decoded.{Decoded, broken, decoded, due, decodeFrom}
 use Rattle.ntriples_bytes.specs.declared.Open.{Open}
 use Rattle.ntriples_bytes.specs.declared.Open.the-variants.{Broken, Due}
 

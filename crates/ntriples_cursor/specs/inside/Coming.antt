@@ -6,8 +6,8 @@ use mathlib.Core.List.{List, [], _∷_, _++_}
 use lib.ListN.{length, take}
 use Rattle.spec_ntriples.specs.Utf8.{encode}
 use Rattle.spec_ntriples.specs.Characters.{codes}
-use Rattle.spec_ntriples.specs.Terminals.{outside, iriStep, stringStep, scan, got, lowerChar, skip}
-use Rattle.spec_ntriples.specs.Texts.{Text, iriText, canonicalChars, xsdString}
+use Rattle.spec_ntriples.specs.computed.Terminals.{outside, iriStep, stringStep, scan, got, skip}
+use Rattle.spec_ntriples.specs.Texts.{lowerChar, Text, iriText, canonicalChars, xsdString}
 use Rattle.ntriples_bytes.specs.inside.Places.{At, HasText}
 use Rattle.ntriples_cursor.specs.inside.Readers.{Reads}
 use Rattle.ntriples_cursor.specs.declared.Mode.{Mode}

@@ -7,7 +7,7 @@ use mathlib.Core.List.{List, _∷_}
 use lib.ListN.{length}
 use Rattle.spec_ntriples.specs.Utf8.{encodeChar}
 use Rattle.spec_ntriples.specs.Characters.{noChar, echar}
-use Rattle.spec_ntriples.specs.Terminals.{State, outside, slash, digits, Step, ends, breaks, leads, gives, hexStep, scan, got}
+use Rattle.spec_ntriples.specs.computed.Terminals.{State, outside, slash, digits, Step, ends, breaks, leads, gives, hexStep, scan, got}
 use Rattle.spec_ntriples.specs.Texts.{canonicalChar}
 use Rattle.ntriples_bytes.specs.inside.Places.{At}
 use Rattle.ntriples_bytes.specs.declared.Mark.{Mark}

@@ -2,7 +2,7 @@ use native.Mathlib.Omega.{arith}
 use mathlib.Core.Path.{_≡_, refl, sym, _∙_, ap}
 use Rattle.ntriples_document.proofs.Counting.{CharsOf, chars-of, utf8-whole, line-decoded, line-broken, Counts, none-counted, all-counted, end-within, wrong-line, empty-line, full-line}
 use Rattle.ntriples_lines.proofs.Lines.{line-same}
-use Rattle.spec_ntriples.specs.Utf8.{decode}
+use Rattle.spec_ntriples.specs.computed.Decoded.{decode}
 use borrow.Author.Tests.{not-true, not-false}
 use borrow.Author.Needs.{needs}
 use Rattle.ntriples_document.proofs.line_of.Statement.{statement}

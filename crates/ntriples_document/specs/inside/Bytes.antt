@@ -4,9 +4,9 @@ use mathlib.Core.Path.{_≡_}
 use mathlib.Core.Bool.{Bool, cond}
 use mathlib.Core.List.{List, [], _∷_}
 use lib.ListN.{length, drop}
-use Rattle.spec_ntriples.specs.Utf8.{Decoded, broken, decoded}
+use Rattle.spec_ntriples.specs.computed.Decoded.{Decoded, broken, decoded}
 use Rattle.spec_ntriples.specs.Characters.{codes, isOneOf}
-use Rattle.spec_ntriples.specs.Lines.{Line, wrong, readLine, Document, refused, triples}
+use Rattle.spec_ntriples.specs.computed.Lines.{Line, wrong, readLine, Document, refused, triples}
 use Rattle.ntriples_document.specs.declared.Counted.{Counted}
 use Rattle.ntriples_document.specs.declared.Counted.the-variants.{Refused, Triples}
 

@@ -8,7 +8,7 @@ use Rattle.ntriples_terminals.specs.inside.Ends.{behindHead, behindRead}
 use Rattle.ntriples_terminals.proofs.Ending.{end-same}
 use Rattle.ntriples_lines.proofs.Ends.{there, not-there, missing, found, behind-utf8}
 use Rattle.ntriples_lines.proofs.Lines.{Term, no-term, term-found, object-object, iri-object, subject-object, no-object, not-ended, all-full, no-property, after-property, line-same, line-empty, line-wrong, line-subject, at-front}
-use Rattle.spec_ntriples.specs.Lines.{readObject, readIri, readSubject, isRest}
+use Rattle.spec_ntriples.specs.computed.Lines.{readObject, readIri, readSubject, isRest}
 use borrow.Author.Needs.{needs}
 use Rattle.ntriples_lines.proofs.after_subject.Statement.{statement}
 use Rattle.ntriples_lines.proofs.after_subject.Tie as tie

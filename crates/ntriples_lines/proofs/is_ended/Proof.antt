@@ -8,7 +8,7 @@ use Rattle.ntriples_terminals.specs.inside.Ends.{behindHead, behindRead}
 use Rattle.ntriples_terminals.proofs.Ending.{end-same}
 use Rattle.ntriples_lines.proofs.Ends.{there, not-there, missing, found, behind-utf8}
 use Rattle.ntriples_lines.specs.inside.Reading.{isEnded}
-use Rattle.spec_ntriples.specs.Lines.{isRest}
+use Rattle.spec_ntriples.specs.computed.Lines.{isRest}
 use Rattle.ntriples_lines.proofs.Lines.{ended-none, ended-some}
 use borrow.Author.Needs.{needs}
 use Rattle.ntriples_lines.proofs.is_ended.Statement.{statement}

@@ -6,8 +6,9 @@ use mathlib.Core.Bool.{Bool, false, _&&_, _||_, cond}
 use mathlib.Core.List.{List, [], _∷_}
 use lib.Dec.{eqb}
 use Rattle.spec_ntriples.specs.Characters.{isLetter, isDigit, isPnCharsU}
-use Rattle.spec_ntriples.specs.Terminals.{label, headIs, tag, skip}
-use Rattle.spec_ntriples.specs.Lines.{TextTriple, Line, wrong, empty, full, isRest, readType}
+use Rattle.spec_ntriples.specs.computed.Terminals.{label, headIs, tag, skip}
+use Rattle.spec_ntriples.specs.Texts.{TextTriple}
+use Rattle.spec_ntriples.specs.computed.Lines.{Line, wrong, empty, full, isRest, readType}
 use Rattle.ntriples_bytes.specs.inside.Places.{HasText}
 use Rattle.ntriples_terminals.specs.inside.Ends.{Behind, nowhere, behind, behindGot, behindRead}
 use Rattle.ntriples_lines.specs.declared.Tokens.{Tokens}

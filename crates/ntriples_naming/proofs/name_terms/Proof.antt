@@ -5,7 +5,7 @@ use mathlib.Core.List.{List}
 use Prim.Native.Nat.{_+_, _-_, _*_, _≤_}
 use lib.ListN.{length}
 use Rattle.ntriples_naming.specs.inside.Progress.{Reached}
-use Rattle.spec_ntriples.specs.Lines.{TextTriple}
+use Rattle.spec_ntriples.specs.Texts.{TextTriple}
 use Rattle.spec_ntriples.specs.Dictionary.{Entry}
 use borrow.Author.Tests.{not-true}
 use Rattle.ntriples_naming.specs.inside.Progress.{linesTexts, Begins}

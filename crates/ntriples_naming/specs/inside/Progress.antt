@@ -4,8 +4,7 @@ use mathlib.Core.Path.{_≡_}
 use mathlib.Core.Bool.{Bool, true, false}
 use mathlib.Core.List.{List, [], _∷_, _++_, flatMap}
 use lib.ListN.{length, getD}
-use Rattle.spec_ntriples.specs.Texts.{Text, text}
-use Rattle.spec_ntriples.specs.Lines.{TextTriple}
+use Rattle.spec_ntriples.specs.Texts.{Text, text, TextTriple}
 use Rattle.spec_ntriples.specs.Dictionary.{Entry, termOf, kindOf}
 use Rattle.spec_ntriples.specs.Reading.{withText}
 use Rattle.ntriples_bytes.specs.inside.Places.{HasText}

@@ -1,7 +1,7 @@
 use native.Mathlib.Omega.{arith}
 use mathlib.Core.Path.{_≡_, refl, sym, _∙_, ap}
 use Rattle.ntriples_pieces.specs.inside.Pieces.{stepOf}
-use Rattle.spec_ntriples.specs.Terminals.{outside, slash, digits}
+use Rattle.spec_ntriples.specs.computed.Terminals.{outside, slash, digits}
 use Rattle.ntriples_bytes.proofs.Decoding.{from-marked}
 use Rattle.ntriples_pieces.proofs.Reading.{end-piece, piece-from, leads-scan, gives-piece, breaks-piece, slash-short, slash-long, slash-iri, slash-gives, slash-breaks}
 use borrow.Author.Needs.{needs}

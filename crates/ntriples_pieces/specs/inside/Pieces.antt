@@ -5,7 +5,7 @@ use mathlib.Core.Path.{_≡_}
 use mathlib.Core.Bool.{Bool, true, false}
 use mathlib.Core.List.{List, []}
 use Rattle.spec_ntriples.specs.Characters.{isIriChar, isStringChar}
-use Rattle.spec_ntriples.specs.Terminals.{none, got, push, State, outside, Step, iriStep, stringStep, scan}
+use Rattle.spec_ntriples.specs.computed.Terminals.{none, got, push, State, outside, Step, iriStep, stringStep, scan}
 use Rattle.ntriples_bytes.specs.inside.Places.{Utf8From, charsAt}
 use Rattle.ntriples_pieces.specs.declared.Piece.{Piece}
 use Rattle.ntriples_pieces.specs.declared.Piece.the-variants.{Broken, Ends, Gives}

@@ -1,7 +1,7 @@
 use mathlib.Core.Path.{sym, ap, _∙_}
 use Prim.Native.Nat.{ℕ}
 use lib.ListN.{length}
-use Rattle.spec_ntriples.specs.Lines.{document}
+use Rattle.spec_ntriples.specs.computed.Lines.{document}
 use Rattle.spec_ntriples.specs.Reading.{readNTriples}
 use Rattle.ntriples_read.proofs.Reading.{refused-1, refused-13, counted-lines, zeros-kept}
 use borrow.Author.Needs.{needs}

@@ -4,7 +4,8 @@ use mathlib.Core.Path.{_≡_}
 use mathlib.Core.Bool.{true}
 use mathlib.Core.List.{List}
 use lib.ListN.{length, replicate}
-use Rattle.spec_ntriples.specs.Lines.{TextTriple, triples, document}
+use Rattle.spec_ntriples.specs.Texts.{TextTriple}
+use Rattle.spec_ntriples.specs.computed.Lines.{triples, document}
 use Rattle.spec_ntriples.specs.Dictionary.{entries, isDictionary}
 use Rattle.dictionary_bytes.specs.declared.Filled.{Filled}
 use Rattle.dictionary_bytes.specs.inside.Entries.{FilledBy}

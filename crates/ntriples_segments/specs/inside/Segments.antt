@@ -6,7 +6,7 @@ use mathlib.Core.List.{List, _++_, map}
 use lib.ListN.{length}
 use lib.Dec.{leb}
 use Rattle.spec.specs.Tables.{firstRows}
-use Rattle.spec_ntriples.specs.Lines.{TextTriple}
+use Rattle.spec_ntriples.specs.Texts.{TextTriple}
 use Rattle.spec_ntriples.specs.Dictionary.{Entry, entriesBytes, areNumbersEnough}
 use Rattle.spec_ntriples.specs.Reading.{withAll, tripleOf}
 use Rattle.dictionary_bytes.specs.declared.Filled.{Filled}

@@ -6,7 +6,7 @@ use lib.ListN.{length}
 use Prim.Native.Nat.{_-_, _≤_}
 use Rattle.ntriples_bytes.proofs.Decoding.{from-marked, chars-stand}
 use Rattle.ntriples_terminals.proofs.Ending.{skip-end, skip-none, skip-one}
-use Rattle.spec_ntriples.specs.Terminals.{skip}
+use Rattle.spec_ntriples.specs.computed.Terminals.{skip}
 use Rattle.ntriples_terminals.proofs.skip.Statement.{statement}
 use Rattle.ntriples_terminals.proofs.skip.Tie as tie
 use Rattle.ntriples_terminals.proofs.skip.Reads as reads

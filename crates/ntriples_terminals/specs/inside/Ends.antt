@@ -4,8 +4,8 @@ use mathlib.Core.Path.{_≡_}
 use mathlib.Core.Bool.{Bool, true, false, cond}
 use mathlib.Core.List.{List, [], _∷_}
 use Rattle.spec_ntriples.specs.Characters.{isLetter, isLetterOrDigit}
-use Rattle.spec_ntriples.specs.Terminals.{Got, none, got}
-use Rattle.spec_ntriples.specs.Lines.{Read, nothing, read}
+use Rattle.spec_ntriples.specs.computed.Terminals.{Got, none, got}
+use Rattle.spec_ntriples.specs.computed.Lines.{Read, nothing, read}
 use Rattle.ntriples_bytes.specs.inside.Places.{Utf8From, charsAt}
 use Rattle.ntriples_terminals.specs.declared.Found.{Found}
 use Rattle.ntriples_terminals.specs.declared.Found.the-variants.{Nothing, End}

@@ -4,7 +4,7 @@ use mathlib.Core.Path.{_≡_, refl, _∙_, ap}
 use mathlib.Core.List.{List}
 use Prim.Native.Nat.{_-_, _≤_}
 use lib.ListN.{length, getD}
-use Rattle.spec_ntriples.specs.Lines.{TextTriple}
+use Rattle.spec_ntriples.specs.Texts.{TextTriple}
 use Rattle.spec_ntriples.specs.Dictionary.{Entry}
 use Rattle.ntriples_batch.specs.inside.Batches.{noTriple}
 use Rattle.dictionary_names.specs.inside.IndexOf.{IndexOf}

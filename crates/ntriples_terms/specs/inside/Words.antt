@@ -8,7 +8,7 @@ use lib.Dec.{eqb, ltb}
 use Rattle.spec.specs.declared.Triple.{Triple}
 use Rattle.spec.specs.Terms.{triple}
 use Rattle.spec.specs.Tables.{tripleFrom}
-use Rattle.spec_ntriples.specs.Lines.{TextTriple}
+use Rattle.spec_ntriples.specs.Texts.{TextTriple}
 use Rattle.spec_ntriples.specs.Dictionary.{Entry, termIn}
 use Rattle.ntriples_lines.specs.declared.Tokens.{Tokens}
 use Rattle.ntriples_batch.specs.inside.Batches.{LineAt, noTriple, HaveTexts}

@@ -4,12 +4,14 @@ use Rattle.spec.specs.Refusals.{firstRefusal}
 use Rattle.spec.specs.Terms.{isStatement, isVocabulary}
 use Rattle.spec.specs.Lists.{select}
 use Rattle.spec.specs.Messages as encoding
-use Rattle.spec_ntriples.specs.Utf8.{isScalar, encodeChar, encode, withChar, firstByte, furtherByte, nextByte, noByte, decodeFrom, decode}
+use Rattle.spec_ntriples.specs.Utf8.{isScalar, encodeChar, encode}
+use Rattle.spec_ntriples.specs.computed.Decoded.{withChar, firstByte, furtherByte, nextByte, noByte, decodeFrom, decode}
 use Rattle.spec_ntriples.specs.Characters.{codes, isOneOf, isIriChar, isStringChar, isPnCharsBase, isPnCharsU, isPnChars, hexValue, echar}
-use Rattle.spec_ntriples.specs.Terminals.{push, digit, hexStep, iriStep, stringStep, afterStep, scan, dotted, label, headIs, lowerChar, tag, skip}
-use Rattle.spec_ntriples.specs.Texts.{isSame, isScheme, isAbsolute, iriText, blankText, canonicalChar, canonicalChars, stringText, taggedText, typedText}
-use Rattle.spec_ntriples.specs.Lines.{iriOf, readIri, blankOf, readBlank, typedOf, readType, taggedOf, suffixed, literalOf, readSubject, readObject, isRest, endOf, afterObject, afterProperty, afterSubject, readLine, addToLine, lines, withTriple, withLine, readLines, documentOf, document}
-use Rattle.spec_ntriples.specs.Dictionary.{numberBytes, entryBytes, entriesBytes, dictionaryBytes, bytesNumber, entriesAtMost, entries, placeOf, termIn, termOf, firstNumber, nextNumber, areNumbersEnough, kindOf, areNumbered, isNone, givesItself, decodesToItself, isCanonical, areTexts, isDictionary}
+use Rattle.spec_ntriples.specs.computed.Terminals.{push, digit, hexStep, iriStep, stringStep, afterStep, scan, dotted, label, headIs, tag, skip}
+use Rattle.spec_ntriples.specs.Texts.{lowerChar, isSame, isScheme, isAbsolute, iriText, blankText, canonicalChar, canonicalChars, stringText, taggedText, typedText}
+use Rattle.spec_ntriples.specs.computed.Lines.{iriOf, readIri, blankOf, readBlank, typedOf, readType, taggedOf, suffixed, literalOf, readSubject, readObject, isRest, endOf, afterObject, afterProperty, afterSubject, readLine, addToLine, lines, withTriple, withLine, readLines, documentOf, document}
+use Rattle.spec_ntriples.specs.Dictionary.{numberBytes, entryBytes, entriesBytes, dictionaryBytes, bytesNumber, entriesAtMost, entries, placeOf, termIn, termOf, firstNumber, nextNumber, areNumbersEnough, kindOf, areNumbered, areTexts, isDictionary}
+use Rattle.spec_ntriples.specs.computed.Canonical.{isNone, givesItself, decodesToItself, isCanonical}
 use Rattle.spec_ntriples.specs.Reading.{withText, withTexts, withAll, tripleOf, additions, textTriples, isRight, concludeReading, readNTriples}
 use Rattle.spec_ntriples.specs.Sights.{tripleTexts, fileTexts, isAmong, firstSights, knownTexts, textIn, textOf, wordTexts}
 

@@ -7,7 +7,7 @@ use Rattle.ntriples_bytes.proofs.Decoding.{chars-are, some-at}
 use Rattle.ntriples_terminals.specs.inside.Ends.{behindHead, behindRead}
 use Rattle.ntriples_terminals.proofs.Ending.{end-same}
 use Rattle.ntriples_lines.proofs.Ends.{there, not-there, missing, found, behind-utf8}
-use Rattle.spec_ntriples.specs.Lines.{read, suffixed}
+use Rattle.spec_ntriples.specs.computed.Lines.{read, suffixed}
 use Rattle.ntriples_lines.proofs.Heads.{suffix-none, suffix-some}
 use borrow.Author.Needs.{needs}
 use Rattle.ntriples_lines.proofs.terms.suffix_end.Statement.{statement}

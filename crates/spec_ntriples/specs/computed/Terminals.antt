@@ -1,11 +1,14 @@
--- The terminals of N-Triples, read from the front of characters, with escapes resolved (RDF 1.1 N-Triples, section 7). Definitions only.
+-- The terminals of N-Triples, read from the front of characters, with escapes resolved (RDF 1.1 N-Triples, section 7), by functions that
+-- compute. Nobody has to read it: specs/Productions.antt has the grammar, and specs/Meaning.antt what its terminals stand for.
+-- Fixed by line-read (proofs/LineRead.antt): a line is read as a triple exactly when it matches the grammar and means that triple.
 use Prim.Native.Nat.{ℕ, zero, suc, _+_, _*_}
 use Prim.Native.Char.{code}
-use mathlib.Core.Bool.{Bool, true, false, _&&_, _||_, cond}
+use mathlib.Core.Bool.{Bool, true, false, _&&_, cond}
 use mathlib.Core.List.{List, [], _∷_}
 use lib.Dec.{eqb, ltb}
-use Rattle.spec_ntriples.specs.Utf8.{isBetween, isScalar}
+use Rattle.spec_ntriples.specs.Utf8.{isScalar}
 use Rattle.spec_ntriples.specs.Characters.{codes, isOneOf, isLetterOrDigit, isIriChar, isStringChar, isPnChars, hexValue, noChar, echar}
+use Rattle.spec_ntriples.specs.Texts.{lowerChar}
 
 -- What was read from the front of characters: nothing, where they do not begin so; or some characters, and those behind.
 pub data Got : Type 0 where
@@ -86,10 +89,6 @@ label (c ∷ cs) = let g = label cs in cond (isPnChars c) (push c g) (cond (eqb 
 unfoldable pub headIs : (ℕ → Bool) → List ℕ → Bool
 headIs test [] = false
 headIs test (c ∷ cs) = test c
-
--- "Language tags put in lower case": A to Z.
-unfoldable pub lowerChar : ℕ → ℕ
-lowerChar c = cond (isBetween 65 90 c) (c + 32) c
 
 -- [144s] LANGTAG behind "@": "[a-zA-Z]+ ('-' [a-zA-Z0-9]+)*", whose first character is known to be a letter: characters that pass the test,
 -- and then hyphens, each with letters or digits behind it.

@@ -1,13 +1,18 @@
--- Terms, lines and documents of N-Triples, read (RDF 1.1 N-Triples, section 7): functions that compute. Definitions only.
+-- Terms, lines and documents of N-Triples, read by functions that compute (RDF 1.1 N-Triples, section 7). Nobody has to read it:
+-- specs/Productions.antt has the grammar, and specs/Meaning.antt what its terms, lines and documents mean.
+-- Fixed by line-read (proofs/LineRead.antt): a line is read as a triple exactly when it matches the grammar and means that triple.
+-- Fixed by line-empty (proofs/LineRead.antt): a line is read as none exactly when it matches white space and a comment.
+-- Fixed by line-refused (proofs/Faults.antt): any other line is wrong, and so is one with a fault.
+-- Fixed by document-read (proofs/DocumentRead.antt): a file is read as triples exactly when it is UTF-8 of lines that say them.
 use Prim.Native.Nat.{ℕ}
 use Prim.Native.Char.{code}
-use mathlib.Core.Bool.{Bool, true, false, _&&_, _||_, cond}
-use mathlib.Core.List.{List, [], _∷_, _++_}
+use mathlib.Core.Bool.{Bool, true, _&&_, _||_, cond}
+use mathlib.Core.List.{List, [], _∷_}
 use lib.Dec.{eqb}
-use Rattle.spec_ntriples.specs.Utf8.{Decoded, broken, decoded, decode}
+use Rattle.spec_ntriples.specs.computed.Decoded.{Decoded, broken, decoded, decode}
 use Rattle.spec_ntriples.specs.Characters.{codes, isOneOf, isLetter, isDigit, isPnCharsU}
-use Rattle.spec_ntriples.specs.Terminals.{Got, none, got, outside, iriStep, stringStep, scan, label, headIs, tag, skip}
-use Rattle.spec_ntriples.specs.Texts.{Text, text, isAbsolute, iriText, blankText, stringText, taggedText, typedText}
+use Rattle.spec_ntriples.specs.computed.Terminals.{Got, none, got, outside, iriStep, stringStep, scan, label, headIs, tag, skip}
+use Rattle.spec_ntriples.specs.Texts.{Text, text, TextTriple, isAbsolute, iriText, blankText, stringText, taggedText, typedText}
 
 -- ---- terms
 
@@ -75,12 +80,6 @@ readObject [] = nothing
 readObject (c ∷ cs) = cond (eqb c (code "\"")) (literalOf (scan stringStep outside cs)) (readSubject (c ∷ cs))
 
 -- ---- lines
-
--- The texts of a triple.
-pub record TextTriple : Type 0 where
-  pub subject : Text
-  pub property : Text
-  pub object : Text
 
 -- A line: one that "breaks the grammar", one with no triple, or one with a triple.
 pub data Line : Type 0 where

@@ -1,0 +1,4 @@
+pub mod Decoded
+pub mod Terminals
+pub mod Lines
+pub mod Canonical
