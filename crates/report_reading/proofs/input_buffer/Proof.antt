@@ -1,4 +1,4 @@
--- The length of a list of equal bytes, not counted out. Assumes nothing.
+-- The length of so many equal bytes, not counted out. Assumes nothing.
 use Prim.Native.Nat.{ℕ}
 use mathlib.Core.Path.{sym}
 use lib.ListN.{length-replicate}

@@ -1,8 +1,9 @@
--- What is printed of a file that is too long, of one that was read, and of one that was refused. Assumes nothing.
+-- What is printed for a file that is too long, for one that is read, and for one that is refused. Assumes nothing.
 use native.Mathlib.Omega.{arith}
 use Rattle.spec_ntriples.specs.Characters.{codes}
 use Rattle.report_text.specs.Text.{refusalText}
-use Rattle.report_reading.proofs.Printing.{too-long-printed, delivery-printed, refusal-printed}
+use Rattle.report_reading.specs.Printing.{tooLong}
+use Rattle.report_reading.proofs.Responding.{too-long-printed, delivery-printed, delivery-room, refusal-printed}
 use borrow.Author.Needs.{needs}
 use Rattle.report_reading.proofs.respond.Statement.{statement}
 use Rattle.report_reading.proofs.respond.Tie as tie
@@ -17,8 +18,8 @@ same-length : tie.Need-same-length
 same-length c = search needs
 
 returns : tie.Need-returns
-unfolding codes
-returns c = too-long-printed (c .before .before .before .before .before .before .before .before .before .args .file .now) (c .before .before .before .before .before .before .before .before .before .args .delivery .now) (c .before .before .before .before .before .if1 .taken) (c .before .before .write-labelled .ensures .0) (c .before .before .write-labelled .ensures .1)
+unfolding codes tooLong
+returns c = (too-long-printed (c .before .before .before .before .before .before .before .before .args .file .now) (c .before .before .before .before .before .if1 .taken) (c .before .before .write-labelled .ensures .0), omega (arith, c .before .before .write-labelled .ensures .1))
 
 empty-dictionary-requires : tie.Need-empty-dictionary-requires
 empty-dictionary-requires c κs = search needs
@@ -45,17 +46,14 @@ same-length-2 : tie.Need-same-length-2
 same-length-2 c = search needs
 
 returns-2 : tie.Need-returns-2
-returns-2 c = delivery-printed (c .before .before .before .before .before .before .before .before .before .before .before .before .before .before .args .file .now) (c .before .before .before .before .before .before .read-ntriples .result) (omega (arith, c .before .before .before .before .before .before .before .before .before .before .if1 .left)) (c .before .before .before .before .before .before .before .before .before .empty-dictionary .ensures) (c .before .before .before .before .before .before .before .before .before .before .before .before .before .before .pre .0) (c .before .before .before .before .before .before .read-ntriples .ensures) (c .before .before .before .before .before .before .before .before .before .before .before .before .before .before .args .message .now) _ (c .before .n .given .1)
+returns-2 c = (delivery-printed (c .before .before .before .before .before .before .before .before .before .before .before .before .before .args .file .now) (c .before .before .before .before .before .before .read-ntriples .result) (omega (arith, c .before .before .before .before .before .before .before .before .before .before .if1 .left)) (c .before .before .before .before .before .before .before .before .before .empty-dictionary .ensures) (c .before .before .before .before .before .before .before .before .before .before .before .before .before .pre) (c .before .before .before .before .before .before .read-ntriples .ensures) _ (c .before .n .given .1), delivery-room (c .before .before .before .before .before .before .before .before .before .before .before .before .before .args .file .now) (c .before .before .before .before .before .before .read-ntriples .result) (omega (arith, c .before .before .before .before .before .before .before .before .before .before .if1 .left)) (c .before .before .before .before .before .before .before .before .before .empty-dictionary .ensures) (c .before .before .before .before .before .before .before .before .before .before .before .before .before .pre) (c .before .before .before .before .before .before .read-ntriples .ensures) _ (c .before .n .given .1))
 
 same-length-3 : tie.Need-same-length-3
 same-length-3 c = search needs
 
-same-length-4 : tie.Need-same-length-4
-same-length-4 c = search needs
-
 returns-3 : tie.Need-returns-3
 unfolding refusalText
-returns-3 c = refusal-printed (c .before .before .before .before .before .before .before .before .before .before .before .before .before .before .before .before .before .before .before .args .file .now) (c .before .before .before .before .before .before .before .before .before .before .before .read-ntriples .result) (omega (arith, c .before .before .before .before .before .before .before .before .before .before .before .before .before .before .before .if1 .left)) (c .before .before .before .before .before .before .before .before .before .before .before .before .before .before .empty-dictionary .ensures) (c .before .before .before .before .before .before .before .before .before .before .before .before .before .before .before .before .before .before .before .pre .0) (c .before .before .before .before .before .before .before .before .before .before .before .read-ntriples .ensures) _ (c .before .before .before .before .before .before .n2 .given .1) (c .before .before .write-labelled2 .ensures .0) (omega (arith, c .before .before .write-labelled2 .ensures .1))
+returns-3 c = (refusal-printed (c .before .before .before .before .before .before .before .before .before .before .before .before .before .before .before .before .before .before .args .file .now) (c .before .before .before .before .before .before .before .before .before .before .before .read-ntriples .result) (omega (arith, c .before .before .before .before .before .before .before .before .before .before .before .before .before .before .before .if1 .left)) (c .before .before .before .before .before .before .before .before .before .before .before .before .before .before .empty-dictionary .ensures) (c .before .before .before .before .before .before .before .before .before .before .before .before .before .before .before .before .before .before .pre) (c .before .before .before .before .before .before .before .before .before .before .before .read-ntriples .ensures) _ (c .before .before .before .before .before .before .n2 .given .1) (c .before .before .write-labelled2 .ensures .0), omega (arith, c .before .before .write-labelled2 .ensures .1))
 
 pub respond-spec : {M : Type 1} → statement M
 respond-spec =
@@ -75,5 +73,4 @@ respond-spec =
     same-length-2
     returns-2
     same-length-3
-    same-length-4
     returns-3)
