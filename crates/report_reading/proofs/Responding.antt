@@ -14,7 +14,7 @@ use Rattle.spec_ntriples.proofs.ReadingRefused.{reading-accepted}
 use Rattle.report_text.specs.Text.{refusalText}
 use Rattle.report_text.specs.inside.Appended.{Appended}
 use Rattle.report_reading.specs.declared.Printed.the-variants.{Output, Errors}
-use Rattle.report_reading.specs.Printing.{Stream, output, errors, printed, mostInput, emptyDictionary, tooLong, replied, response}
+use Rattle.report_reading.specs.Printing.{errors, printed, mostInput, emptyDictionary, tooLong, printedReply, printedFor}
 
 -- A text that stands alone is what is printed of it.
 printed-text : {text out out' : List ℕ} {end : ℕ} → Appended text 0 out out' end → printed (Errors end) out' ≡ errors text
@@ -22,8 +22,8 @@ unfolding printed
 printed-text A = ap errors (A .start-and-text)
 
 -- A file that is too long.
-pub too-long-printed : (file : List ℕ) {out out' : List ℕ} {end : ℕ} → mostInput < length file → Appended tooLong 0 out out' end → printed (Errors end) out' ≡ response file
-unfolding response
+pub too-long-printed : (file : List ℕ) {out out' : List ℕ} {end : ℕ} → mostInput < length file → Appended tooLong 0 out out' end → printed (Errors end) out' ≡ printedFor file
+unfolding printedFor
 too-long-printed file h A = printed-text A ∙ sym (rw (lt-leb (length file) mostInput h) refl)
 
 -- A file that was read.
@@ -32,14 +32,14 @@ module _ (file : List ℕ) (r : ByteReply) {d₀ d m : List ℕ} {len : ℕ} (sh
   is-read : readFile r d m ≡ readNTriples emptyDictionary file mostBytes
   is-read = is ∙ ap (λ (bs : List ℕ). readNTriples bs file len) zeros ∙ ap (readNTriples emptyDictionary file) whole
 
-  response-is : response file ≡ replied r m
-  unfolding response
-  response-is = rw (le-leb (length file) mostInput short) (ap (λ (f : ReadFile). replied (f .reply) (f .delivery)) (sym is-read))
+  printed-is : printedFor file ≡ printedReply r m
+  unfolding printedFor
+  printed-is = rw (le-leb (length file) mostInput short) (ap (λ (f : ReadFile). printedReply (f .reply) (f .delivery)) (sym is-read))
 
   -- Its delivery.
-  pub delivery-printed : (n : ℕ) → r ≡ Length n → printed (Output n) m ≡ response file
-  unfolding printed replied
-  delivery-printed n e = sym (response-is ∙ ap (λ (s : ByteReply). replied s m) e)
+  pub delivery-printed : (n : ℕ) → r ≡ Length n → printed (Output n) m ≡ printedFor file
+  unfolding printed printedReply
+  delivery-printed n e = sym (printed-is ∙ ap (λ (s : ByteReply). printedReply s m) e)
 
   pub delivery-room : (n : ℕ) → r ≡ Length n → n ≤ mostBytes
   delivery-room n e =
@@ -47,6 +47,6 @@ module _ (file : List ℕ) (r : ByteReply) {d₀ d m : List ℕ} {len : ℕ} (sh
       omega (arith, A .room, A .size)
 
   -- The number that refused it.
-  pub refusal-printed : {out out' : List ℕ} {end : ℕ} (n : ℕ) → r ≡ Refused n → Appended (refusalText n) 0 out out' end → printed (Errors end) out' ≡ response file
-  unfolding replied
-  refusal-printed n e A = printed-text A ∙ sym (response-is ∙ ap (λ (s : ByteReply). replied s m) e)
+  pub refusal-printed : {out out' : List ℕ} {end : ℕ} (n : ℕ) → r ≡ Refused n → Appended (refusalText n) 0 out out' end → printed (Errors end) out' ≡ printedFor file
+  unfolding printedReply
+  refusal-printed n e A = printed-text A ∙ sym (printed-is ∙ ap (λ (s : ByteReply). printedReply s m) e)

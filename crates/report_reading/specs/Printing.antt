@@ -24,7 +24,7 @@ unfoldable pub printed : Printed → List ℕ → Stream
 printed (Output n) bytes = output (take n bytes)
 printed (Errors n) bytes = errors (take n bytes)
 
--- How many.
+-- How many bytes that is.
 abbrev pub printedLength : Printed → ℕ
 printedLength (Output n) = n
 printedLength (Errors n) = n
@@ -37,17 +37,17 @@ mostInput = 1048576
 abbrev pub emptyDictionary : List ℕ
 emptyDictionary = replicate 1048576 0
 
--- For a file that is longer.
+-- What is printed for a file that is longer,
 unfoldable pub tooLong : List ℕ
 tooLong = labelled (codes "the input has more bytes than ") mostInput newline
 
--- For one that was read, by the reply and the delivery: the bytes of the delivery, or the word refused and the number.
-unfoldable pub replied : ByteReply → List ℕ → Stream
-replied (Length n) delivery = output (take n delivery)
-replied (Refused n) delivery = errors (refusalText n)
+-- for one that was read, by the reply and the delivery (the bytes of the delivery, or the word refused and the number),
+unfoldable pub printedReply : ByteReply → List ℕ → Stream
+printedReply (Length n) delivery = output (take n delivery)
+printedReply (Refused n) delivery = errors (refusalText n)
 
--- For any: it is read with that dictionary into a delivery of the most bytes.
-unfoldable pub response : List ℕ → Stream
-response file =
+-- and for any: it is read with that dictionary into a delivery of the most bytes.
+unfoldable pub printedFor : List ℕ → Stream
+printedFor file =
     let r = readNTriples emptyDictionary file mostBytes in
-    cond (leb (length file) mostInput) (replied (r .reply) (r .delivery)) (errors tooLong)
+    cond (leb (length file) mostInput) (printedReply (r .reply) (r .delivery)) (errors tooLong)

@@ -6,7 +6,7 @@ ghost use mathlib.Core.Path.{_≡_};
 ghost use Prim.Native.Nat.{_+_, _≤_};
 ghost use lib.ListN.{length, replicate};
 ghost use Rattle.spec.specs.Messages.{mostBytes};
-ghost use Rattle.report_reading.specs.Printing.{mostInput, printed, printedLength, response};
+ghost use Rattle.report_reading.specs.Printing.{mostInput, printed, printedLength, printedFor};
 
 // The most bytes of a file,
 const MOST_INPUT: usize = 1048576;
@@ -47,7 +47,7 @@ fn empty_dictionary() -> [u8; 1048576]
 // Reads a file of N-Triples with an empty dictionary, and writes what is printed.
 pub fn respond(file: &[u8], out: &mut [u8]) -> Printed
     requires { ⌜ length (now out) ≡ mostBytes ⌝ }
-    ensures text { λ r. ⌜ printed r (now (out .exit)) ≡ response (now (file .entry)) ⌝ }
+    ensures text { λ r. ⌜ printed r (now (out .exit)) ≡ printedFor (now (file .entry)) ⌝ }
     ensures room { λ r. ⌜ printedLength r ≤ mostBytes ⌝ }
 {
     if MOST_INPUT < file.len() {
