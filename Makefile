@@ -43,8 +43,9 @@ try = echo "trial, part $(1) of 4, $(2): its log is $(TRIAL_LOG)" >&2; $(TRIAL) 
 	|| { tail -n 40 $(TRIAL_LOG) >&2; echo "the trial failed: $(TRIAL_LOG) has all that it printed" >&2; exit 1; }
 
 # The exported library beside the peers named, and alone: target/bench/report.md and target/bench/plot.svg. `make bench BENCH_PEERS=` runs
-# it alone; `make bench BENCH_OPTIONS=--quick` takes a small workload.
-BENCH_PEERS ?= prolog postgres jena
+# it alone; `make bench BENCH_OPTIONS=--quick` takes a small workload, `make bench BENCH_OPTIONS=--only=reading` measures one part of the
+# tables (stores, alone, reading, stack).
+BENCH_PEERS ?= prolog postgres jena rapper
 BENCH_OPTIONS ?=
 
 bench: library cargo $(BENCH_PEERS)

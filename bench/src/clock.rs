@@ -16,6 +16,11 @@ pub fn median(mut times: Vec<Duration>) -> Duration {
     times[times.len() / 2]
 }
 
+/// The least of some times.
+pub fn least(times: Vec<Duration>) -> Duration {
+    times.into_iter().min().expect("a time")
+}
+
 /// The median time of so many calls.
 pub fn repeated(n: usize, mut f: impl FnMut()) -> Duration {
     median((0..n).map(|_| timed(&mut f).0).collect())

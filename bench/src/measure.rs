@@ -55,10 +55,15 @@ struct Expected {
     without: Vec<Rows>,
 }
 
+/// The statements of every store but those of hub.rs.
+pub fn statements() -> Vec<Triple> {
+    workload::statements(200)
+}
+
 impl Task {
     /// A store of so many facts, which come in no order, and all questions.
     pub fn new(n: usize, mix: Mix, changed: Changed) -> Task {
-        let statements = workload::statements(200);
+        let statements = statements();
         let facts = workload::shuffled(workload::facts(n, statements.len(), mix, 7), 11);
         let questions = workload::questions(&facts);
         Task { statements, facts, questions, changed }

@@ -6,8 +6,9 @@ use families::{Capacities, Delivered, Refusal, Store, Triple, Updated};
 use std::time::Duration;
 use workload::delivery;
 
-/// The largest number of entries of a delivery.
-const ENTRIES: usize = (65_536 - 10) / 12;
+/// The largest number of bytes, and of entries, of a delivery.
+pub const DELIVERY_BYTES: usize = 65_536;
+const ENTRIES: usize = (DELIVERY_BYTES - 10) / 12;
 
 /// A store with room for as much as document 01 allows, and an output for rows.
 pub struct Ours {

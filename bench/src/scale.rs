@@ -1,5 +1,7 @@
 //! How large a run is.
 
+use std::time::Duration;
+
 /// How much is measured.
 pub struct Scale {
     /// The facts of the store for questions and updates.
@@ -12,6 +14,13 @@ pub struct Scale {
     /// The facts and statements withdrawn and added, and the facts at each size of a growing store.
     pub changed: [usize; 2],
     pub changed_growing: usize,
+    /// The lengths through which files of N-Triples grow, of how many readings a time is the least, and how many times over rapper reads
+    /// the longest file at once.
+    pub lines: Vec<usize>,
+    pub readings: usize,
+    pub copies: usize,
+    /// For how long Jena reads a file again and again, for the compiler inside Java.
+    pub read_again: Duration,
 }
 
 impl Scale {
@@ -24,11 +33,31 @@ impl Scale {
             runs: 11,
             changed: [1_000, 20],
             changed_growing: 10,
+            lines: vec![500, 1_000, 2_500, 5_000],
+            readings: 21,
+            copies: 50,
+            read_again: Duration::from_secs(5),
         }
     }
 
     /// A trial of the program.
     pub fn quick() -> Scale {
-        Scale { facts: 2_000, sizes: vec![500, 1_000, 2_000], rounds: 2, runs: 3, changed: [100, 4], changed_growing: 5 }
+        Scale {
+            facts: 2_000,
+            sizes: vec![500, 1_000, 2_000],
+            rounds: 2,
+            runs: 3,
+            changed: [100, 4],
+            changed_growing: 5,
+            lines: vec![50, 500],
+            readings: 3,
+            copies: 2,
+            read_again: Duration::from_millis(200),
+        }
+    }
+
+    /// The lines of the longest file of N-Triples.
+    pub fn most_lines(&self) -> usize {
+        *self.lines.last().expect("a length")
     }
 }

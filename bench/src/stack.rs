@@ -2,9 +2,11 @@
 
 use crate::alone::saturated;
 use crate::clock::progress;
+use crate::goods::{dictionary, files, TEXTS};
 use crate::numbers::grouped;
+use crate::ours::DELIVERY_BYTES;
 use crate::scale::Scale;
-use families::{Order, Store, Table, Triple, Updated};
+use families::{read_ntriples, Order, Store, Table, Triple, Updated};
 use std::alloc::{alloc, dealloc, Layout};
 use std::ffi::c_void;
 use std::ptr::{null_mut, write_bytes};
@@ -103,6 +105,18 @@ fn questions(store: &Store) -> Vec<(String, usize)> {
     ]
 }
 
+/// The stack that reading takes, the most of all files, with each dictionary.
+fn reading(scale: &Scale) -> usize {
+    let mut delivery = vec![0; DELIVERY_BYTES];
+    let mut most = 0;
+    for file in files(scale.most_lines()) {
+        for mut dictionary in TEXTS.map(dictionary) {
+            most = most.max(taken(|| assert!(read_ntriples(file.text.as_bytes(), &mut dictionary, &mut delivery).is_ok())));
+        }
+    }
+    most
+}
+
 /// The stack that each kind of call takes on the largest store.
 pub fn calls(scale: &Scale, statements: &[Triple]) -> String {
     progress("our library: stack");
@@ -111,6 +125,7 @@ pub fn calls(scale: &Scale, statements: &[Triple]) -> String {
     let mut measured = updates(&mut store, "fact", facts[0], 1).to_vec();
     measured.extend(updates(&mut store, "statement", statements[0], 0));
     measured.extend(questions(&store));
+    measured.push(("a file of N-Triples read, the most of all files and dictionaries".to_string(), reading(scale)));
     let mut out = String::from("| call | stack |\n|---|---|\n");
     for (name, bytes) in measured {
         out += &format!("| {name} | {} kB |\n", grouped(bytes.div_ceil(1000)));

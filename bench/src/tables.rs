@@ -6,8 +6,8 @@ use crate::measure::{Contest, Figures, DELIVERED, FACTS, STATEMENTS};
 use crate::numbers::{grouped, time, times};
 use std::time::Duration;
 
-/// The head of a table whose last columns are ours and the others.
-fn head(first: &[&str], names: &[&str]) -> String {
+/// The head of a table: its first columns, and what is measured, as our library and the others.
+pub fn head(first: &[&str], names: &[&str]) -> String {
     let columns: Vec<&str> = first.iter().chain(names).copied().collect();
     format!("| {} |\n|{}\n", columns.join(" | "), "---|".repeat(columns.len()))
 }
@@ -24,7 +24,7 @@ fn taken(contest: &Contest, pick: impl Fn(&Figures) -> Duration) -> Vec<Duration
 }
 
 /// A row: its name, and the cells for what is taken.
-fn row(name: &str, measured: &[Duration]) -> String {
+pub fn row(name: &str, measured: &[Duration]) -> String {
     format!("| {name} | {} |\n", cells(measured[0], &measured[1..]))
 }
 

@@ -31,6 +31,23 @@ impl Question {
     }
 }
 
+/// What is counted of a file of N-Triples: its triples, or its distinct terms, each of which gets a number.
+#[derive(Clone, Copy, PartialEq)]
+pub enum Parts {
+    Triples,
+    Terms,
+}
+
+impl Parts {
+    /// The command that counts them.
+    fn command(self) -> &'static str {
+        match self {
+            Parts::Triples => "time-read",
+            Parts::Terms => "time-number",
+        }
+    }
+}
+
 impl Jena {
     /// Starts the server, with an empty store.
     pub fn start() -> Outcome<Jena> {
@@ -80,7 +97,7 @@ impl Jena {
     pub fn times(&mut self, question: &Question, runs: usize) -> Outcome<Vec<Duration>> {
         let (end, text) = question.parts();
         let answer = self.pipe.call(&format!("time{end} {runs} {text}\n"))?;
-        Ok(answer.times()[1..].to_vec())
+        Ok(answer.counted_times().1)
     }
 
     /// Reads a file of N-Triples, and writes its triples to another, in file order.
@@ -88,6 +105,18 @@ impl Jena {
         let request = format!("read {} {}\n", file.display(), written.display());
         self.pipe.call(&request)?;
         Ok(())
+    }
+
+    /// Reads a file of N-Triples so many times, from memory: how many of its parts it has, and how long
+    /// each time takes.
+    pub fn read_times(
+        &mut self,
+        parts: Parts,
+        file: &Path,
+        runs: usize,
+    ) -> Outcome<(usize, Vec<Duration>)> {
+        let request = format!("{} {runs} {}\n", parts.command(), file.display());
+        Ok(self.pipe.call(&request)?.counted_times())
     }
 
     /// The SPARQL text that Jena is given for the words of a question.

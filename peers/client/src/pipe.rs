@@ -25,13 +25,22 @@ pub struct Answer {
 }
 
 impl Answer {
+    /// The numbers on the last line.
+    fn numbers(&self) -> impl Iterator<Item = u64> + '_ {
+        let words = self.last.split_whitespace();
+        words.filter_map(|word| word.parse().ok())
+    }
+
     /// The numbers on the last line, as times in nanoseconds.
     pub fn times(&self) -> Vec<Duration> {
-        self.last
-            .split_whitespace()
-            .filter_map(|word| word.parse().ok())
-            .map(Duration::from_nanos)
-            .collect()
+        self.numbers().map(Duration::from_nanos).collect()
+    }
+
+    /// The first number on the last line as a count, and the others as times in nanoseconds.
+    pub fn counted_times(&self) -> (usize, Vec<Duration>) {
+        let mut numbers = self.numbers();
+        let count = numbers.next().unwrap_or_default();
+        (count as usize, numbers.map(Duration::from_nanos).collect())
     }
 }
 

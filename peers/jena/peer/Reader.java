@@ -2,6 +2,7 @@ package peer;
 
 import java.io.BufferedWriter;
 import java.io.IOException;
+import java.io.InputStream;
 import java.io.UncheckedIOException;
 import java.io.Writer;
 import java.nio.file.Files;
@@ -12,6 +13,7 @@ import org.apache.jena.riot.Lang;
 import org.apache.jena.riot.RDFParser;
 import org.apache.jena.riot.lang.LabelToNode;
 import org.apache.jena.riot.system.ErrorHandlerFactory;
+import org.apache.jena.riot.system.StreamRDF;
 import org.apache.jena.riot.system.StreamRDFBase;
 import org.apache.jena.vocabulary.XSD;
 
@@ -28,15 +30,20 @@ final class Reader extends StreamRDFBase {
     static long read(Path file, Path written) throws IOException {
         try (BufferedWriter output = Files.newBufferedWriter(written)) {
             Reader reader = new Reader(output);
-            RDFParser.create()
-                .source(Files.newInputStream(file))
-                .lang(Lang.NTRIPLES)
-                .labelToNode(LabelToNode.createUseLabelAsGiven())
-                .errorHandler(ErrorHandlerFactory.errorHandlerNoWarnings)
-                .checking(false)
-                .parse(reader);
+            parse(Files.newInputStream(file), reader);
             return reader.count;
         }
+    }
+
+    /** Gives each triple of some input, in its order. */
+    static void parse(InputStream input, StreamRDF each) {
+        RDFParser.create()
+            .source(input)
+            .lang(Lang.NTRIPLES)
+            .labelToNode(LabelToNode.createUseLabelAsGiven())
+            .errorHandler(ErrorHandlerFactory.errorHandlerNoWarnings)
+            .checking(false)
+            .parse(each);
     }
 
     @Override

@@ -5,10 +5,12 @@ import java.io.BufferedReader;
 import java.io.IOException;
 import java.io.InputStreamReader;
 import java.io.PrintStream;
+import java.nio.file.Files;
 import java.nio.file.Path;
 import java.util.ArrayList;
 import java.util.Arrays;
 import java.util.List;
+import java.util.function.LongSupplier;
 import java.util.stream.Collectors;
 import java.util.stream.Stream;
 import org.apache.jena.graph.Node;
@@ -32,11 +34,14 @@ import org.apache.jena.reasoner.rulesys.Rule;
  * ask WORDS         a row of words for each answer of a question              ok COUNT
  * time N WORDS      answers a question N times, without giving its rows       ok COUNT NANOSECONDS, N of them
  * read FILE OUT     reads a file of N-Triples, and writes its triples in order  ok COUNT
+ * time-read N FILE  reads a file of N-Triples N times, and counts its triples  ok COUNT NANOSECONDS, N of them
+ * time-number N FILE  likewise, and numbers and counts its distinct terms     ok COUNT NANOSECONDS, N of them
  * ask-explicit TEXT, time-explicit N TEXT   likewise for SPARQL among the explicit triples, where w and a word stand for a node
  * </pre>
  *
  * After "work", "add" keeps what holds up to date. The nanoseconds of "add" and "withdraw" are those of the store, not of reading the
- * lines; those of "time" go from the parsed text to the last row.
+ * lines; those of "time" go from the parsed text to the last row; those of "time-read" and "time-number" from the file's bytes in memory to
+ * the last triple.
  */
 public final class Server {
     private final BufferedReader input;
@@ -109,6 +114,14 @@ public final class Server {
                 return "ok " + time(Integer.parseInt(arguments.get(0)), question(arguments.subList(1, arguments.size())));
             case "read":
                 return "ok " + Reader.read(Path.of(arguments.get(0)), Path.of(arguments.get(1)));
+            case "time-read": {
+                byte[] file = Files.readAllBytes(Path.of(arguments.get(1)));
+                return "ok " + times(Integer.parseInt(arguments.get(0)), () -> Numbering.triples(file));
+            }
+            case "time-number": {
+                byte[] file = Files.readAllBytes(Path.of(arguments.get(1)));
+                return "ok " + times(Integer.parseInt(arguments.get(0)), () -> Numbering.terms(file));
+            }
             case "ask-explicit":
                 return "ok " + ask(new Question(arguments));
             case "time-explicit":
@@ -167,15 +180,22 @@ public final class Server {
     /** Answers a question so many times: the number of its rows, and how long each time took. */
     private String time(int times, Question question) {
         Query query = QueryFactory.create(question.text);
+        return times(times, () -> {
+            long[] count = {0};
+            store.ask(query, question.explicit, row -> {
+                question.head.forEach(row::get);
+                count[0]++;
+            });
+            return count[0];
+        });
+    }
+
+    /** Does some work so many times: what it counted, and how long each time took. */
+    private static String times(int times, LongSupplier work) {
         long[] count = {0};
         StringBuilder each = new StringBuilder();
         for (int i = 0; i < times; i++) {
-            count[0] = 0;
-            long time = nanoseconds(() -> store.ask(query, question.explicit, row -> {
-                question.head.forEach(row::get);
-                count[0]++;
-            }));
-            each.append(' ').append(time);
+            each.append(' ').append(nanoseconds(() -> count[0] = work.getAsLong()));
         }
         return count[0] + each.toString();
     }
