@@ -4,6 +4,7 @@ use crate::fence::Memory;
 use crate::histories;
 use crate::library::Fault;
 use crate::model::Model;
+use crate::plan::Case;
 use crate::random::case_seed;
 use crate::reading;
 use crate::script::{Call, Command, Output};
@@ -87,16 +88,21 @@ pub fn fail(fault: Fault) {
 /// A file of one line.
 const LINE: &[u8] = b"<p:a> <p:b> <p:c> .";
 
-/// The sample of the random phases: the cases for each thousand that these have shares for.
-const HISTORIES: u64 = 300;
-const FILES: u64 = 5000;
+/// Histories of the sample: what runs one, and how many.
+const HISTORIES: [(Case, u64); 3] = [
+    (histories::grown, 300),
+    (histories::lent, 300),
+    (histories::damaged, 900),
+];
 
-/// The sample: what runs one case, and how many.
-fn cases() -> impl Iterator<Item = (fn(&mut Harness, u64) -> Result<(), Failure>, u64)> {
-    let stores = histories::PHASES.into_iter().take(3);
-    let stores = stores.map(|(_, case, share)| (case, HISTORIES * share / 1000));
-    let reading = reading::PHASES.into_iter();
-    stores.chain(reading.map(|(_, case, share)| (case, FILES * share / 1000)))
+/// The files of the sample, at about.
+const FILES: u64 = 5_000;
+
+/// The cases of the sample: what runs one, and how many.
+fn cases() -> impl Iterator<Item = (Case, u64)> {
+    let files = reading::PHASES.into_iter();
+    let files = files.map(|(_, case, share)| (case, FILES * share / 1000));
+    HISTORIES.into_iter().chain(files)
 }
 
 /// Runs the sample; the place and the failure of the first difference.

@@ -14,13 +14,11 @@ use std::time::Instant;
 /// A directed case: a name and what runs it.
 pub type Directed = (&'static str, fn(&mut Harness) -> Result<(), Failure>);
 
-/// A random phase: a name, what runs one case by its seed, and the cases for each thousand that are
-/// asked for.
-pub type Phase = (
-    &'static str,
-    fn(&mut Harness, u64) -> Result<(), Failure>,
-    u64,
-);
+/// What runs a random case by its seed.
+pub type Case = fn(&mut Harness, u64) -> Result<(), Failure>;
+
+/// A random phase: a name, what runs a case, and the cases for each thousand that are asked for.
+pub type Phase = (&'static str, Case, u64);
 
 /// What a part tries.
 pub struct Plan {
@@ -34,14 +32,16 @@ pub struct Plan {
     pub cases: u64,
 }
 
-/// The random cases of each phase in which a planted fault is looked for.
-const CASES_FOR_A_FAULT: u64 = 300;
+/// The random cases in which a planted fault is looked for.
+const CASES_FOR_A_FAULT: u64 = 1_500;
 
 impl Plan {
     /// Runs a part, and ends the program at the first difference.
     pub fn run(&self, harness: &mut Harness, options: &Options) {
         let start = Instant::now();
-        self.test_itself(options);
+        if options.fault.is_none() {
+            self.test_itself(options);
+        }
         let cases = options.cases.unwrap_or(self.cases);
         if let Err((place, failure)) = self.compare(harness, options.seed, cases) {
             report(harness, options, &place, failure);
@@ -67,14 +67,14 @@ impl Plan {
         println!("planted faults: {0} of {0} found", self.faults.len());
     }
 
-    /// What finds a planted fault: some cases of each phase are tried, and then the directed ones.
+    /// What finds a planted fault: a few random cases are tried, and then the directed ones.
     fn finds(&self, fault: Fault, options: &Options) -> Option<&'static str> {
         let mut harness = Harness::new(Model { fault: Some(fault) }, Memory::Fenced);
         harness.trace = options.trace.clone();
-        for (number, (name, case, _)) in self.phases.iter().enumerate() {
-            let mut seeds =
-                (0..CASES_FOR_A_FAULT).map(|i| case_seed(options.seed, number as u64, i));
-            if seeds.any(|seed| case(&mut harness, seed).is_err()) {
+        for (number, (name, case, share)) in self.phases.iter().enumerate() {
+            let mut cases = 0..share_of(CASES_FOR_A_FAULT, *share);
+            if cases.any(|i| case(&mut harness, case_seed(options.seed, number as u64, i)).is_err())
+            {
                 return Some(name);
             }
         }
@@ -96,7 +96,7 @@ impl Plan {
             })?;
         }
         for (number, (name, case, share)) in self.phases.iter().enumerate() {
-            let cases = (cases * share).div_ceil(1000);
+            let cases = share_of(cases, *share);
             timed(harness, &format!("{name}, {cases}"), |h| {
                 (0..cases).try_for_each(|i| {
                     case(h, case_seed(seed, number as u64, i))
@@ -116,6 +116,11 @@ impl Plan {
             exit(1);
         }
     }
+}
+
+/// The cases of a phase with a share.
+fn share_of(cases: u64, share: u64) -> u64 {
+    (cases * share).div_ceil(1000)
 }
 
 /// Runs something, and prints how many calls it made and how long they took.

@@ -131,12 +131,17 @@ impl Desk {
         differ("the library", &in_sections(triples), &read)
     }
 
-    /// Model and library read a file that is valid by construction.
+    /// The library reads a file that is valid by construction.
     fn construct(&mut self, seed: u64, fault: Option<Fault>) -> Result<(), Difference> {
         let file = drawn(&mut Random::new(seed), LINES, Range::All, fault);
-        differ("the model", &file.triples, &by_model(&file.bytes)?)?;
         self.compare_library(&file, file.triples.clone())
     }
+}
+
+/// The model reads a file that is valid by construction.
+fn construct(seed: u64, fault: Option<Fault>) -> Result<(), Difference> {
+    let file = drawn(&mut Random::new(seed), LINES, Range::All, fault);
+    differ("the model", &file.triples, &by_model(&file.bytes)?)
 }
 
 /// The texts of terms: those of the vocabulary, and of a dictionary.
@@ -193,19 +198,22 @@ fn differ(reader: &str, wanted: &[Texts], given: &[Texts]) -> Result<(), Differe
     }
 }
 
-/// Whether a planted fault is found by model and library, and beside the other programs.
+/// Whether a planted fault is found by the model, by the library, and by the other programs.
 pub fn finds(desk: &mut Desk, seed: u64, fault: Fault) -> bool {
     let seeds = |files: u64| (0..files).map(move |i| case_seed(seed, PHASE, i));
-    let alone = seeds(FILES).any(|seed| desk.construct(seed, Some(fault)).is_err());
-    let beside = seeds(SHARED_FILES).any(|seed| desk.compare(seed, Some(fault)).is_err());
-    alone && beside
+    let model = seeds(FILES).any(|seed| construct(seed, Some(fault)).is_err());
+    let library = seeds(FILES).any(|seed| desk.construct(seed, Some(fault)).is_err());
+    let others = seeds(SHARED_FILES).any(|seed| desk.compare(seed, Some(fault)).is_err());
+    model && library && others
 }
 
 /// Runs everything: what was read, in words, or the first difference.
 pub fn run(desk: &mut Desk, seed: u64) -> Result<String, Difference> {
     for i in 0..FILES {
-        let compared = desk.construct(case_seed(seed, PHASE, i), None);
-        compared.map_err(|d| format!("file {i}: {d}"))?;
+        let seed = case_seed(seed, PHASE, i);
+        construct(seed, None)
+            .and_then(|()| desk.construct(seed, None))
+            .map_err(|d| format!("file {i}: {d}"))?;
     }
     let mut triples = 0;
     for i in 0..SHARED_FILES {

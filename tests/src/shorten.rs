@@ -17,8 +17,7 @@ pub fn shortened(harness: &mut Harness, failure: Failure) -> Failure {
     };
     search.leave_out_commands();
     for at in 0..search.shortest.script.len() {
-        let lines = |file: &[u8]| split_lines(file);
-        search.leave_out_parts(at, lines);
+        search.leave_out_parts(at, split_lines);
         for length in [64, 16, 4, 1] {
             search.leave_out_parts(at, |file| split_evenly(file, length));
         }

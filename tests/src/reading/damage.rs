@@ -5,7 +5,7 @@ use super::{delivery_length, opened, read};
 use crate::entries::{self, Entry};
 use crate::files::{self, Source};
 use crate::random::Random;
-use crate::session::{Failure, Harness};
+use crate::session::{Failure, Harness, Session};
 
 /// Bytes that matter to the grammar, to escapes, or to UTF-8.
 const SPECIAL: &[u8] = b"\"\\<>_:.@^# \t\r\n\0-uUtnbf'0aFgG{}|`\x0b\x0c\x7f\x80\x9f\xa0\xbf\xc0\xc1\xc2\xdf\xe0\xe1\xed\xee\xef\xf0\xf1\xf4\xf5\xff";
@@ -108,6 +108,19 @@ const TEXTS: [&[u8]; 44] = [
     b"\"a\"^^<http://www.w3.org/2001/XMLSchema#string>",
     b"",
 ];
+
+/// Each text as that of an entry, alone, behind another, and twice.
+pub fn texts(harness: &mut Harness) -> Result<(), Failure> {
+    for text in TEXTS {
+        let mut session = Session::new(harness);
+        for texts in [&[text][..], &[b"<a:a>", text], &[text, text]] {
+            let texts = texts.iter().map(|text| text.to_vec());
+            let dictionary = entries::bytes(&entries::numbered(texts));
+            read(&mut session, b"", dictionary, delivery_length(0))?;
+        }
+    }
+    Ok(())
+}
 
 /// Another term in place of one.
 fn other_term(random: &mut Random, term: u32) -> u32 {

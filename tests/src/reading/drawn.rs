@@ -9,8 +9,9 @@ use crate::random::Random;
 use crate::script::Command;
 use crate::session::{Failure, Harness};
 
-/// The lines of a file at most.
+/// The lines of a file at most, and of a longer one.
 pub const LINES: usize = 6;
+const MANY_LINES: usize = 100;
 
 /// Bytes that have room for the new texts of a file: no canonical text is longer than what is written
 /// for it.
@@ -28,15 +29,31 @@ pub fn alone(harness: &mut Harness, seed: u64) -> Result<(), Failure> {
     expect(&mut session, &file.bytes, dictionary, length, 0)
 }
 
-/// Files in turn with one dictionary, which knows most texts after a while; some files twice, some
-/// with too little room.
+/// Files in turn with one dictionary, which knows most texts after a while.
 pub fn in_turn(harness: &mut Harness, seed: u64) -> Result<(), Failure> {
     let mut random = Random::new(seed);
-    let source = Source::with_names(&mut random, LINES);
-    let mut session = opened(harness, &mut random)?;
     let room = random.pick(&[200, 600, 2000, 4000]);
+    read_in_turn(harness, &mut random, LINES, room)
+}
+
+/// The same of longer files.
+pub fn longer(harness: &mut Harness, seed: u64) -> Result<(), Failure> {
+    let mut random = Random::new(seed);
+    let room = random.pick(&[5_000, 20_000, 50_000]);
+    read_in_turn(harness, &mut random, MANY_LINES, room)
+}
+
+/// Files of so many lines at most in turn, some of them twice, some with too short a delivery.
+fn read_in_turn(
+    harness: &mut Harness,
+    random: &mut Random,
+    lines: usize,
+    room: usize,
+) -> Result<(), Failure> {
+    let source = Source::with_names(random, lines);
+    let mut session = opened(harness, random)?;
     session.run(Command::LendDictionary(vec![0; room]))?;
-    let mut file = files::file(&mut random, &source);
+    let mut file = files::file(random, &source);
     for _ in 0..random.between(2, 10) {
         let needed = delivery_length(file.triples.len());
         let length = match random.once_in(8) {
@@ -45,7 +62,7 @@ pub fn in_turn(harness: &mut Harness, seed: u64) -> Result<(), Failure> {
         };
         session.call(call(&file.bytes, length))?;
         if !random.once_in(4) {
-            file = files::file(&mut random, &source);
+            file = files::file(random, &source);
         }
     }
     Ok(())

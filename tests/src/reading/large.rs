@@ -2,13 +2,12 @@
 
 use super::{call, delivery_length, expect};
 use crate::entries;
+use crate::model::deliveries::BYTES;
 use crate::script::Command;
 use crate::session::{Failure, Harness, Session};
 
-/// The triples that a delivery has room for, and its bytes with them and at most.
+/// The triples that a delivery has room for.
 const MOST_LINES: usize = 5_460;
-const MOST_TRIPLES_BYTES: usize = 65_530;
-const MOST_BYTES: usize = 65_536;
 
 /// The texts that the library's index of a dictionary leads to at most.
 const SEGMENT: usize = 49_152;
@@ -31,16 +30,10 @@ fn dictionary(numbers: impl Iterator<Item = usize>) -> Vec<u8> {
     entries::bytes(&entries::numbered(texts))
 }
 
-/// The same, with so many free bytes.
-fn with_room(mut dictionary: Vec<u8>, free: usize) -> Vec<u8> {
-    dictionary.resize(dictionary.len() + free, 0);
-    dictionary
-}
-
-/// A file of so many lines, each with a subject of its own from a number on.
-fn file(first: usize, lines: usize) -> String {
+/// A file of so many lines, each with a subject of its own.
+fn file(lines: usize) -> String {
     let line = |number| format!("<s:{number}> <p:p> <p:o> .\n");
-    (first..first + lines).map(line).collect()
+    (0..lines).map(line).collect()
 }
 
 /// Bytes that are enough for the texts of such files.
@@ -49,15 +42,16 @@ const ROOM: usize = 1 << 20;
 /// As many lines as a delivery has room for, and one more.
 pub fn most_lines(harness: &mut Harness) -> Result<(), Failure> {
     let mut session = Session::new(harness);
-    let most = file(0, MOST_LINES);
-    let more = file(0, MOST_LINES + 1);
+    let most = file(MOST_LINES);
+    let more = file(MOST_LINES + 1);
+    let needed = delivery_length(MOST_LINES);
     for (file, length, number) in [
-        (&most, MOST_TRIPLES_BYTES - 1, 15),
-        (&most, MOST_TRIPLES_BYTES, 0),
-        (&most, MOST_BYTES, 0),
-        (&most, MOST_BYTES + 99, 0),
-        (&more, MOST_BYTES, 15),
-        (&more, MOST_BYTES + 99, 15),
+        (&most, needed - 1, 15),
+        (&most, needed, 0),
+        (&most, BYTES, 0),
+        (&most, BYTES + 99, 0),
+        (&more, BYTES, 15),
+        (&more, BYTES + 99, 15),
     ] {
         expect(&mut session, file.as_bytes(), vec![0; ROOM], length, number)?;
     }
@@ -67,7 +61,7 @@ pub fn most_lines(harness: &mut Harness) -> Result<(), Failure> {
 /// More lines than a delivery has room for: 13 for the last line, then 14 for the last text, then 15.
 pub fn more_lines(harness: &mut Harness) -> Result<(), Failure> {
     let mut session = Session::new(harness);
-    let good = file(0, 3 * MOST_LINES);
+    let good = file(3 * MOST_LINES);
     let broken = good.clone() + "x";
     let texts = (0..3 * MOST_LINES).map(|number| 12 + format!("<s:{number}>").len());
     let filled = texts.sum::<usize>() + 2 * (12 + "<p:p>".len());
@@ -79,19 +73,20 @@ pub fn more_lines(harness: &mut Harness) -> Result<(), Failure> {
         (&good, 0, 14),
         (&good, filled, 15),
     ] {
-        expect(
-            &mut session,
-            file.as_bytes(),
-            vec![0; room],
-            MOST_BYTES,
-            number,
-        )?;
+        expect(&mut session, file.as_bytes(), vec![0; room], BYTES, number)?;
     }
     Ok(())
 }
 
-/// Texts longer than any buffer: new, known, and others that differ in their last character or are
-/// shorter by one, in room that is just enough.
+/// A text with its last letter changed, and without that letter.
+fn others(text: &str) -> [String; 2] {
+    let mut letters = text.char_indices().rev();
+    let (last, letter) = letters.find(|(_, c)| c.is_alphabetic()).expect("a letter");
+    let (before, behind) = (&text[..last], &text[last + letter.len_utf8()..]);
+    [format!("{before}b{behind}"), format!("{before}{behind}")]
+}
+
+/// Texts longer than any buffer: new, then others that are nearly the same, and then known.
 pub fn long_texts(harness: &mut Harness) -> Result<(), Failure> {
     let mut session = Session::new(harness);
     let long = "a".repeat(70_000);
@@ -103,13 +98,8 @@ pub fn long_texts(harness: &mut Harness) -> Result<(), Failure> {
         format!("\"\"^^<p:{long}>"),
         format!("\"{}\"", "\\n\u{e9}".repeat(20_000)),
     ] {
-        let dictionary = with_room(Vec::new(), 4 * text.len());
-        session.run(Command::LendDictionary(dictionary))?;
-        let mut letters = text.char_indices().rev();
-        let (last, letter) = letters.find(|(_, c)| c.is_alphabetic()).expect("a letter");
-        let (before, behind) = (&text[..last], &text[last + letter.len_utf8()..]);
-        let other = format!("{before}b{behind}");
-        let shorter = format!("{before}{behind}");
+        session.run(Command::LendDictionary(vec![0; 4 * text.len()]))?;
+        let [other, shorter] = others(&text);
         for text in [&text, &other, &shorter, &text] {
             let file = format!("<a:> <a:> {text} . # {long}");
             session.expect(call(file.as_bytes(), delivery_length(1)), 0)?;
@@ -156,53 +146,41 @@ fn file_of(subjects: &[usize], property: usize, objects: &[usize]) -> String {
     file
 }
 
-/// Dictionaries with as many texts as a segment has, or as some have, and one more or less: texts of
-/// each segment are known, and one is new.
+/// Dictionaries with as many texts as one segment has, or as some have, and one more or less.
 pub fn segments(harness: &mut Harness) -> Result<(), Failure> {
-    for count in [
-        SEGMENT - 1,
-        SEGMENT,
-        SEGMENT + 1,
-        2 * SEGMENT,
-        2 * SEGMENT + 1,
-        MANY,
-    ] {
-        let mut session = Session::new(harness);
-        session.run(Command::LendDictionary(with_room(
-            dictionary(0..count),
-            100,
-        )))?;
-        let edges = [
-            0,
-            SEGMENT - 2,
-            SEGMENT - 1,
-            SEGMENT,
-            count - 2,
-            count - 1,
-            MANY + 4,
-        ];
-        let subjects = edges.into_iter().filter(|number| number % 5 < 4);
-        let file = file_of(&subjects.collect::<Vec<_>>(), SEGMENT - 2, &edges);
-        for _ in 0..2 {
-            session.expect(call(file.as_bytes(), MOST_BYTES), 0)?;
-        }
+    for count in [SEGMENT - 1, SEGMENT, SEGMENT + 1, 2 * SEGMENT, MANY] {
+        read_edges(&mut Session::new(harness), count)?;
+    }
+    Ok(())
+}
+
+/// Reads the texts at the edges of segments and of a dictionary of so many texts, and a new one; and
+/// then again, when all are known.
+fn read_edges(session: &mut Session, count: usize) -> Result<(), Failure> {
+    let mut dictionary = dictionary(0..count);
+    dictionary.resize(dictionary.len() + 100, 0);
+    session.run(Command::LendDictionary(dictionary))?;
+    let subjects = [0, SEGMENT - 2, SEGMENT - 1, SEGMENT];
+    let objects = [count - 3, count - 2, count - 1, MANY + 4];
+    let file = file_of(&subjects, SEGMENT - 2, &objects);
+    for _ in 0..2 {
+        session.expect(call(file.as_bytes(), BYTES), 0)?;
     }
     Ok(())
 }
 
 /// A text that stands in two segments, or twice in the last.
 pub fn twice(harness: &mut Harness) -> Result<(), Failure> {
-    for (first, last) in [
+    let places = [
         (0, MANY),
         (SEGMENT - 1, SEGMENT),
         (SEGMENT, MANY),
         (MANY - 1, MANY),
-    ] {
-        let numbers = (0..last).chain([first]);
-        let mut session = Session::new(harness);
-        expect(&mut session, b"", dictionary(numbers), 10, 1)?;
-    }
-    Ok(())
+    ];
+    places.into_iter().try_for_each(|(first, last)| {
+        let dictionary = dictionary((0..last).chain([first]));
+        expect(&mut Session::new(harness), b"", dictionary, 10, 1)
+    })
 }
 
 /// A dictionary of many texts that is full: known texts are read, and one new text is not.
@@ -211,9 +189,9 @@ pub fn full(harness: &mut Harness) -> Result<(), Failure> {
     let new = known.clone() + &file_of(&[MANY], 7, &[3]);
     let mut session = Session::new(harness);
     session.run(Command::LendDictionary(dictionary(0..MANY)))?;
-    session.expect(call(known.as_bytes(), MOST_BYTES), 0)?;
-    session.expect(call(new.as_bytes(), MOST_BYTES), 14)?;
-    session.expect(call(known.as_bytes(), MOST_BYTES), 0)
+    session.expect(call(known.as_bytes(), BYTES), 0)?;
+    session.expect(call(new.as_bytes(), BYTES), 14)?;
+    session.expect(call(known.as_bytes(), BYTES), 0)
 }
 
 /// A dictionary that grows past a segment by files of three new texts a line, each followed by one of
@@ -227,7 +205,7 @@ pub fn grown(harness: &mut Harness) -> Result<(), Failure> {
         let new: String = (first..first + MOST_LINES).map(line).collect();
         let known: String = (0..first).step_by(100).map(line).collect();
         for file in [new, known] {
-            session.expect(call(file.as_bytes(), MOST_BYTES), 0)?;
+            session.expect(call(file.as_bytes(), BYTES), 0)?;
         }
     }
     Ok(())

@@ -13,21 +13,15 @@ use crate::script::{Call, Command, Output};
 use crate::session::{Failure, Harness, Session};
 
 /// The directed cases, by name.
-pub const CASES: [Directed; 17] = [
+pub const CASES: [Directed; 19] = [
     ("example of reading", |harness| {
         harness.replay_text(include_str!("../../cases/reading.script"))
     }),
     ("traps of reading", traps::run),
     ("canonical texts", traps::texts),
     ("bytes that are no UTF-8", traps::no_utf8),
+    ("texts of a dictionary", damage::texts),
     ("slices of no byte", places::no_bytes),
-    ("each byte at each place", places::each_byte),
-    ("short strings", places::short_strings),
-    ("characters at edges in a line", characters::in_lines),
-    (
-        "characters at edges in a dictionary",
-        characters::in_dictionaries,
-    ),
     ("the most lines", large::most_lines),
     ("more lines than a delivery holds", large::more_lines),
     ("long texts", large::long_texts),
@@ -36,16 +30,25 @@ pub const CASES: [Directed; 17] = [
     ("a text twice, in two segments", large::twice),
     ("a dictionary full of many texts", large::full),
     ("a dictionary grown past a segment", large::grown),
+    ("characters at edges in a line", characters::in_lines),
+    (
+        "characters at edges in a dictionary",
+        characters::in_dictionaries,
+    ),
+    ("each byte of a line", places::each_byte),
+    ("each byte of a dictionary", places::each_byte_of_dictionary),
+    ("short strings", places::short_strings),
 ];
 
 /// The random phases: together some thousand files for each thousand asked for.
-pub const PHASES: [Phase; 6] = [
+pub const PHASES: [Phase; 7] = [
     ("files with an empty dictionary", drawn::alone, 200),
     ("files in turn with one dictionary", drawn::in_turn, 35),
     ("files with just enough room", drawn::at_limits, 20),
     ("damaged files", damage::files, 200),
     ("damaged dictionaries", damage::dictionaries, 150),
     ("files with characters at edges", characters::in_files, 50),
+    ("longer files in turn", drawn::longer, 1),
 ];
 
 /// A session in which slices of no byte are null pointers, or calls are made by the binding for Rust,
