@@ -6,7 +6,7 @@ use mathlib.Core.List.{List}
 use native.Mathlib.Nat.{add-zero, add-suc}
 use native.Mathlib.Omega.{arith}
 use lib.ListN.{length, take, drop, length-take, length-drop}
-use Rattle.spec_ntriples.specs.Texts.{isSame}
+use Rattle.spec_ntriples.specs.Texts.{isSameText}
 use Rattle.dictionary_bytes.specs.inside.Entries.{lengthAt, textAt, placeAt}
 use Rattle.dictionary_bytes.proofs.Same.{part-length, lengths-differ}
 
@@ -16,11 +16,11 @@ unfolding textAt
 text-length bs at h = part-length bs (at + 12) (lengthAt bs at) h
 
 -- An entry whose text has another length.
-pub other-length : (bs t : List ℕ) (at from n m : ℕ) → at + 12 + lengthAt bs at ≤ length bs → from + n ≤ length t → m ≡ lengthAt bs at → (m ≡ n → ⊥) → isSame (textAt bs at) (take n (drop from t)) ≡ false
+pub other-length : (bs t : List ℕ) (at from n m : ℕ) → at + 12 + lengthAt bs at ≤ length bs → from + n ≤ length t → m ≡ lengthAt bs at → (m ≡ n → ⊥) → isSameText (textAt bs at) (take n (drop from t)) ≡ false
 other-length bs t at from n m h k e q = lengths-differ (textAt bs at) _ (λ l. q (e ∙ sym (text-length bs at h) ∙ l ∙ part-length t from n k))
 
 -- An entry whose text has the same length.
-pub same-length : (bs t : List ℕ) (at from n m : ℕ) → m ≡ lengthAt bs at → m ≡ n → isSame (take n (drop (at + 12) bs)) (take n (drop from t)) ≡ isSame (textAt bs at) (take n (drop from t))
+pub same-length : (bs t : List ℕ) (at from n m : ℕ) → m ≡ lengthAt bs at → m ≡ n → isSameText (take n (drop (at + 12) bs)) (take n (drop from t)) ≡ isSameText (textAt bs at) (take n (drop from t))
 unfolding textAt
 same-length bs t at from n m e k = rw (← e, k)
 

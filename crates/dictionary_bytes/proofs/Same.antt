@@ -9,7 +9,7 @@ use lib.Dec.{eqb}
 use lib.ListN.{length, getD, take, drop, length-take, length-drop}
 use lib.Seq.{drop-cons, take-add, drop-drop}
 use borrow.Author.Tests.{eqb-true, eq-eqb, ne-eqb}
-use Rattle.spec_ntriples.specs.Texts.{isSame}
+use Rattle.spec_ntriples.specs.Texts.{isSameText}
 
 -- ---- parts
 
@@ -29,8 +29,8 @@ part-length bs at n h = simp (length-take, length-drop) (omega arith)
 -- ---- equal texts
 
 -- A text is the same as itself.
-pub same-refl : (s : List ℕ) → isSame s s ≡ true
-unfolding isSame
+pub same-refl : (s : List ℕ) → isSameText s s ≡ true
+unfolding isSameText
 same-refl [] = refl
 same-refl (a ∷ s) = rw (eq-eqb a a refl) (same-refl s)
 
@@ -39,31 +39,31 @@ and-both true b e = (refl, e)
 and-both false b e = let z : _≡_ {A = ℕ} 0 1 = cc in absurd (omega arith)
 
 -- Texts that are the same are equal.
-pub same-equal : (s t : List ℕ) → isSame s t ≡ true → s ≡ t
-unfolding isSame
+pub same-equal : (s t : List ℕ) → isSameText s t ≡ true → s ≡ t
+unfolding isSameText
 same-equal [] [] e = refl
 same-equal [] (b ∷ t) e = let z : _≡_ {A = ℕ} 0 1 = cc in absurd (omega arith)
 same-equal (a ∷ s) [] e = let z : _≡_ {A = ℕ} 0 1 = cc in absurd (omega arith)
-same-equal (a ∷ s) (b ∷ t) e = ap₂ _∷_ (eqb-true a b (and-both (eqb a b) (isSame s t) e .0)) (same-equal s t (and-both (eqb a b) (isSame s t) e .1))
+same-equal (a ∷ s) (b ∷ t) e = ap₂ _∷_ (eqb-true a b (and-both (eqb a b) (isSameText s t) e .0)) (same-equal s t (and-both (eqb a b) (isSameText s t) e .1))
 
 -- Equal texts are the same.
-pub equal-same : (s t : List ℕ) → s ≡ t → isSame s t ≡ true
+pub equal-same : (s t : List ℕ) → s ≡ t → isSameText s t ≡ true
 equal-same s t e = rw e (same-refl t)
 
 -- Texts that are not the same are not equal.
-pub other-differ : (s t : List ℕ) → isSame s t ≡ false → s ≡ t → ⊥
+pub other-differ : (s t : List ℕ) → isSameText s t ≡ false → s ≡ t → ⊥
 other-differ s t e q = let z : true ≡ false = sym (equal-same s t q) ∙ e in let y : _≡_ {A = ℕ} 0 1 = cc in absurd (omega arith)
 
 -- Texts that are not equal are not the same.
-pub differ-other : (s t : List ℕ) → (s ≡ t → ⊥) → isSame s t ≡ false
-differ-other s t h = go (isSame s t) refl
+pub differ-other : (s t : List ℕ) → (s ≡ t → ⊥) → isSameText s t ≡ false
+differ-other s t h = go (isSameText s t) refl
   where
-    go : (b : Bool) → isSame s t ≡ b → isSame s t ≡ false
+    go : (b : Bool) → isSameText s t ≡ b → isSameText s t ≡ false
     go true e = absurd (h (same-equal s t e))
     go false e = e
 
 -- Texts of different lengths are not the same.
-pub lengths-differ : (s t : List ℕ) → (length s ≡ length t → ⊥) → isSame s t ≡ false
+pub lengths-differ : (s t : List ℕ) → (length s ≡ length t → ⊥) → isSameText s t ≡ false
 lengths-differ s t h = differ-other s t (λ e. h (ap length e))
 
 -- ---- comparing from indices on
@@ -77,14 +77,14 @@ module _ (s t : List ℕ) (from at n i : ℕ) (h : i < n) (hs : from + n ≤ len
   right-cons = let a : at + i + 1 ≡ at + (i + 1) = omega arith in let b : n - i - 1 ≡ n - (i + 1) = omega arith in part-cons t (at + i) (n - i) (omega arith) (omega arith) ∙ rw (a, b)
 
   pub parts-more : getD s (from + i) 0 ≡ getD t (at + i) 0
-      → isSame (take (n - i) (drop (from + i) s)) (take (n - i) (drop (at + i) t)) ≡ isSame (take (n - (i + 1)) (drop (from + (i + 1)) s)) (take (n - (i + 1)) (drop (at + (i + 1)) t))
-  unfolding isSame
+      → isSameText (take (n - i) (drop (from + i) s)) (take (n - i) (drop (at + i) t)) ≡ isSameText (take (n - (i + 1)) (drop (from + (i + 1)) s)) (take (n - (i + 1)) (drop (at + (i + 1)) t))
+  unfolding isSameText
   parts-more e = rw (left-cons, right-cons, eq-eqb _ _ e)
 
-  pub parts-stop : (getD s (from + i) 0 ≡ getD t (at + i) 0 → ⊥) → isSame (take (n - i) (drop (from + i) s)) (take (n - i) (drop (at + i) t)) ≡ false
-  unfolding isSame
+  pub parts-stop : (getD s (from + i) 0 ≡ getD t (at + i) 0 → ⊥) → isSameText (take (n - i) (drop (from + i) s)) (take (n - i) (drop (at + i) t)) ≡ false
+  unfolding isSameText
   parts-stop e = rw (left-cons, right-cons, ne-eqb _ _ e)
 
-pub parts-end : (s t : List ℕ) (from at n i : ℕ) → n ≤ i → isSame (take (n - i) (drop (from + i) s)) (take (n - i) (drop (at + i) t)) ≡ true
-unfolding isSame
+pub parts-end : (s t : List ℕ) (from at n i : ℕ) → n ≤ i → isSameText (take (n - i) (drop (from + i) s)) (take (n - i) (drop (at + i) t)) ≡ true
+unfolding isSameText
 parts-end s t from at n i h = let e : n - i ≡ 0 = omega arith in rw e

@@ -2,7 +2,7 @@
 ghost use mathlib.Core.Path.{_≡_};
 ghost use Prim.Native.Nat.{_+_, _^_, _≤_, _<_};
 ghost use lib.ListN.{length, take, drop};
-ghost use Rattle.spec_ntriples.specs.Texts.{isSame};
+ghost use Rattle.spec_ntriples.specs.Texts.{isSameText};
 ghost use Rattle.spec_ntriples.specs.Dictionary.{bytesNumber, frontTerm};
 ghost use Rattle.dictionary_bytes.specs.inside.Entries.{lengthAt, textAt};
 ghost use Rattle.dictionary_bytes.specs.inside.Hashes.{hashOn, hashFrom, slotOf};
@@ -66,7 +66,7 @@ pub fn slot_of(h: u64) -> usize
 pub fn is_same(a: &[u8], from: usize, b: &[u8], at: usize, n: usize) -> bool
     requires { ⌜ from + n ≤ length (now a) ⌝ }
     requires { ⌜ at + n ≤ length (now b) ⌝ }
-    ensures { λ r. ⌜ r ≡ isSame (take n (drop from (now (a .entry)))) (take n (drop at (now (b .entry)))) ⌝ }
+    ensures { λ r. ⌜ r ≡ isSameText (take n (drop from (now (a .entry)))) (take n (drop at (now (b .entry)))) ⌝ }
 {
     let mut i = 0;
     while i < n {
@@ -107,7 +107,7 @@ pub fn length_at(dictionary: &[u8], at: usize) -> usize
 pub fn has_text(dictionary: &[u8], at: usize, bytes: &[u8], from: usize, n: usize) -> bool
     requires { ⌜ at + 12 + lengthAt (now dictionary) at ≤ length (now dictionary) ⌝ }
     requires { ⌜ from + n ≤ length (now bytes) ⌝ }
-    ensures { λ r. ⌜ r ≡ isSame (textAt (now (dictionary .entry)) at) (take n (drop from (now (bytes .entry)))) ⌝ }
+    ensures { λ r. ⌜ r ≡ isSameText (textAt (now (dictionary .entry)) at) (take n (drop from (now (bytes .entry)))) ⌝ }
 {
     if length_at(dictionary, at) != n {
         return false;

@@ -9,7 +9,7 @@ use lib.Seq.{take-add, drop-drop, getD-drop}
 use lib.Dec.{eqb, ltb}
 use borrow.Author.Tests.{lt-ltb, le-ltb, ne-eqb}
 use Rattle.spec.proofs.Lists.{by-test}
-use Rattle.spec_ntriples.specs.Dictionary.{Entry, entry, numberBytes, entryBytes, entriesBytes, bytesNumber, frontTerm, frontLength, entriesAtMost, entries}
+use Rattle.spec_ntriples.specs.Dictionary.{Entry, entry, numberBytes, bytesOfEntry, bytesOfEntries, bytesNumber, frontTerm, frontLength, entriesAtMost, entries}
 use Rattle.dictionary_bytes.specs.inside.Entries.{lengthAt, textAt, placeAt, entriesAt}
 use Rattle.dictionary_bytes.proofs.Same.{part-split, part-length}
 use Rattle.dictionary_bytes.proofs.Entry.{text-length}
@@ -118,13 +118,13 @@ module _ (bs : List ℕ) (at : ℕ) (h : AreBytes bs) (k : at + 12 + lengthAt bs
       part-split bs at 4 (12 + n) (omega arith)
       ∙ ap (λ (l : List ℕ). take 4 (drop at bs) ++ l) (part-split bs (at + 4) 8 (12 + n - 4) (omega arith) ∙ rw (a, b))
 
-  pub entry-read : entryBytes (entryAt bs at) ≡ take (12 + lengthAt bs at) (drop at bs)
-  unfolding entryBytes
+  pub entry-read : bytesOfEntry (entryAt bs at) ≡ take (12 + lengthAt bs at) (drop at bs)
+  unfolding bytesOfEntry
   entry-read = rw (text-length bs at k, part-read bs at 4 h (omega arith), length-read) (sym entry-split)
 
 -- The bytes up to the end of the entry behind some.
-pub bytes-more : (bs : List ℕ) (at : ℕ) (es : List Entry) → AreBytes bs → at + 12 + lengthAt bs at ≤ length bs → take at bs ≡ entriesBytes es → take (at + 12 + lengthAt bs at) bs ≡ entriesBytes (es ++ (entryAt bs at ∷ []))
-unfolding entriesBytes
+pub bytes-more : (bs : List ℕ) (at : ℕ) (es : List Entry) → AreBytes bs → at + 12 + lengthAt bs at ≤ length bs → take at bs ≡ bytesOfEntries es → take (at + 12 + lengthAt bs at) bs ≡ bytesOfEntries (es ++ (entryAt bs at ∷ []))
+unfolding bytesOfEntries
 bytes-more bs at es h k e =
     let q : at + 12 + lengthAt bs at ≡ at + (12 + lengthAt bs at) = omega arith in
-    rw (q, take-add at (12 + lengthAt bs at) bs, e, ← entry-read bs at h k, entries-append es (entryAt bs at ∷ []), append-nil (entryBytes (entryAt bs at)))
+    rw (q, take-add at (12 + lengthAt bs at) bs, e, ← entry-read bs at h k, entries-append es (entryAt bs at ∷ []), append-nil (bytesOfEntry (entryAt bs at)))

@@ -13,8 +13,8 @@ use Rattle.spec.specs.Tables.{areZero}
 use Rattle.spec.proofs.Lists.{by-test, true-not-false}
 use Rattle.spec.proofs.Ascending.{and-left, and-right}
 use Rattle.spec.proofs.TableAll.{replicate-of, areZero-replicate}
-use Rattle.spec_ntriples.specs.Texts.{isSame}
-use Rattle.spec_ntriples.specs.Dictionary.{Entry, entriesBytes, dictionaryBytes, bytesNumber, frontTerm, entries, kindOf, nextNumber, nextTerm, areNumbersEnough, areNumbered, areTexts, vocabularyOf, isDictionary}
+use Rattle.spec_ntriples.specs.Texts.{isSameText}
+use Rattle.spec_ntriples.specs.Dictionary.{Entry, bytesOfEntries, dictionaryBytes, bytesNumber, frontTerm, entries, kindOf, nextNumber, nextTerm, areNumbersEnough, areNumbered, areTexts, vocabularyOf, isDictionary}
 use Rattle.spec_ntriples.specs.computed.Canonical.{isCanonical}
 use Rattle.spec_ntriples.specs.inside.Entries.{Holds}
 use Rattle.spec.proofs.Each.{each-append}
@@ -43,23 +43,23 @@ and-false false = refl
 
 module _ (bs : List ℕ) where
   -- The four parts of the question.
-  pub not-written : isSame (dictionaryBytes (length bs) (entries bs)) bs ≡ false → isDictionary bs ≡ false
+  pub not-written : isSameText (dictionaryBytes (length bs) (entries bs)) bs ≡ false → isDictionary bs ≡ false
   unfolding isDictionary
   not-written h = rw h
 
   pub not-numbered : areNumbered [] (entries bs) ≡ false → isDictionary bs ≡ false
   unfolding isDictionary
-  not-numbered h = rw h (and-false (isSame (dictionaryBytes (length bs) (entries bs)) bs))
+  not-numbered h = rw h (and-false (isSameText (dictionaryBytes (length bs) (entries bs)) bs))
 
   pub not-enough : areNumbersEnough (entries bs) ≡ false → isDictionary bs ≡ false
   unfolding isDictionary
-  not-enough h = rw (h, and-false (areNumbered [] (entries bs))) (and-false (isSame (dictionaryBytes (length bs) (entries bs)) bs))
+  not-enough h = rw (h, and-false (areNumbered [] (entries bs))) (and-false (isSameText (dictionaryBytes (length bs) (entries bs)) bs))
 
   pub not-texts : areTexts (entries bs) ≡ false → isDictionary bs ≡ false
   unfolding isDictionary
-  not-texts h = rw (h, and-false (areNumbersEnough (entries bs)), and-false (areNumbered [] (entries bs))) (and-false (isSame (dictionaryBytes (length bs) (entries bs)) bs))
+  not-texts h = rw (h, and-false (areNumbersEnough (entries bs)), and-false (areNumbered [] (entries bs))) (and-false (isSameText (dictionaryBytes (length bs) (entries bs)) bs))
 
-  pub all-parts : isSame (dictionaryBytes (length bs) (entries bs)) bs ≡ true → areNumbered [] (entries bs) ≡ true → areNumbersEnough (entries bs) ≡ true → areTexts (entries bs) ≡ true → isDictionary bs ≡ true
+  pub all-parts : isSameText (dictionaryBytes (length bs) (entries bs)) bs ≡ true → areNumbered [] (entries bs) ≡ true → areNumbersEnough (entries bs) ≡ true → areTexts (entries bs) ≡ true → isDictionary bs ≡ true
   unfolding isDictionary
   all-parts a b c d = rw (a, b, c, d)
 
@@ -82,7 +82,7 @@ place-next bs at k e = ap (λ (i : ℕ). i + 12 + lengthAt bs i) e
 
 -- No entry is asked yet.
 pub filling-none : (bs : List ℕ) → Filling bs (record { end = 0; uris = 16; blanks = 1; literals = 1 })
-unfolding placeAt entriesAt entriesBytes areNumbered
+unfolding placeAt entriesAt bytesOfEntries areNumbered
 filling-none bs = record { count = 0; place = refl; within = omega arith; read = refl; written = refl; numbered = refl; counts = counts-none; texts = tt }
 
 module _ (bs : List ℕ) (f : Filled) (F : Filling bs f) where
@@ -93,7 +93,7 @@ module _ (bs : List ℕ) (f : Filled) (F : Filling bs f) where
   next-is = counts-number f es (F .counts)
 
   -- They end where their bytes do.
-  ends : f .end ≡ length (entriesBytes es)
+  ends : f .end ≡ length (bytesOfEntries es)
   ends = omega (arith, ap length (F .written), length-take (f .end) bs, F .within)
 
   -- Where no entry comes and something else than zeros follows, the bytes are no dictionary.
@@ -105,8 +105,8 @@ module _ (bs : List ℕ) (f : Filled) (F : Filling bs f) where
       by-test (isDictionary bs)
       (λ p.
       let a : bs ≡ dictionaryBytes (length bs) es = dictionary-written bs p ∙ ap (dictionaryBytes (length bs)) e in
-      let d : drop (f .end) bs ≡ replicate (length bs - length (entriesBytes es)) 0 = ap (λ (l : List ℕ). drop (f .end) l) a ∙ drop-at (entriesBytes es) (replicate (length bs - length (entriesBytes es)) 0) (f .end) (sym ends) in
-      absurd (true-not-false (sym (ap areZero d ∙ areZero-replicate (length bs - length (entriesBytes es))) ∙ z)))
+      let d : drop (f .end) bs ≡ replicate (length bs - length (bytesOfEntries es)) 0 = ap (λ (l : List ℕ). drop (f .end) l) a ∙ drop-at (bytesOfEntries es) (replicate (length bs - length (bytesOfEntries es)) 0) (f .end) (sym ends) in
+      absurd (true-not-false (sym (ap areZero d ∙ areZero-replicate (length bs - length (bytesOfEntries es))) ∙ z)))
       (λ p. p)
 
   -- An entry comes.
@@ -185,7 +185,7 @@ module _ (bs : List ℕ) (f : Filled) (W : Walked bs f) where
     written : dictionaryBytes (length bs) (entries bs) ≡ bs
     unfolding dictionaryBytes
     written =
-        let n : ℕ = length bs - length (entriesBytes (entriesAt bs 0 (F .count))) in
+        let n : ℕ = length bs - length (bytesOfEntries (entriesAt bs 0 (F .count))) in
         let d : drop (f .end) bs ≡ replicate n 0 = replicate-of (drop (f .end) bs) n z (omega (arith, length-drop (f .end) bs, ends bs f F)) in
         rw (all-read, ← d, ← F .written) (take-append-drop (f .end) bs)
 
@@ -203,7 +203,7 @@ module _ (bs : List ℕ) (f : Filled) (W : Walked bs f) where
         let H : Holds bs (f .end) (entries bs) =
         record {
           same = sym written;
-          ends = ends bs f F ∙ ap (λ (l : List Entry). length (entriesBytes l)) (sym all-read);
+          ends = ends bs f F ∙ ap (λ (l : List Entry). length (bytesOfEntries l)) (sym all-read);
           writable = rw all-read (writable es es (numbered-entries es (F .numbered) (numbers-enough es (F .counts .enough))) (omega (arith, ends bs f F, h)));
         } in
         counts-filled bs f (entries bs) H (rw all-read (F .counts))

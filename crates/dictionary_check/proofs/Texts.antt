@@ -8,7 +8,7 @@ use lib.Dec.{eqb}
 use borrow.Author.Tests.{ne-eqb}
 use Rattle.spec.proofs.Lists.{by-test}
 use Rattle.spec.specs.inside.Each.{Each}
-use Rattle.spec_ntriples.specs.Texts.{isSame}
+use Rattle.spec_ntriples.specs.Texts.{isSameText}
 use Rattle.spec_ntriples.specs.Dictionary.{Entry, vocabularyOf, termIn, areTexts}
 use Rattle.spec_ntriples.specs.computed.Canonical.{isCanonical}
 use Rattle.spec_ntriples.proofs.KnownTexts.{HasTerm}
@@ -56,7 +56,7 @@ module _ (bs : List ℕ) where
   one-has at zero j t h l e = absurd (omega arith)
   one-has at (suc k) zero t h l e = rw (equal-same t (textAt bs at) e) (h .0)
   one-has at (suc k) (suc j) t h l e =
-      by-test (isSame t (textAt bs at)) (λ p. rw p (h .0))
+      by-test (isSameText t (textAt bs at)) (λ p. rw p (h .0))
       (λ p. rw p (one-has (at + 12 + lengthAt bs at) k j t (h .1) (omega arith) (e ∙ ap (textAt bs) (place-behind bs at j))))
 
   -- The texts of k entries are as they may be where they are by themselves, and differ.

@@ -6,7 +6,7 @@ use native.Mathlib.Omega.{arith}
 use lib.ListN.{length, getD, take, drop, length-append}
 use lib.Seq.{drop-drop}
 use Rattle.spec.specs.inside.Each.{Each}
-use Rattle.spec_ntriples.specs.Dictionary.{Entry, entry, entryBytes, entriesBytes, frontTerm, frontLength}
+use Rattle.spec_ntriples.specs.Dictionary.{Entry, entry, bytesOfEntry, bytesOfEntries, frontTerm, frontLength}
 use Rattle.spec_ntriples.specs.inside.Entries.{Writable}
 use Rattle.spec_ntriples.proofs.EntryBytes.{length-entry, front-term, front-length, front-text, front-rest}
 use Rattle.dictionary_bytes.specs.inside.Entries.{lengthAt, textAt, placeAt, entriesAt}
@@ -33,17 +33,17 @@ entry-at bs first (suc k) (suc i) d h = rw (place-behind bs first i) (entry-at b
 
 -- ---- bytes of entries
 
-pub entries-append : (ds fs : List Entry) → entriesBytes (ds ++ fs) ≡ entriesBytes ds ++ entriesBytes fs
-unfolding entriesBytes
+pub entries-append : (ds fs : List Entry) → bytesOfEntries (ds ++ fs) ≡ bytesOfEntries ds ++ bytesOfEntries fs
+unfolding bytesOfEntries
 entries-append [] fs = refl
-entries-append (e ∷ ds) fs = ap (λ (l : List ℕ). entryBytes e ++ l) (entries-append ds fs) ∙ sym (append-assoc (entryBytes e) (entriesBytes ds) (entriesBytes fs))
+entries-append (e ∷ ds) fs = ap (λ (l : List ℕ). bytesOfEntry e ++ l) (entries-append ds fs) ∙ sym (append-assoc (bytesOfEntry e) (bytesOfEntries ds) (bytesOfEntries fs))
 
-pub entries-length : (ds fs : List Entry) → length (entriesBytes (ds ++ fs)) ≡ length (entriesBytes ds) + length (entriesBytes fs)
-entries-length ds fs = ap length (entries-append ds fs) ∙ length-append (entriesBytes ds) (entriesBytes fs)
+pub entries-length : (ds fs : List Entry) → length (bytesOfEntries (ds ++ fs)) ≡ length (bytesOfEntries ds) + length (bytesOfEntries fs)
+entries-length ds fs = ap length (entries-append ds fs) ∙ length-append (bytesOfEntries ds) (bytesOfEntries fs)
 
 -- ---- an entry that stands at an index
 
-module _ (bs : List ℕ) (at : ℕ) (e : Entry) (rest : List ℕ) (h : drop at bs ≡ entryBytes e ++ rest) (w : Writable e) where
+module _ (bs : List ℕ) (at : ℕ) (e : Entry) (rest : List ℕ) (h : drop at bs ≡ bytesOfEntry e ++ rest) (w : Writable e) where
   pub term-stands : frontTerm (drop at bs) ≡ e .term
   term-stands = ap (λ (l : List ℕ). frontTerm l) h ∙ front-term e rest w
 
@@ -62,20 +62,20 @@ module _ (bs : List ℕ) (at : ℕ) (e : Entry) (rest : List ℕ) (h : drop at b
 
 -- Some entries that stand from an index on: they are those there, and their places.
 module _ (bs : List ℕ) where
-  pub entries-stand : (at : ℕ) (fs : List Entry) (rest : List ℕ) → drop at bs ≡ entriesBytes fs ++ rest → Each Writable fs → entriesAt bs at (length fs) ≡ fs
-  unfolding entriesAt entriesBytes
+  pub entries-stand : (at : ℕ) (fs : List Entry) (rest : List ℕ) → drop at bs ≡ bytesOfEntries fs ++ rest → Each Writable fs → entriesAt bs at (length fs) ≡ fs
+  unfolding entriesAt bytesOfEntries
   entries-stand at [] rest h w = refl
   entries-stand at (f ∷ fs) rest h w =
-      let k : drop at bs ≡ entryBytes f ++ (entriesBytes fs ++ rest) = h ∙ append-assoc (entryBytes f) (entriesBytes fs) rest in
-      rw (term-stands bs at f (entriesBytes fs ++ rest) k (w .0), text-stands bs at f (entriesBytes fs ++ rest) k (w .0))
-      (ap (λ (l : List Entry). f ∷ l) (entries-stand (at + 12 + lengthAt bs at) fs rest (rest-stands bs at f (entriesBytes fs ++ rest) k (w .0)) (w .1)))
+      let k : drop at bs ≡ bytesOfEntry f ++ (bytesOfEntries fs ++ rest) = h ∙ append-assoc (bytesOfEntry f) (bytesOfEntries fs) rest in
+      rw (term-stands bs at f (bytesOfEntries fs ++ rest) k (w .0), text-stands bs at f (bytesOfEntries fs ++ rest) k (w .0))
+      (ap (λ (l : List Entry). f ∷ l) (entries-stand (at + 12 + lengthAt bs at) fs rest (rest-stands bs at f (bytesOfEntries fs ++ rest) k (w .0)) (w .1)))
 
-  pub places-stand : (at : ℕ) (fs : List Entry) (rest : List ℕ) → drop at bs ≡ entriesBytes fs ++ rest → Each Writable fs → (i : ℕ) → i ≤ length fs → placeAt bs at i ≡ at + length (entriesBytes (take i fs))
-  unfolding placeAt entriesBytes
+  pub places-stand : (at : ℕ) (fs : List Entry) (rest : List ℕ) → drop at bs ≡ bytesOfEntries fs ++ rest → Each Writable fs → (i : ℕ) → i ≤ length fs → placeAt bs at i ≡ at + length (bytesOfEntries (take i fs))
+  unfolding placeAt bytesOfEntries
   places-stand at fs rest h w zero l = omega arith
   places-stand at [] rest h w (suc i) l = absurd (omega arith)
   places-stand at (f ∷ fs) rest h w (suc i) l =
-      let k : drop at bs ≡ entryBytes f ++ (entriesBytes fs ++ rest) = h ∙ append-assoc (entryBytes f) (entriesBytes fs) rest in
-      let p = places-stand (at + 12 + lengthAt bs at) fs rest (rest-stands bs at f (entriesBytes fs ++ rest) k (w .0)) (w .1) i (omega arith) in
-      let n = length-stands bs at f (entriesBytes fs ++ rest) k (w .0) in
-      place-behind bs at i ∙ p ∙ omega (arith, n, length-entry f, length-append (entryBytes f) (entriesBytes (take i fs)))
+      let k : drop at bs ≡ bytesOfEntry f ++ (bytesOfEntries fs ++ rest) = h ∙ append-assoc (bytesOfEntry f) (bytesOfEntries fs) rest in
+      let p = places-stand (at + 12 + lengthAt bs at) fs rest (rest-stands bs at f (bytesOfEntries fs ++ rest) k (w .0)) (w .1) i (omega arith) in
+      let n = length-stands bs at f (bytesOfEntries fs ++ rest) k (w .0) in
+      place-behind bs at i ∙ p ∙ omega (arith, n, length-entry f, length-append (bytesOfEntry f) (bytesOfEntries (take i fs)))

@@ -6,7 +6,7 @@ use native.Mathlib.Numerals.{add-one}
 use native.Mathlib.Omega.{arith}
 use lib.ListN.{length, drop, set, replicate, length-append, length-replicate, replicate-append-replicate}
 use lib.Seq.{sets, sets-eq, length-sets, take-at, drop-at, drop-append-add}
-use Rattle.spec_ntriples.specs.Dictionary.{Entry, entry, numberBytes, entryBytes, entriesBytes, dictionaryBytes}
+use Rattle.spec_ntriples.specs.Dictionary.{Entry, entry, numberBytes, bytesOfEntry, bytesOfEntries, dictionaryBytes}
 use Rattle.spec_ntriples.specs.inside.Entries.{Writable, Holds}
 use Rattle.spec.proofs.Each.{each-append, each-front}
 use Rattle.spec_ntriples.proofs.EntryBytes.{length-number, length-entry}
@@ -50,8 +50,8 @@ sets-over front bs cs vs at p q =
 -- ---- an entry behind others
 
 -- The parts of an entry, written one behind the other.
-pub entry-parts : (bs : List ℕ) (end : ℕ) (e : Entry) → sets (sets (sets bs end (numberBytes 4 (e .term))) (end + 4) (numberBytes 8 (length (e .text)))) (end + 12) (e .text) ≡ sets bs end (entryBytes e)
-unfolding entryBytes
+pub entry-parts : (bs : List ℕ) (end : ℕ) (e : Entry) → sets (sets (sets bs end (numberBytes 4 (e .term))) (end + 4) (numberBytes 8 (length (e .text)))) (end + 12) (e .text) ≡ sets bs end (bytesOfEntry e)
+unfolding bytesOfEntry
 entry-parts bs end e =
     let a : end + length (numberBytes 4 (e .term)) ≡ end + 4 = omega (arith, length-number 4 (e .term)) in
     let b : end + 4 + length (numberBytes 8 (length (e .text))) ≡ end + 12 = omega (arith, length-number 8 (length (e .text))) in
@@ -61,38 +61,38 @@ entry-parts bs end e =
 
 module _ (bs : List ℕ) (end : ℕ) (es : List Entry) (H : Holds bs end es) (e : Entry) (w : Writable e) (room : end + 12 + length (e .text) ≤ length bs) where
   abbrev after : List ℕ
-  after = sets bs end (entryBytes e)
+  after = sets bs end (bytesOfEntry e)
 
   abbrev free : ℕ
-  free = length bs - length (entriesBytes es)
+  free = length bs - length (bytesOfEntries es)
 
-  zeros-split : replicate {A = ℕ} free 0 ≡ replicate {A = ℕ} (length (entryBytes e)) 0 ++ replicate {A = ℕ} (free - length (entryBytes e)) 0
+  zeros-split : replicate {A = ℕ} free 0 ≡ replicate {A = ℕ} (length (bytesOfEntry e)) 0 ++ replicate {A = ℕ} (free - length (bytesOfEntry e)) 0
   zeros-split =
-      let q : free ≡ length (entryBytes e) + (free - length (entryBytes e)) = omega (arith, length-entry e, H .ends) in
-      ap (λ (n : ℕ). replicate {A = ℕ} n 0) q ∙ sym (replicate-append-replicate {A = ℕ} (length (entryBytes e)) (free - length (entryBytes e)) 0)
+      let q : free ≡ length (bytesOfEntry e) + (free - length (bytesOfEntry e)) = omega (arith, length-entry e, H .ends) in
+      ap (λ (n : ℕ). replicate {A = ℕ} n 0) q ∙ sym (replicate-append-replicate {A = ℕ} (length (bytesOfEntry e)) (free - length (bytesOfEntry e)) 0)
 
-  split : bs ≡ entriesBytes es ++ (replicate {A = ℕ} (length (entryBytes e)) 0 ++ replicate {A = ℕ} (free - length (entryBytes e)) 0)
+  split : bs ≡ bytesOfEntries es ++ (replicate {A = ℕ} (length (bytesOfEntry e)) 0 ++ replicate {A = ℕ} (free - length (bytesOfEntry e)) 0)
   unfolding dictionaryBytes
-  split = H .same ∙ ap (λ (l : List ℕ). entriesBytes es ++ l) zeros-split
+  split = H .same ∙ ap (λ (l : List ℕ). bytesOfEntries es ++ l) zeros-split
 
-  with-entry : entriesBytes (es ++ (e ∷ [])) ≡ entriesBytes es ++ entryBytes e
-  unfolding entriesBytes
-  with-entry = entries-append es (e ∷ []) ∙ ap (λ (l : List ℕ). entriesBytes es ++ l) (append-nil (entryBytes e))
+  with-entry : bytesOfEntries (es ++ (e ∷ [])) ≡ bytesOfEntries es ++ bytesOfEntry e
+  unfolding bytesOfEntries
+  with-entry = entries-append es (e ∷ []) ∙ ap (λ (l : List ℕ). bytesOfEntries es ++ l) (append-nil (bytesOfEntry e))
 
-  after-is : after ≡ entriesBytes es ++ (entryBytes e ++ replicate {A = ℕ} (free - length (entryBytes e)) 0)
+  after-is : after ≡ bytesOfEntries es ++ (bytesOfEntry e ++ replicate {A = ℕ} (free - length (bytesOfEntry e)) 0)
   after-is =
-      ap (λ (l : List ℕ). sets l end (entryBytes e)) split
-      ∙ sets-over (entriesBytes es) (replicate {A = ℕ} (length (entryBytes e)) 0) (replicate {A = ℕ} (free - length (entryBytes e)) 0) (entryBytes e) end (H .ends) (sym (length-replicate {A = ℕ} (length (entryBytes e)) 0))
+      ap (λ (l : List ℕ). sets l end (bytesOfEntry e)) split
+      ∙ sets-over (bytesOfEntries es) (replicate {A = ℕ} (length (bytesOfEntry e)) 0) (replicate {A = ℕ} (free - length (bytesOfEntry e)) 0) (bytesOfEntry e) end (H .ends) (sym (length-replicate {A = ℕ} (length (bytesOfEntry e)) 0))
 
   -- With the entry written behind them, the bytes hold the entries and this one.
   pub held-more : Holds after (end + 12 + length (e .text)) (es ++ (e ∷ []))
   unfolding dictionaryBytes
   held-more =
-      let l : length after ≡ length bs = length-sets bs end (entryBytes e) in
-      let n : length (entriesBytes (es ++ (e ∷ []))) ≡ length (entriesBytes es) + length (entryBytes e) = ap length with-entry ∙ length-append (entriesBytes es) (entryBytes e) in
-      let z : free - length (entryBytes e) ≡ length after - length (entriesBytes (es ++ (e ∷ []))) = omega arith in
+      let l : length after ≡ length bs = length-sets bs end (bytesOfEntry e) in
+      let n : length (bytesOfEntries (es ++ (e ∷ []))) ≡ length (bytesOfEntries es) + length (bytesOfEntry e) = ap length with-entry ∙ length-append (bytesOfEntries es) (bytesOfEntry e) in
+      let z : free - length (bytesOfEntry e) ≡ length after - length (bytesOfEntries (es ++ (e ∷ []))) = omega arith in
       record {
-        same = after-is ∙ sym (append-assoc (entriesBytes es) (entryBytes e) (replicate {A = ℕ} (free - length (entryBytes e)) 0)) ∙ rw (z, with-entry);
+        same = after-is ∙ sym (append-assoc (bytesOfEntries es) (bytesOfEntry e) (replicate {A = ℕ} (free - length (bytesOfEntry e)) 0)) ∙ rw (z, with-entry);
         ends = omega (arith, n, length-entry e, H .ends);
         writable = each-append Writable es (e ∷ []) (H .writable) (w, tt);
       }
@@ -104,25 +104,25 @@ pub entry-written : (bs first second third : List ℕ) (end term n r : ℕ) (tex
 entry-written bs first second third end term n r text es H a b c q room f s t i =
     let e : Entry = entry term text in
     let w : Writable e = record { some = a; word = b; size = omega arith } in
-    let u : third ≡ sets bs end (entryBytes e) = t ∙ rw (s, f, q) (entry-parts bs end e) in
+    let u : third ≡ sets bs end (bytesOfEntry e) = t ∙ rw (s, f, q) (entry-parts bs end e) in
     rw (u, i) (held-more bs end es H e w (omega arith))
 
 -- ---- entries taken away
 
 -- With zeros over the last, the bytes hold the entries before them.
-pub held-less : (bs : List ℕ) (end from : ℕ) (ds fs : List Entry) → Holds bs end (ds ++ fs) → from ≡ length (entriesBytes ds) → Holds (sets bs from (replicate (end - from) 0)) from ds
+pub held-less : (bs : List ℕ) (end from : ℕ) (ds fs : List Entry) → Holds bs end (ds ++ fs) → from ≡ length (bytesOfEntries ds) → Holds (sets bs from (replicate (end - from) 0)) from ds
 unfolding dictionaryBytes
 held-less bs end from ds fs H p =
-    let n : length (entriesBytes (ds ++ fs)) ≡ length (entriesBytes ds) + length (entriesBytes fs) = entries-length ds fs in
-    let free : ℕ = length bs - length (entriesBytes (ds ++ fs)) in
-    let m : length (replicate {A = ℕ} (end - from) 0) ≡ length (entriesBytes fs) = length-replicate (end - from) zero ∙ omega (arith, H .ends) in
+    let n : length (bytesOfEntries (ds ++ fs)) ≡ length (bytesOfEntries ds) + length (bytesOfEntries fs) = entries-length ds fs in
+    let free : ℕ = length bs - length (bytesOfEntries (ds ++ fs)) in
+    let m : length (replicate {A = ℕ} (end - from) 0) ≡ length (bytesOfEntries fs) = length-replicate (end - from) zero ∙ omega (arith, H .ends) in
     let l : length (sets bs from (replicate (end - from) 0)) ≡ length bs = length-sets bs from (replicate (end - from) 0) in
-    let z : (end - from) + free ≡ length (sets bs from (replicate (end - from) 0)) - length (entriesBytes ds) = omega (arith, H .ends, held-within bs end (ds ++ fs) H) in
+    let z : (end - from) + free ≡ length (sets bs from (replicate (end - from) 0)) - length (bytesOfEntries ds) = omega (arith, H .ends, held-within bs end (ds ++ fs) H) in
     record {
       same =
           ap (λ (b : List ℕ). sets b from (replicate (end - from) 0)) (held-split bs end ds fs H from p)
-          ∙ sets-over (entriesBytes ds) (entriesBytes fs) (replicate free 0) (replicate (end - from) 0) from p m
-          ∙ ap (λ (b : List ℕ). entriesBytes ds ++ b) (replicate-append-replicate (end - from) free 0 ∙ ap (λ (k : ℕ). replicate k 0) z);
+          ∙ sets-over (bytesOfEntries ds) (bytesOfEntries fs) (replicate free 0) (replicate (end - from) 0) from p m
+          ∙ ap (λ (b : List ℕ). bytesOfEntries ds ++ b) (replicate-append-replicate (end - from) free 0 ∙ ap (λ (k : ℕ). replicate k 0) z);
       ends = p;
       writable = each-front Writable ds fs (H .writable);
     }

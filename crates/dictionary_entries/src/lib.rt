@@ -10,7 +10,7 @@ ghost use Prim.Native.Nat.{_+_, _≤_, _<_};
 ghost use lib.ListN.{length};
 ghost use lib.Seq.{sets};
 ghost use Rattle.spec_ntriples.specs.Texts.{Text};
-ghost use Rattle.spec_ntriples.specs.Dictionary.{Entry, entry, numberBytes, entriesBytes};
+ghost use Rattle.spec_ntriples.specs.Dictionary.{Entry, entry, numberBytes, bytesOfEntries};
 ghost use Rattle.spec_ntriples.specs.inside.Entries.{Holds};
 ghost use Rattle.ntriples_bytes.specs.inside.Places.{HasText};
 ghost use Rattle.ntriples_text.specs.inside.Tokens.{HasRoom};
@@ -51,7 +51,7 @@ pub fn write_entry(
 // Takes away the entries of a dictionary that stand between an index and their end: their bytes are zero again.
 pub fn take_back(dictionary: &mut [u8], from: usize, end: usize)
     requires { ⌜ end ≤ length (now dictionary) ⌝ }
-    ensures { λ r. ⌜ ((ds fs : List Entry) → Holds (now (dictionary .entry)) end (ds ++ fs) → from ≡ length (entriesBytes ds) → Holds (now (dictionary .exit)) from ds) ⌝ }
+    ensures { λ r. ⌜ ((ds fs : List Entry) → Holds (now (dictionary .entry)) end (ds ++ fs) → from ≡ length (bytesOfEntries ds) → Holds (now (dictionary .exit)) from ds) ⌝ }
 {
     let mut i = from;
     while i < end {

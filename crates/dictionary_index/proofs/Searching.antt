@@ -8,7 +8,7 @@ use lib.ListN.{length, getD}
 use Rattle.dictionary_bytes.specs.inside.Entries.{textAt}
 use Rattle.dictionary_index.specs.inside.Index.{Passed, entryOf}
 use mathlib.Core.Bool.{Bool, true, false}
-use Rattle.spec_ntriples.specs.Texts.{isSame}
+use Rattle.spec_ntriples.specs.Texts.{isSameText}
 use Rattle.dictionary_bytes.proofs.Same.{other-differ}
 
 module _ (slots bs : List ℕ) (first : ℕ) (text : List ℕ) (home : ℕ) where

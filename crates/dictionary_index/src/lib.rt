@@ -8,7 +8,7 @@ use ntriples_text::is_text;
 ghost use mathlib.Core.Path.{_≡_};
 ghost use Prim.Native.Nat.{ℕ, _+_, _≤_};
 ghost use lib.ListN.{length, take, drop};
-ghost use Rattle.spec_ntriples.specs.Texts.{Text, isSame};
+ghost use Rattle.spec_ntriples.specs.Texts.{Text, isSameText};
 ghost use Rattle.ntriples_bytes.specs.inside.Places.{HasText};
 ghost use Rattle.ntriples_text.specs.inside.Tokens.{IsToken};
 ghost use Rattle.dictionary_bytes.specs.inside.Entries.{lengthAt, textAt, placeAt};
@@ -95,7 +95,7 @@ pub fn enter(slots: &mut [u32], dictionary: &[u8], first: usize, at: usize) -> E
 fn has_token(dictionary: &[u8], at: usize, line: &[u8], from: usize, end: usize) -> bool
     requires { ⌜ at + 12 + lengthAt (now dictionary) at ≤ length (now dictionary) ⌝ }
     requires { ⌜ IsToken (now line) from end ⌝ }
-    ensures { λ r. ⌜ ((t : Text) → HasText (now (line .entry)) from end t → r ≡ isSame (t .bytes) (textAt (now (dictionary .entry)) at)) ⌝ }
+    ensures { λ r. ⌜ ((t : Text) → HasText (now (line .entry)) from end t → r ≡ isSameText (t .bytes) (textAt (now (dictionary .entry)) at)) ⌝ }
 {
     let n = length_at(dictionary, at);
     is_text(line, from, end, dictionary, at + HEADER, n)

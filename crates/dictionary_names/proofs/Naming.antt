@@ -10,7 +10,7 @@ use lib.ListN.{length, getD, take, drop, set, length-append}
 use lib.Seq.{take-append-seam, getD-append-seam}
 use borrow.Author.Tests.{eqb-true, ltb-true, ltb-false, leb-false}
 use Rattle.spec_ntriples.specs.Texts.{Text}
-use Rattle.spec_ntriples.specs.Dictionary.{Entry, entry, entriesBytes, frontTerm, nextNumber, kindOf}
+use Rattle.spec_ntriples.specs.Dictionary.{Entry, entry, bytesOfEntries, frontTerm, nextNumber, kindOf}
 use Rattle.spec_ntriples.specs.inside.Entries.{Writable, Holds}
 use Rattle.spec.proofs.Each.{each-back}
 use Rattle.spec_ntriples.proofs.Numbers.{kind-least}
@@ -60,7 +60,7 @@ free-stays slots bs cs first es text s X Y A =
     }
 
 module _ (slots bs : List ℕ) (first count : ℕ) (f : Filled) (ds es : List Entry) (L : LastSegment slots bs first count f ds es) where
-  pub last-ends : f .end ≡ first + length (entriesBytes es)
+  pub last-ends : f .end ≡ first + length (bytesOfEntries es)
   last-ends = omega (arith, L .filled .holds .ends, L .starts, entries-length ds es)
 
   pub last-within : f .end ≤ length bs
@@ -78,8 +78,8 @@ module _ (slots bs : List ℕ) (first count : ℕ) (f : Filled) (ds es : List En
     named-past h P = (past-none slots bs first es (L .index) (t .bytes) P, past-some slots bs first (t .bytes) P (length es) (L .index .index) h, refl, refl)
 
     -- The limits of a segment.
-    far-some : (fs : List Entry) → f .end ≡ first + length (entriesBytes fs) → 4294967294 < f .end - first → 0 < length fs
-    unfolding entriesBytes
+    far-some : (fs : List Entry) → f .end ≡ first + length (bytesOfEntries fs) → 4294967294 < f .end - first → 0 < length fs
+    unfolding bytesOfEntries
     far-some [] p h = absurd (omega arith)
     far-some (x ∷ fs) p h = omega arith
 
@@ -127,9 +127,9 @@ module _ (slots bs : List ℕ) (first count : ℕ) (f : Filled) (ds es : List En
 
     same-front : take (placeAt bs first (length es)) cs ≡ take (placeAt bs first (length es)) bs
     same-front =
-        let a : take (f .end) cs ≡ entriesBytes (ds ++ es) = held-front cs end (ds ++ es) (e ∷ []) H (f .end) (L .filled .holds .ends) in
+        let a : take (f .end) cs ≡ bytesOfEntries (ds ++ es) = held-front cs end (ds ++ es) (e ∷ []) H (f .end) (L .filled .holds .ends) in
         let n : Holds bs (f .end) ((ds ++ es) ++ []) = rw (append-nil (ds ++ es)) (L .filled .holds) in
-        let b : take (f .end) bs ≡ entriesBytes (ds ++ es) = held-front bs (f .end) (ds ++ es) [] n (f .end) (L .filled .holds .ends) in
+        let b : take (f .end) bs ≡ bytesOfEntries (ds ++ es) = held-front bs (f .end) (ds ++ es) [] n (f .end) (L .filled .holds .ends) in
         rw last-place (a ∙ sym b)
 
     stays : IndexOf slots cs first es
@@ -139,7 +139,7 @@ module _ (slots bs : List ℕ) (first count : ℕ) (f : Filled) (ds es : List En
     new-place : placeAt cs first (length es) ≡ f .end
     new-place =
         held-place cs end ds (es ++ (e ∷ [])) more first (L .starts) (length es) (omega (arith, length-append es (e ∷ [])))
-        ∙ ap (λ (fs : List Entry). first + length (entriesBytes fs)) (take-append-seam es (e ∷ []))
+        ∙ ap (λ (fs : List Entry). first + length (bytesOfEntries fs)) (take-append-seam es (e ∷ []))
         ∙ sym last-ends
 
     new-text : textAt cs (placeAt cs first (length es)) ≡ e .text

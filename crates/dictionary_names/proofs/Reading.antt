@@ -11,7 +11,7 @@ use borrow.Author.Tests.{eq-eqb, ne-eqb, lt-leb}
 use Rattle.spec.proofs.Lists.{by-test}
 use Rattle.spec.specs.inside.Each.{Each}
 use Rattle.spec_ntriples.specs.Texts.{Text}
-use Rattle.spec_ntriples.specs.Dictionary.{Entry, entry, entriesBytes, vocabularyOf, termIn, termOf, nextNumber, nextTerm, areNumbersEnough, kindOf}
+use Rattle.spec_ntriples.specs.Dictionary.{Entry, entry, bytesOfEntries, vocabularyOf, termIn, termOf, nextNumber, nextTerm, areNumbersEnough, kindOf}
 use Rattle.spec_ntriples.specs.Reading.{withText}
 use Rattle.spec_ntriples.proofs.KnownTexts.{HasTerm, term-in-added}
 use Rattle.dictionary_names.specs.inside.Naming.{HasNoSpace}
@@ -36,10 +36,10 @@ module _ (ds es : List Entry) (t : Text) (T : Each HasTerm ds) (v : vocabularyOf
   with-new h = rw (eq-eqb (termOf (ds ++ es) (t .bytes)) 0 (term-of-last ∙ h)) (append-assoc ds es (entry (nextTerm (t .kind) (ds ++ es)) (t .bytes) ∷ []))
 
 -- Where a text has no space, question 14 says no to its entry behind some, whatever follows.
-pub no-space : (len : ℕ) (es fs : List Entry) (e : Entry) (t : Text) → e .text ≡ t .bytes → kindOf (t .bytes) ≡ t .kind → HasNoSpace len es t → (leb (length (entriesBytes (es ++ (e ∷ fs)))) len && areNumbersEnough (es ++ (e ∷ fs))) ≡ false
+pub no-space : (len : ℕ) (es fs : List Entry) (e : Entry) (t : Text) → e .text ≡ t .bytes → kindOf (t .bytes) ≡ t .kind → HasNoSpace len es t → (leb (length (bytesOfEntries (es ++ (e ∷ fs)))) len && areNumbersEnough (es ++ (e ∷ fs))) ≡ false
 no-space len es fs e t q k N =
     let k' : t .kind ≡ kindOf (e .text) = sym k ∙ ap kindOf (sym q) in
     ⊎-elim
-    (λ l. rw (lt-leb (length (entriesBytes (es ++ (e ∷ fs)))) len (too-long len es fs e (omega (arith, l, ap length q)))))
-    (λ n. rw (too-many es fs e (ap (λ (j : ℕ). nextNumber j es) (sym k') ∙ n)) (by-test (leb (length (entriesBytes (es ++ (e ∷ fs)))) len) (λ p. rw p) (λ p. rw p)))
+    (λ l. rw (lt-leb (length (bytesOfEntries (es ++ (e ∷ fs)))) len (too-long len es fs e (omega (arith, l, ap length q)))))
+    (λ n. rw (too-many es fs e (ap (λ (j : ℕ). nextNumber j es) (sym k') ∙ n)) (by-test (leb (length (bytesOfEntries (es ++ (e ∷ fs)))) len) (λ p. rw p) (λ p. rw p)))
     N

@@ -8,7 +8,7 @@ use lib.Dec.{leb}
 use lib.ListN.{length, length-append}
 use borrow.Author.Tests.{leb-true, leb-false, le-leb, lt-leb}
 use Rattle.spec.proofs.Lists.{by-test}
-use Rattle.spec_ntriples.specs.Dictionary.{Entry, entryBytes, entriesBytes}
+use Rattle.spec_ntriples.specs.Dictionary.{Entry, bytesOfEntry, bytesOfEntries}
 use Rattle.spec_ntriples.proofs.EntryBytes.{length-entry}
 use Rattle.dictionary_entries.proofs.Standing.{entries-length}
 
@@ -21,6 +21,6 @@ room-is len end n h k =
     (λ p. p ∙ sym (lt-leb (end + 12 + n) len (omega (arith, leb-false n (len - end - 12) p))))
 
 -- With the entry of a text that would go past the end, and any behind it, so do the entries.
-pub too-long : (len : ℕ) (es fs : List Entry) (e : Entry) → len < length (entriesBytes es) + 12 + length (e .text) → len < length (entriesBytes (es ++ (e ∷ fs)))
-unfolding entriesBytes
-too-long len es fs e h = omega (arith, entries-length es (e ∷ fs), length-append (entryBytes e) (entriesBytes fs), length-entry e)
+pub too-long : (len : ℕ) (es fs : List Entry) (e : Entry) → len < length (bytesOfEntries es) + 12 + length (e .text) → len < length (bytesOfEntries (es ++ (e ∷ fs)))
+unfolding bytesOfEntries
+too-long len es fs e h = omega (arith, entries-length es (e ∷ fs), length-append (bytesOfEntry e) (bytesOfEntries fs), length-entry e)

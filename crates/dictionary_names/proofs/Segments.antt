@@ -6,7 +6,7 @@ use native.Mathlib.Decide.{decLt}
 use native.Mathlib.Omega.{arith}
 use lib.ListN.{length, take, drop}
 use lib.Seq.{take-length}
-use Rattle.spec_ntriples.specs.Dictionary.{Entry, entry, entriesBytes, frontTerm}
+use Rattle.spec_ntriples.specs.Dictionary.{Entry, entry, bytesOfEntries, frontTerm}
 use Rattle.spec_ntriples.specs.inside.Entries.{Holds}
 use Rattle.dictionary_bytes.specs.declared.Filled.{Filled}
 use Rattle.dictionary_bytes.specs.inside.Entries.{lengthAt, textAt, placeAt, entriesAt, FilledBy}
@@ -38,7 +38,7 @@ entries-front bs first (suc c) zero h = absurd (omega arith)
 entries-front bs first (suc c) (suc k) h = ap (λ (l : List Entry). entry (frontTerm (drop first bs)) (textAt bs first) ∷ l) (entries-front bs (first + 12 + lengthAt bs first) c k (omega arith))
 
 -- A segment of the entries fs, which stand behind ds.
-module _ (slots bs : List ℕ) (end first : ℕ) (ds fs : List Entry) (g : Segment) (H : Holds bs end (ds ++ fs)) (p : first ≡ length (entriesBytes ds)) (G : IsSegment slots bs first end g) where
+module _ (slots bs : List ℕ) (end first : ℕ) (ds fs : List Entry) (g : Segment) (H : Holds bs end (ds ++ fs)) (p : first ≡ length (bytesOfEntries ds)) (G : IsSegment slots bs first end g) where
   pub segment-count : g .count ≤ length fs
   segment-count =
       elim (decLt (length fs) (g .count)) [
@@ -54,7 +54,7 @@ module _ (slots bs : List ℕ) (end first : ℕ) (ds fs : List Entry) (g : Segme
       index-count slots bs first (g .count) (take (g .count) fs) (G .index)
       (entries-front bs first (g .count) (length fs) segment-count ∙ ap (λ (es : List Entry). take (g .count) es) (held-entries bs end ds fs H first p))
 
-  pub segment-ends : g .end ≡ length (entriesBytes (ds ++ take (g .count) fs))
+  pub segment-ends : g .end ≡ length (bytesOfEntries (ds ++ take (g .count) fs))
   segment-ends = G .ends ∙ held-place bs end ds fs H first p (g .count) segment-count ∙ omega (arith, p, entries-length ds (take (g .count) fs))
 
   all-counted : g .end ≡ end → g .count ≡ length fs

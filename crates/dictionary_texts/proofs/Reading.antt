@@ -10,7 +10,7 @@ use lib.Dec.{eqb, ltb}
 use borrow.Author.Tests.{ltb-true}
 use Rattle.spec_ntriples.specs.computed.Decoded.{Decoded, broken, decoded, decode}
 use Rattle.spec_ntriples.specs.Characters.{codes}
-use Rattle.spec_ntriples.specs.Texts.{Text, isSame}
+use Rattle.spec_ntriples.specs.Texts.{Text, isSameText}
 use Rattle.spec_ntriples.specs.computed.Lines.{readObject}
 use Rattle.spec_ntriples.specs.Dictionary.{kindOf, vocabularyOf}
 use Rattle.spec_ntriples.specs.computed.Canonical.{isNone, givesItself, decodesToItself, isCanonical}
@@ -56,7 +56,7 @@ module _ (t : List ℕ) (C : CharsOf (decode t)) where
         rw (C .same, term-read .reads, F .same)
 
     -- One whose term goes to its end is canonical where that has its text.
-    pub whole-text : length t ≤ end → isSame (term-read .text .bytes) (take (length t) (drop 0 t)) ≡ isCanonical t
+    pub whole-text : length t ≤ end → isSameText (term-read .text .bytes) (take (length t) (drop 0 t)) ≡ isCanonical t
     unfolding isCanonical decodesToItself givesItself isNone
     whole-text h = rw (C .same, term-read .reads, chars-end t end h, take-length t)
 
@@ -103,7 +103,7 @@ pub no-vocabulary : (t : List ℕ) → (ltb (length t) 44 || ltb 52 (length t)) 
 unfolding codes
 no-vocabulary t e =
     let other : (m : ℕ) → 44 ≤ m → m ≤ 52 → length t ≡ m → ⊥ = either (ltb (length t) 44) (ltb 52 (length t)) (length t) e (ltb-true (length t) 44) (ltb-true 52 (length t)) in
-    let differ : (u : List ℕ) → 44 ≤ length u → length u ≤ 52 → isSame t u ≡ false = λ u h k. lengths-differ t u (other (length u) h k) in
+    let differ : (u : List ℕ) → 44 ≤ length u → length u ≤ 52 → isSameText t u ≡ false = λ u h k. lengths-differ t u (other (length u) h k) in
     ap (λ (n : ℕ). eqb n 0)
     (place-none t _ _ _ _ _
     (differ (codes "<http://www.w3.org/1999/02/22-rdf-syntax-ns#type>") (omega arith) (omega arith))

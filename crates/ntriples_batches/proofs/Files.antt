@@ -15,7 +15,7 @@ use Rattle.spec.proofs.Ascending.{and-left, and-right}
 use Rattle.spec.specs.inside.Each.{Each}
 use Rattle.spec_ntriples.specs.Texts.{TextTriple}
 use Rattle.spec_ntriples.specs.computed.Lines.{triples, document}
-use Rattle.spec_ntriples.specs.Dictionary.{Entry, entriesBytes, firstNumber, nextNumber, areNumbersEnough}
+use Rattle.spec_ntriples.specs.Dictionary.{Entry, bytesOfEntries, firstNumber, nextNumber, areNumbersEnough}
 use Rattle.spec_ntriples.specs.Reading.{withTexts, withAll, tripleOf}
 use Rattle.spec.proofs.Each.{each-front, each-back}
 use Rattle.spec_ntriples.proofs.Numbers.{textsOfKind, Enough, numbers-enough, enough-front}
@@ -57,13 +57,13 @@ are-enough es E = rw (le-leb (nextNumber 0 es) (2 ^ 30) (E .uris), le-leb (nextN
 -- Entries that do not fit, do not with more behind them.
 fit-less : (len : ℕ) (es fs : List Entry) → DoNotFit len es → DoNotFit len (es ++ fs)
 fit-less len es fs N =
-    let a = leb (length (entriesBytes (es ++ fs))) len in
+    let a = leb (length (bytesOfEntries (es ++ fs))) len in
     let b = areNumbersEnough (es ++ fs) in
     by-test (a && b)
     (λ p.
-    let s : length (entriesBytes es) ≤ len = omega (arith, entries-length es fs, leb-true (length (entriesBytes (es ++ fs))) len (and-left a b p)) in
+    let s : length (bytesOfEntries es) ≤ len = omega (arith, entries-length es fs, leb-true (length (bytesOfEntries (es ++ fs))) len (and-left a b p)) in
     let q : areNumbersEnough es ≡ true = are-enough es (enough-front es fs (numbers-enough (es ++ fs) (and-right a b p))) in
-    let t : (leb (length (entriesBytes es)) len && areNumbersEnough es) ≡ true = rw (le-leb (length (entriesBytes es)) len s, q) in
+    let t : (leb (length (bytesOfEntries es)) len && areNumbersEnough es) ≡ true = rw (le-leb (length (bytesOfEntries es)) len s, q) in
     absurd (true-not-false (sym t ∙ N)))
     (λ p. p)
 

@@ -7,10 +7,10 @@ use mathlib.Core.List.{List, [], _∷_, _++_, append-assoc}
 use native.Mathlib.Omega.{arith}
 use lib.Dec.{eqb}
 use lib.ListN.{length}
-use Rattle.spec_ntriples.specs.Utf8.{encode, encodeChar}
+use Rattle.spec_ntriples.specs.Utf8.{utf8, encodeChar}
 use Rattle.spec_ntriples.specs.Characters.{codes, isOneOf}
 use Rattle.spec_ntriples.specs.computed.Terminals.{outside, iriStep, stringStep, scan, got, skip}
-use Rattle.spec_ntriples.specs.Texts.{Text, text, isSame, iriText, blankText, canonicalChar, canonicalChars, xsdString}
+use Rattle.spec_ntriples.specs.Texts.{Text, text, isSameText, iriText, blankText, canonicalChar, canonicalChars, xsdString}
 use Rattle.ntriples_bytes.specs.inside.Places.{At, Utf8From, Marks, HasText, charsAt}
 use Rattle.ntriples_bytes.specs.declared.Mark.{Mark}
 use Rattle.ntriples_bytes.proofs.Decoding.{at-same, at-within, some-at, chars-are}
@@ -96,13 +96,13 @@ module _ (line : List ℕ) (at : ℕ) (cs rest more : List ℕ) (m : Mark) (M : 
 
 -- ---- xsd:string
 
-pub type-same : (given : List ℕ) → isSame (encode given ++ (code ">" ∷ [])) typeTail ≡ true → iriText given ≡ xsdString
+pub type-same : (given : List ℕ) → isSameText (utf8 given ++ (code ">" ∷ [])) typeTail ≡ true → iriText given ≡ xsdString
 unfolding iriText codes
 type-same given e = ap (λ (l : List ℕ). code "<" ∷ l) (same-equal _ _ e)
 
-pub type-other : (given : List ℕ) → isSame (encode given ++ (code ">" ∷ [])) typeTail ≡ false → iriText given ≡ xsdString → ⊥
+pub type-other : (given : List ℕ) → isSameText (utf8 given ++ (code ">" ∷ [])) typeTail ≡ false → iriText given ≡ xsdString → ⊥
 unfolding iriText codes
-type-other given e f = other-differ (encode given ++ (code ">" ∷ [])) _ e (tail-same _ _ f)
+type-other given e f = other-differ (utf8 given ++ (code ">" ∷ [])) _ e (tail-same _ _ f)
   where
     tail-same : (x y : List ℕ) → code "<" ∷ x ≡ code "<" ∷ y → x ≡ y
     tail-same x y e = cc

@@ -5,7 +5,7 @@ use mathlib.Core.Path.{_≡_, refl, sym, ap, _∙_}
 use mathlib.Core.List.{List, [], _∷_, _++_, append-assoc}
 use native.Mathlib.Omega.{arith}
 use lib.ListN.{length}
-use Rattle.spec_ntriples.specs.Utf8.{encode}
+use Rattle.spec_ntriples.specs.Utf8.{utf8}
 use Rattle.spec_ntriples.specs.computed.Terminals.{outside, iriStep, stringStep, skip}
 use Rattle.spec_ntriples.specs.Texts.{Text}
 use Rattle.ntriples_bytes.specs.inside.Places.{At, HasText}
@@ -53,11 +53,11 @@ shown-before cs rest bytes (taggedAt given G q) = tagged-before cs rest given G
 
 -- In each mode.
 placed-in : (mode : Mode) (line : List ℕ) (end place : ℕ) (bytes : List ℕ) → ComingIn mode line end place bytes → Placed end place bytes
-unfolding encode lowered
+unfolding utf8 lowered
 placed-in Term line end place bytes T =
     before-placed line end place bytes (T .has .chars) (T .has .rest) (opened-before (T .has .chars) (T .has .rest) (T .text) (open-object (T .has .chars) (T .has .rest) (T .text) (T .has .reads))) (T .has .starts) (T .has .behind)
 placed-in Iri line end place bytes I = before-placed line end place bytes (I .reads .chars) (I .rest) (scan-before iriStep outside (I .reads .chars) (I .given) (I .rest) (I .reads .scans)) (I .reads .stands) (I .ends)
-placed-in Label line end place bytes L = given-placed line end place encode (L .given) (L .rest) bytes refl (L .same) (L .stands) (L .ends)
+placed-in Label line end place bytes L = given-placed line end place utf8 (L .given) (L .rest) bytes refl (L .same) (L .stands) (L .ends)
 placed-in Quoted line end place bytes S =
     let B = scan-before stringStep outside (S .reads .chars) (S .given) (S .behind) (S .reads .scans) in
     let U = follows-upto (S .behind) (S .rest) (S .more) (S .follows) in

@@ -9,7 +9,7 @@ use lib.Dec.{eqb}
 use lib.ListN.{length, take, drop, length-append}
 use lib.Seq.{length-take-le}
 use borrow.Author.Tests.{eqb-true}
-use Rattle.spec_ntriples.specs.Utf8.{isBetween, encode, encodeChar}
+use Rattle.spec_ntriples.specs.Utf8.{isBetween, utf8, encodeChar}
 use Rattle.spec_ntriples.specs.Characters.{codes, isOneOf}
 use Rattle.spec_ntriples.specs.computed.Terminals.{outside, iriStep, stringStep, scan, got, skip}
 use Rattle.spec_ntriples.specs.Texts.{lowerChar, Text, text, iriText, blankText, canonicalChar, canonicalChars}
@@ -49,7 +49,7 @@ splits-by line end place bytes text later next p H e C h k =
 module _ (line : List ℕ) (end place : ℕ) (bytes : List ℕ) (p : Piece) where
   -- At the mark that closes one.
   pub iri-closed : IriComing line end place bytes → (m : Mark) (M : Marks line place m) → m .code ≡ 0x3E → Holds (0x3E ∷ []) (record { place = m .next; mode = Label }) p → IriStepped line end place bytes p
-  unfolding encode
+  unfolding utf8
   iri-closed I m M e H =
       let D = outside-closed line iriStep (code ">") iri-reader (I .given) (I .rest) place m M (I .reads) e in
       let A : At line (m .next) (I .rest) = rw (D .1) at (M .rest) in
@@ -63,12 +63,12 @@ module _ (line : List ℕ) (end place : ℕ) (bytes : List ℕ) (p : Piece) wher
 
   -- At another character.
   pub iri-more : (I : IriComing line end place bytes) (m : Mark) → Gives line place 0 iriStep (I .given) (I .rest) m → Holds (encodeChar (m .code)) (record { place = m .next; mode = Iri }) p → IriStepped line end place bytes p
-  unfolding encode
+  unfolding utf8
   iri-more I m G H =
-      let C : IriComing line end (m .next) (encode (G .later) ++ (code ">" ∷ [])) = record { given = G .later; rest = I .rest; reads = G .reads; ends = I .ends; same = refl } in
-      let b : bytes ≡ encodeChar (m .code) ++ (encode (G .later) ++ (code ">" ∷ [])) = I .same ∙ ap (λ (l : List ℕ). encode l ++ (code ">" ∷ [])) (G .same) ∙ append-assoc (encodeChar (m .code)) (encode (G .later)) (code ">" ∷ []) in
+      let C : IriComing line end (m .next) (utf8 (G .later) ++ (code ">" ∷ [])) = record { given = G .later; rest = I .rest; reads = G .reads; ends = I .ends; same = refl } in
+      let b : bytes ≡ encodeChar (m .code) ++ (utf8 (G .later) ++ (code ">" ∷ [])) = I .same ∙ ap (λ (l : List ℕ). utf8 l ++ (code ">" ∷ [])) (G .same) ∙ append-assoc (encodeChar (m .code)) (utf8 (G .later)) (code ">" ∷ []) in
       record {
-        later = encode (G .later) ++ (code ">" ∷ []);
+        later = utf8 (G .later) ++ (code ">" ∷ []);
         splits = splits-by line end place bytes (encodeChar (m .code)) _ (record { place = m .next; mode = Iri }) p H b C (omega (arith, G .room, encode-canonical (m .code), width-some (m .code))) (omega (arith, G .room, encode-canonical (m .code)));
         inside = λ h. rw (H .leads) C;
       }
@@ -121,13 +121,13 @@ front-char line end place (c ∷ cs) rest m M h A E =
 
 module _ (line : List ℕ) (end place : ℕ) (bytes : List ℕ) (p : Piece) (m : Mark) (M : Marks line place m) (h : place < end) where
   pub label-more : LabelComing line end place bytes → Holds (encodeChar (m .code)) (record { place = m .next; mode = Label }) p → Stepped line end place bytes p
-  unfolding encode
+  unfolding utf8
   label-more L H =
       let F = front-char line end place (L .given) (L .rest) m M h (L .stands) (L .ends) in
-      let C : LabelComing line end (m .next) (encode (F .later)) = record { given = F .later; rest = L .rest; stands = F .stands; ends = L .ends; same = refl } in
-      let b : bytes ≡ encodeChar (m .code) ++ encode (F .later) = L .same ∙ ap encode (F .same) in
+      let C : LabelComing line end (m .next) (utf8 (F .later)) = record { given = F .later; rest = L .rest; stands = F .stands; ends = L .ends; same = refl } in
+      let b : bytes ≡ encodeChar (m .code) ++ utf8 (F .later) = L .same ∙ ap utf8 (F .same) in
       let w : m .next ≡ place + length (encodeChar (m .code)) = next-place line place (m .next) (m .code) (M .behind) (M .stands) (M .rest) in
-      record { later = encode (F .later); splits = splits-by line end place bytes (encodeChar (m .code)) _ (record { place = m .next; mode = Label }) p H b C (M .after) (omega arith) }
+      record { later = utf8 (F .later); splits = splits-by line end place bytes (encodeChar (m .code)) _ (record { place = m .next; mode = Label }) p H b C (M .after) (omega arith) }
 
   pub tag-more : (c : ℕ) → c ≡ lowerChar (m .code) → TagComing line end place bytes → Holds (c ∷ []) (record { place = m .next; mode = Tag }) p → Stepped line end place bytes p
   unfolding lowered
@@ -169,8 +169,8 @@ module _ (line : List ℕ) (end place : ℕ) (bytes : List ℕ) (S : SuffixComin
   pub type-more : (T : TypeShown) (p : Piece) (next : ℕ) → At line next (T .typed .inner) → place + 3 ≤ next → Holds (0x5E ∷ 0x5E ∷ 0x3C ∷ []) (record { place = next; mode = Iri }) p → Stepped line end place bytes p
   unfolding iriText codes
   type-more T p next A h H =
-      let C : IriComing line end next (encode (T .given) ++ (code ">" ∷ [])) = record { given = T .given; rest = S .rest; reads = record { chars = T .typed .inner; stands = A; scans = T .typed .scans }; ends = S .ends; same = refl } in
-      record { later = encode (T .given) ++ (code ">" ∷ []); splits = splits-by line end place bytes (0x5E ∷ 0x5E ∷ 0x3C ∷ []) _ (record { place = next; mode = Iri }) p H (T .same) C (omega arith) (omega arith) }
+      let C : IriComing line end next (utf8 (T .given) ++ (code ">" ∷ [])) = record { given = T .given; rest = S .rest; reads = record { chars = T .typed .inner; stands = A; scans = T .typed .scans }; ends = S .ends; same = refl } in
+      record { later = utf8 (T .given) ++ (code ">" ∷ []); splits = splits-by line end place bytes (0x5E ∷ 0x5E ∷ 0x3C ∷ []) _ (record { place = next; mode = Iri }) p H (T .same) C (omega arith) (omega arith) }
 
   -- A tag.
   pub tag-first : m .code ≡ 0x40 → (p : Piece) → Holds (0x40 ∷ []) (record { place = m .next; mode = Tag }) p → Stepped line end place bytes p
@@ -220,10 +220,10 @@ module _ (line : List ℕ) (end place : ℕ) (bytes : List ℕ) (T : TermComing 
       go (iri I) =
           let g : m .code ∷ M .behind ≡ 0x3C ∷ I .inner = I .opens in
           let i : M .behind ≡ I .inner = cc in
-          let C : IriComing line end (m .next) (encode (I .given) ++ (code ">" ∷ [])) =
+          let C : IriComing line end (m .next) (utf8 (I .given) ++ (code ">" ∷ [])) =
           record { given = I .given; rest = T .has .rest; reads = record { chars = I .inner; stands = rw i at (M .rest); scans = I .scans }; ends = T .has .behind; same = refl } in
           record {
-            later = encode (I .given) ++ (code ">" ∷ []);
+            later = utf8 (I .given) ++ (code ">" ∷ []);
             splits = splits-by line end place bytes (0x3C ∷ []) _ (record { place = m .next; mode = Iri }) p H (text-bytes 0 _ (I .same)) C (M .after) (omega (arith, M .after));
           }
 
@@ -231,7 +231,7 @@ module _ (line : List ℕ) (end place : ℕ) (bytes : List ℕ) (T : TermComing 
   pub record BlankFound : Type 0 where
     pub given : List ℕ
     pub stands : At line (m .next) (code ":" ∷ (given ++ T .has .rest))
-    pub same : bytes ≡ 0x5F ∷ 0x3A ∷ encode given
+    pub same : bytes ≡ 0x5F ∷ 0x3A ∷ utf8 given
 
   pub term-colon : m .code ≡ 0x5F → BlankFound
   unfolding blankText codes
@@ -248,8 +248,8 @@ module _ (line : List ℕ) (end place : ℕ) (bytes : List ℕ) (T : TermComing 
   pub term-blank : (B : BlankFound) (n : Mark) (N : Marks line (m .next) n) (p : Piece) → Holds (0x5F ∷ 0x3A ∷ []) (record { place = n .next; mode = Label }) p → Stepped line end place bytes p
   term-blank B n N p H =
       let A = mark-front line (m .next) (code ":") (B .given ++ T .has .rest) n N (B .stands) .1 in
-      let C : LabelComing line end (n .next) (encode (B .given)) = record { given = B .given; rest = T .has .rest; stands = A; ends = T .has .behind; same = refl } in
+      let C : LabelComing line end (n .next) (utf8 (B .given)) = record { given = B .given; rest = T .has .rest; stands = A; ends = T .has .behind; same = refl } in
       record {
-        later = encode (B .given);
+        later = utf8 (B .given);
         splits = splits-by line end place bytes (0x5F ∷ 0x3A ∷ []) _ (record { place = n .next; mode = Label }) p H (B .same) C (omega (arith, M .after, N .after)) (omega (arith, M .after, N .after));
       }

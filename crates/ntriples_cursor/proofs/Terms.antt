@@ -8,10 +8,10 @@ use native.Mathlib.Omega.{arith}
 use lib.Dec.{eqb}
 use lib.ListN.{length, length-append}
 use borrow.Author.Tests.{eqb-true}
-use Rattle.spec_ntriples.specs.Utf8.{isBetween, encode, encodeChar}
+use Rattle.spec_ntriples.specs.Utf8.{isBetween, utf8, encodeChar}
 use Rattle.spec_ntriples.specs.Characters.{codes, isOneOf, isLetter, isDigit, isLetterOrDigit, isPnChars, isPnCharsU}
 use Rattle.spec_ntriples.specs.computed.Terminals.{State, outside, Step, ends, breaks, leads, gives, Got, none, got, push, iriStep, stringStep, afterStep, scan, dotted, label, headIs, tag, skip}
-use Rattle.spec_ntriples.specs.Texts.{lowerChar, Text, text, isSame, isAbsolute, iriText, blankText, canonicalChars, stringText, taggedText, typedText, xsdString}
+use Rattle.spec_ntriples.specs.Texts.{lowerChar, Text, text, isSameText, isAbsolute, iriText, blankText, canonicalChars, stringText, taggedText, typedText, xsdString}
 use Rattle.spec_ntriples.specs.computed.Lines.{Read, nothing, read, iriOf, readIri, blankOf, readBlank, typedOf, readType, taggedOf, suffixed, literalOf, readSubject, readObject}
 use Rattle.ntriples_bytes.specs.inside.Places.{At}
 use Rattle.ntriples_bytes.proofs.Decoding.{at-same}
@@ -58,9 +58,9 @@ pub upto-place : (line : List ℕ) (p q : ℕ) (cs rest : List ℕ) → Upto cs 
 upto-place line p q cs rest U A B = omega (arith, places-apart line p q (U .front) rest (rw (U .same) at A) B)
 
 pub before-place : (line : List ℕ) (p q : ℕ) (cs rest : List ℕ) → Before cs rest → At line p cs → At line q rest → p < q
-unfolding encode
+unfolding utf8
 before-place line p q cs rest B A E =
-    omega (arith, places-apart line p q (B .char ∷ B .front) rest (rw (B .same) at A) E, length-append (encodeChar (B .char)) (encode (B .front)), width-some (B .char))
+    omega (arith, places-apart line p q (B .char ∷ B .front) rest (rw (B .same) at A) E, length-append (encodeChar (B .char)) (utf8 (B .front)), width-some (B .char))
 
 -- ---- terminals
 
@@ -215,11 +215,11 @@ literal-tagged given behind rest t cs k (got es r) f e =
       same = sym y ∙ ap (text 2) (ap (λ (l : List ℕ). stringText given ++ (code "@" ∷ l)) (F .lower) ∙ string-more given (code "@" ∷ lowered (F .given)));
     }
 
-typed-off : (string bytes type : List ℕ) → bytes ≡ type → isSame type xsdString ≡ true → typedText string bytes ≡ string
+typed-off : (string bytes type : List ℕ) → bytes ≡ type → isSameText type xsdString ≡ true → typedText string bytes ≡ string
 unfolding typedText
 typed-off string bytes type e q = rw (e, q)
 
-typed-on : (string bytes type : List ℕ) → bytes ≡ type → isSame type xsdString ≡ false → typedText string bytes ≡ string ++ (codes "^^" ++ type)
+typed-on : (string bytes type : List ℕ) → bytes ≡ type → isSameText type xsdString ≡ false → typedText string bytes ≡ string ++ (codes "^^" ++ type)
 unfolding typedText
 typed-on string bytes type e q = rw (e, q)
 
@@ -236,7 +236,7 @@ literal-typed given behind rest t (c ∷ cs) k e = by-test (eqb c (code "^")) (�
         let y : text 2 (typedText (stringText given) (u .bytes)) ≡ t = cc in
         let T : Typed (skip behind) rest (I .given) = record { behind = cs; marks = k ∙ ap (λ (x : ℕ). code "^" ∷ x ∷ cs) j; inner = I .inner; opens = I .opens; scans = I .scans ∙ ap (got (I .given)) p } in
         let b : u .bytes ≡ iriText (I .given) = ap (λ (w : Text). w .bytes) (I .same) in
-        by-test (isSame (iriText (I .given)) xsdString)
+        by-test (isSameText (iriText (I .given)) xsdString)
         (λ q. record { more = []; follows = leftOff (I .given) T (same-equal _ _ q) refl; same = sym y ∙ ap (text 2) (typed-off (stringText given) (u .bytes) (iriText (I .given)) b q ∙ string-none given) })
         (λ q. record { more = codes "^^" ++ iriText (I .given); follows = typed (I .given) T (other-differ _ _ q) refl; same = sym y ∙ ap (text 2) (typed-on (stringText given) (u .bytes) (iriText (I .given)) b q ∙ string-more given (codes "^^" ++ iriText (I .given))) })
 

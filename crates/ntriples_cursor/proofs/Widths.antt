@@ -8,7 +8,7 @@ use native.Mathlib.Omega.{arith}
 use lib.Dec.{eqb, leb, ltb}
 use lib.ListN.{length, drop, length-append, length-drop}
 use borrow.Author.Tests.{lt-ltb, le-ltb, eqb-true, eqb-false, ltb-true, ltb-false}
-use Rattle.spec_ntriples.specs.Utf8.{isBetween, encodeChar, encode}
+use Rattle.spec_ntriples.specs.Utf8.{isBetween, encodeChar, utf8}
 use Rattle.spec_ntriples.specs.computed.Decoded.{Decoded, broken, decoded, withChar, Due, bad, due, firstByte, furtherByte, nextByte, noByte, decodeFrom, decode}
 use Rattle.ntriples_bytes.specs.inside.Places.{At}
 use Rattle.ntriples_bytes.proofs.Decoding.{broken-not, front-char, behind-front, whole, bad-stays, first-at, at-start, at-within}
@@ -150,18 +150,18 @@ width-most c =
     (λ q. rw q (by-test (ltb c 0x800) (λ r. rw r (omega arith)) (λ r. rw r (by-test (ltb c 0x10000) (λ t. rw t (omega arith)) (λ t. rw t (omega arith))))))
 
 -- As many bytes as the characters are encoded in.
-decode-long : (n : ℕ) (bs : List ℕ) → length bs ≤ n → (cs : List ℕ) → decode bs ≡ decoded cs → length (encode cs) ≡ length bs
-unfolding encode
+decode-long : (n : ℕ) (bs : List ℕ) → length bs ≤ n → (cs : List ℕ) → decode bs ≡ decoded cs → length (utf8 cs) ≡ length bs
+unfolding utf8
 decode-long n bs h [] e = sym (none-long bs e)
 decode-long zero bs h (c ∷ cs) e = let F = first-char bs c cs e in absurd (omega (arith, F .long, width-some c))
 decode-long (suc n) bs h (c ∷ cs) e =
     let F = first-char bs c cs e in
-    rw (length-append (encodeChar c) (encode cs)) (omega (arith, F .long, width-some c, decode-long n (F .tail) (omega (arith, F .long, width-some c)) cs (F .reads)))
+    rw (length-append (encodeChar c) (utf8 cs)) (omega (arith, F .long, width-some c, decode-long n (F .tail) (omega (arith, F .long, width-some c)) cs (F .reads)))
 
 -- ---- at an index
 
 -- Characters at an index take all bytes from there on.
-pub at-place : (line : List ℕ) (p : ℕ) (cs : List ℕ) → At line p cs → p + length (encode cs) ≡ length line
+pub at-place : (line : List ℕ) (p : ℕ) (cs : List ℕ) → At line p cs → p + length (utf8 cs) ≡ length line
 at-place line p cs A = let h : p ≤ length line = A .within in omega (arith, decode-long (length line) (drop p line) (omega (arith, length-drop p line)) cs (A .chars), length-drop p line)
 
 -- The index of characters is determined.
@@ -170,18 +170,18 @@ same-place line p q cs A B = omega (arith, at-place line p cs A, at-place line q
 
 -- A character takes the bytes up to the next.
 pub next-place : (line : List ℕ) (p q c : ℕ) (cs : List ℕ) → At line p (c ∷ cs) → At line q cs → q ≡ p + length (encodeChar c)
-unfolding encode
-next-place line p q c cs A B = omega (arith, rw (length-append (encodeChar c) (encode cs)) at (at-place line p (c ∷ cs) A), at-place line q cs B)
+unfolding utf8
+next-place line p q c cs A B = omega (arith, rw (length-append (encodeChar c) (utf8 cs)) at (at-place line p (c ∷ cs) A), at-place line q cs B)
 
 -- A character at an index is a small number.
 pub char-small : (line : List ℕ) (p c : ℕ) (cs : List ℕ) → At line p (c ∷ cs) → c < 0x200000
 char-small line p c cs A = first-char (drop p line) c cs (A .chars) .small
 
 -- Some characters more take more bytes.
-pub encode-append : (cs ds : List ℕ) → encode (cs ++ ds) ≡ encode cs ++ encode ds
-unfolding encode
+pub encode-append : (cs ds : List ℕ) → utf8 (cs ++ ds) ≡ utf8 cs ++ utf8 ds
+unfolding utf8
 encode-append [] ds = refl
-encode-append (c ∷ cs) ds = rw (encode-append cs ds) (sym (append-assoc (encodeChar c) (encode cs) (encode ds)))
+encode-append (c ∷ cs) ds = rw (encode-append cs ds) (sym (append-assoc (encodeChar c) (utf8 cs) (utf8 ds)))
 
-pub places-apart : (line : List ℕ) (p q : ℕ) (cs ds : List ℕ) → At line p (cs ++ ds) → At line q ds → q ≡ p + length (encode cs)
-places-apart line p q cs ds A B = omega (arith, rw (encode-append cs ds, length-append (encode cs) (encode ds)) at (at-place line p (cs ++ ds) A), at-place line q ds B)
+pub places-apart : (line : List ℕ) (p q : ℕ) (cs ds : List ℕ) → At line p (cs ++ ds) → At line q ds → q ≡ p + length (utf8 cs)
+places-apart line p q cs ds A B = omega (arith, rw (encode-append cs ds, length-append (utf8 cs) (utf8 ds)) at (at-place line p (cs ++ ds) A), at-place line q ds B)

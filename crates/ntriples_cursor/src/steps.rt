@@ -16,7 +16,7 @@ ghost use mathlib.Core.Bool.{true, _&&_};
 ghost use mathlib.Core.List.{List, _++_};
 ghost use Prim.Native.Nat.{ℕ, _+_, _-_, _≤_, _<_};
 ghost use lib.ListN.{length, take, drop};
-ghost use Rattle.spec_ntriples.specs.Texts.{lowerChar, isSame};
+ghost use Rattle.spec_ntriples.specs.Texts.{lowerChar, isSameText};
 ghost use Rattle.ntriples_bytes.specs.inside.Places.{At};
 ghost use Rattle.ntriples_cursor.specs.inside.Coming.{Typed, Follows, ComingIn, Coming, SomeComing, SomeTyped, SomeFollows, Stepped, IriStepped, typeTail};
 
@@ -33,7 +33,7 @@ pub fn is_piece(p: Piece, text: &[u8], at: usize, left: usize) -> bool
     requires { ⌜ (p .len ≤ 4) × (4 ≤ length (p .bytes)) ⌝ }
     requires { ⌜ at + left ≤ length (now text) ⌝ }
     ensures fits { λ r. ⌜ (r ≡ true → p .len ≤ left) ⌝ }
-    ensures first { λ r. ⌜ ((later : List ℕ) → isSame (take (p .len) (p .bytes) ++ later) (take left (drop at (now (text .entry)))) ≡ (r && isSame later (take (left - p .len) (drop (at + p .len) (now (text .entry)))))) ⌝ }
+    ensures first { λ r. ⌜ ((later : List ℕ) → isSameText (take (p .len) (p .bytes) ++ later) (take left (drop at (now (text .entry)))) ≡ (r && isSameText later (take (left - p .len) (drop (at + p .len) (now (text .entry)))))) ⌝ }
 {
     if left < p.len {
         return false;
@@ -115,7 +115,7 @@ fn type_inner(line: &[u8], place: usize) -> usize
 // Whether an IRI goes on as xsd:string does behind its first mark.
 fn is_string_type(line: &[u8], end: usize, from: usize) -> bool
     requires { ⌜ SomeComing Mode.Iri (now line) end from ⌝ }
-    ensures { λ r. ⌜ ((bytes : List ℕ) → ComingIn Mode.Iri (now (line .entry)) end from bytes → r ≡ isSame bytes typeTail) ⌝ }
+    ensures { λ r. ⌜ ((bytes : List ℕ) → ComingIn Mode.Iri (now (line .entry)) end from bytes → r ≡ isSameText bytes typeTail) ⌝ }
 {
     let text = b"http://www.w3.org/2001/XMLSchema#string>";
     let mut place = from;

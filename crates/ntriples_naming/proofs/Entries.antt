@@ -8,7 +8,7 @@ use lib.Dec.{eqb}
 use borrow.Author.Tests.{eq-eqb, ne-eqb}
 use Rattle.spec.proofs.Lists.{by-test}
 use Rattle.spec.specs.inside.Each.{Each}
-use Rattle.spec_ntriples.specs.Texts.{Text, isSame, TextTriple}
+use Rattle.spec_ntriples.specs.Texts.{Text, isSameText, TextTriple}
 use Rattle.spec_ntriples.specs.Dictionary.{Entry, entry, vocabularyOf, termIn, termOf, nextTerm, kindOf}
 use Rattle.spec_ntriples.specs.Reading.{withText, withTexts, withAll}
 use Rattle.spec_ntriples.specs.inside.Entries.{Writable}
@@ -28,7 +28,7 @@ found-in : (ds es : List Entry) (t : List ℕ) → Each HasTerm ds → foundWord
 unfolding foundWord termIn
 found-in [] es t h = refl
 found-in (d ∷ ds) es t h =
-    by-test (isSame t (d .text)) (λ p. rw (p, ne-eqb (d .term) 0 (λ e. omega (arith, e, h .0)))) (λ p. rw p (found-in ds es t (h .1)))
+    by-test (isSameText t (d .text)) (λ p. rw (p, ne-eqb (d .term) 0 (λ e. omega (arith, e, h .0)))) (λ p. rw p (found-in ds es t (h .1)))
 
 -- A word that is a text's term among some entries, and then is looked for among others, is its term among all.
 pub found-of : (ds es : List Entry) (t : List ℕ) → Each HasTerm ds → foundWord es t (termOf ds t) ≡ termOf (ds ++ es) t

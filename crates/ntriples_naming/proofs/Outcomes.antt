@@ -14,7 +14,7 @@ use Rattle.spec.proofs.Lists.{by-test}
 use Rattle.spec.proofs.TableRows.{tripleFrom-drop}
 use Rattle.spec.specs.inside.Each.{Each}
 use Rattle.spec_ntriples.specs.Texts.{Text, TextTriple}
-use Rattle.spec_ntriples.specs.Dictionary.{Entry, entry, entriesBytes, termOf, nextTerm, areNumbersEnough}
+use Rattle.spec_ntriples.specs.Dictionary.{Entry, entry, bytesOfEntries, termOf, nextTerm, areNumbersEnough}
 use Rattle.spec_ntriples.specs.Reading.{withText, withAll, tripleOf}
 use Rattle.spec_ntriples.proofs.KnownTexts.{HasTerm}
 use Rattle.dictionary_names.proofs.Reading.{no-space}
@@ -94,7 +94,7 @@ each-grows es (x ∷ xs) =
 -- Then question 14 says no to the entries with all texts.
 pub lacks-ground
     : (len : ℕ) (es : List Entry) (xs : List Text) → Each HasTerm es → LacksSpace len es xs
-    → (leb (length (entriesBytes (withEach es xs))) len && areNumbersEnough (withEach es xs)) ≡ false
+    → (leb (length (bytesOfEntries (withEach es xs))) len && areNumbersEnough (withEach es xs)) ≡ false
 lacks-ground len es xs h L =
     let t : Text = getD xs (L .place) noText in
     let e : Entry = entry (nextTerm (t .kind) es) (t .bytes) in

@@ -15,7 +15,7 @@ use Rattle.spec.specs.Messages.{mostBytes, encode}
 use Rattle.spec_ntriples.specs.declared.ByteReply.the-variants.{Length, Refused}
 use Rattle.spec_ntriples.specs.Texts.{TextTriple}
 use Rattle.spec_ntriples.specs.computed.Lines.{Document, refused, triples, document}
-use Rattle.spec_ntriples.specs.Dictionary.{Entry, entriesBytes, dictionaryBytes, entries, areNumbersEnough, isDictionary}
+use Rattle.spec_ntriples.specs.Dictionary.{Entry, bytesOfEntries, dictionaryBytes, entries, areNumbersEnough, isDictionary}
 use Rattle.spec_ntriples.specs.Reading.{withAll, tripleOf, additions, readFile, concludeReading, readNTriples}
 use Rattle.spec_ntriples.specs.Promises.{RefusedBy, Accepted}
 use Rattle.spec_ntriples.specs.inside.Entries.{Holds}
@@ -99,14 +99,14 @@ module _ (file : List ℕ) (n : ℕ) (bs : List ℕ) (f : Filled) (delivery : Li
 
       no-space : RefusedBy bs file (length delivery) 14
       no-space =
-          let a = leb (length (entriesBytes es)) (length bs) in
+          let a = leb (length (bytesOfEntries es)) (length bs) in
           let h : (a && areNumbersEnough es) ≡ false = rw long at (lacking .lacks) in
           by-test a
           (λ p. RefusedBy.no-number refl (C .formed) (C .lines) (C .said) (rw p at h))
-          (λ p. RefusedBy.no-space refl (C .formed) (C .lines) (C .said) (leb-false (length (entriesBytes es)) (length bs) p))
+          (λ p. RefusedBy.no-space refl (C .formed) (C .lines) (C .said) (leb-false (length (bytesOfEntries es)) (length bs) p))
 
       pub refused-14
-          : (cs : List ℕ) → length cs ≡ length bs' → ((ds fs : List Entry) → Holds bs' (g .end) (ds ++ fs) → f .end ≡ length (entriesBytes ds) → Holds cs (f .end) ds)
+          : (cs : List ℕ) → length cs ≡ length bs' → ((ds fs : List Entry) → Holds bs' (g .end) (ds ++ fs) → f .end ≡ length (bytesOfEntries ds) → Holds cs (f .end) ds)
           → readFile (Refused 14) cs delivery ≡ readNTriples bs file (length delivery)
       refused-14 cs l T =
           refused-reading bs file (length delivery) 14 cs delivery no-space
@@ -122,7 +122,7 @@ module _ (file : List ℕ) (n : ℕ) (bs : List ℕ) (f : Filled) (delivery : Li
       pub named-within : g .end ≤ length bs'
       named-within = held-within bs' (g .end) es (named .filled .holds)
 
-      fits : length (entriesBytes es) ≤ length bs
+      fits : length (bytesOfEntries es) ≤ length bs
       fits = omega (arith, named-within, named .filled .holds .ends, long)
 
       grown : Grown (entries bs) es
@@ -130,7 +130,7 @@ module _ (file : List ℕ) (n : ℕ) (bs : List ℕ) (f : Filled) (delivery : Li
 
       pub refused-15
           : (room : leb (10 + 12 * n) (min (length delivery) mostBytes) ≡ false) (cs : List ℕ) → length cs ≡ length bs'
-          → ((ds fs : List Entry) → Holds bs' (g .end) (ds ++ fs) → f .end ≡ length (entriesBytes ds) → Holds cs (f .end) ds)
+          → ((ds fs : List Entry) → Holds bs' (g .end) (ds ++ fs) → f .end ≡ length (bytesOfEntries ds) → Holds cs (f .end) ds)
           → readFile (Refused 15) cs delivery ≡ readNTriples bs file (length delivery)
       refused-15 room cs l T =
           let r : min (length delivery) mostBytes < 10 + 12 * length (C .lines) = rw (C .counted) at (leb-false (10 + 12 * n) (min (length delivery) mostBytes) room) in

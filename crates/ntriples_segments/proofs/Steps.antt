@@ -6,7 +6,7 @@ use native.Mathlib.Omega.{arith}
 use lib.ListN.{length, take, drop, take-append-drop}
 use Rattle.spec.specs.inside.Each.{Each}
 use Rattle.spec_ntriples.specs.Texts.{Text, TextTriple}
-use Rattle.spec_ntriples.specs.Dictionary.{Entry, entriesBytes, vocabularyOf}
+use Rattle.spec_ntriples.specs.Dictionary.{Entry, bytesOfEntries, vocabularyOf}
 use Rattle.spec_ntriples.specs.Reading.{withAll}
 use Rattle.spec_ntriples.proofs.EntryBytes.{length-entries}
 use Rattle.spec.proofs.Each.{each-front}
@@ -38,7 +38,7 @@ use Rattle.ntriples_segments.specs.declared.Step.the-variants.{Done, Lac
 pub looked-none
     : (es : List Entry) (ts : List TextTriple) (bs : List ℕ) (f : Filled) (file lines : List ℕ) (n : ℕ) (ws vs : List ℕ)
     → IsBatch file lines n ts → FilledBy bs f es → RowsBy (λ t r. tripleBy vocabularyOf t) ts n ws vs → Looked es ts bs 0 f vs
-unfolding entriesBytes
+unfolding bytesOfEntries
 looked-none es ts bs f file lines n ws vs B F R =
     record {
       before = [];

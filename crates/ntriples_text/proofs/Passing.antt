@@ -6,7 +6,7 @@ use mathlib.Core.List.{List, [], _∷_, _++_, append-assoc, append-nil}
 use native.Mathlib.Omega.{arith}
 use lib.ListN.{length, take, drop, length-append}
 use lib.Seq.{sets, length-sets, length-take-le}
-use Rattle.spec_ntriples.specs.Texts.{Text, isSame}
+use Rattle.spec_ntriples.specs.Texts.{Text, isSameText}
 use Rattle.ntriples_bytes.specs.inside.Places.{HasText}
 use Rattle.dictionary_bytes.specs.inside.Hashes.{hashFrom}
 use Rattle.dictionary_bytes.proofs.Hashing.{hash-append}

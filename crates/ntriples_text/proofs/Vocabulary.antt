@@ -7,7 +7,7 @@ use mathlib.Core.List.{List, [], _∷_, _++_}
 use native.Mathlib.Omega.{arith}
 use lib.ListN.{length}
 use lib.Dec.{eqb}
-use Rattle.spec_ntriples.specs.Texts.{Text, isSame}
+use Rattle.spec_ntriples.specs.Texts.{Text, isSameText}
 use Rattle.spec_ntriples.specs.Dictionary.{placeOf, vocabularyOf, vocabularyTexts}
 use Rattle.ntriples_bytes.specs.inside.Places.{At, Utf8From, Marks, HasText}
 use Rattle.ntriples_bytes.specs.declared.Mark.{Mark}
@@ -57,26 +57,26 @@ module _ (line : List ℕ) (from end : ℕ) (t : Text) (H : HasText line from en
 
 -- The place of a text among five, by which of them it is.
 module _ (t a b c d e : List ℕ) where
-  pub place-one : isSame t a ≡ true → 1 ≡ placeOf t (a ∷ b ∷ c ∷ d ∷ e ∷ [])
+  pub place-one : isSameText t a ≡ true → 1 ≡ placeOf t (a ∷ b ∷ c ∷ d ∷ e ∷ [])
   unfolding placeOf
   place-one p = rw p
 
-  pub place-two : isSame t a ≡ false → isSame t b ≡ true → 2 ≡ placeOf t (a ∷ b ∷ c ∷ d ∷ e ∷ [])
+  pub place-two : isSameText t a ≡ false → isSameText t b ≡ true → 2 ≡ placeOf t (a ∷ b ∷ c ∷ d ∷ e ∷ [])
   unfolding placeOf
   place-two p q = rw (p, q)
 
-  pub place-three : isSame t a ≡ false → isSame t b ≡ false → isSame t c ≡ true → 3 ≡ placeOf t (a ∷ b ∷ c ∷ d ∷ e ∷ [])
+  pub place-three : isSameText t a ≡ false → isSameText t b ≡ false → isSameText t c ≡ true → 3 ≡ placeOf t (a ∷ b ∷ c ∷ d ∷ e ∷ [])
   unfolding placeOf
   place-three p q r = rw (p, q, r)
 
-  pub place-four : isSame t a ≡ false → isSame t b ≡ false → isSame t c ≡ false → isSame t d ≡ true → 4 ≡ placeOf t (a ∷ b ∷ c ∷ d ∷ e ∷ [])
+  pub place-four : isSameText t a ≡ false → isSameText t b ≡ false → isSameText t c ≡ false → isSameText t d ≡ true → 4 ≡ placeOf t (a ∷ b ∷ c ∷ d ∷ e ∷ [])
   unfolding placeOf
   place-four p q r s = rw (p, q, r, s)
 
-  pub place-five : isSame t a ≡ false → isSame t b ≡ false → isSame t c ≡ false → isSame t d ≡ false → isSame t e ≡ true → 5 ≡ placeOf t (a ∷ b ∷ c ∷ d ∷ e ∷ [])
+  pub place-five : isSameText t a ≡ false → isSameText t b ≡ false → isSameText t c ≡ false → isSameText t d ≡ false → isSameText t e ≡ true → 5 ≡ placeOf t (a ∷ b ∷ c ∷ d ∷ e ∷ [])
   unfolding placeOf
   place-five p q r s u = rw (p, q, r, s, u)
 
-  pub place-none : isSame t a ≡ false → isSame t b ≡ false → isSame t c ≡ false → isSame t d ≡ false → isSame t e ≡ false → 0 ≡ placeOf t (a ∷ b ∷ c ∷ d ∷ e ∷ [])
+  pub place-none : isSameText t a ≡ false → isSameText t b ≡ false → isSameText t c ≡ false → isSameText t d ≡ false → isSameText t e ≡ false → 0 ≡ placeOf t (a ∷ b ∷ c ∷ d ∷ e ∷ [])
   unfolding placeOf
   place-none p q r s u = rw (p, q, r, s, u)

@@ -10,7 +10,7 @@ ghost use mathlib.Core.Path.{_≡_};
 ghost use Prim.Native.Nat.{_+_, _-_, _≤_, _<_};
 ghost use lib.ListN.{length, take, drop};
 ghost use lib.Seq.{sets};
-ghost use Rattle.spec_ntriples.specs.Texts.{Text, isSame};
+ghost use Rattle.spec_ntriples.specs.Texts.{Text, isSameText};
 ghost use Rattle.spec_ntriples.specs.Dictionary.{vocabularyOf};
 ghost use Rattle.ntriples_bytes.specs.inside.Places.{HasText};
 ghost use Rattle.dictionary_bytes.specs.inside.Hashes.{hashFrom, hash};
@@ -75,7 +75,7 @@ pub fn text_hash(line: &[u8], from: usize, end: usize) -> u64
 pub fn is_text(line: &[u8], from: usize, end: usize, text: &[u8], at: usize, n: usize) -> bool
     requires { ⌜ IsToken (now line) from end ⌝ }
     requires { ⌜ at + n ≤ length (now text) ⌝ }
-    ensures { λ r. ⌜ ((t : Text) → HasText (now (line .entry)) from end t → r ≡ isSame (t .bytes) (take n (drop at (now (text .entry))))) ⌝ }
+    ensures { λ r. ⌜ ((t : Text) → HasText (now (line .entry)) from end t → r ≡ isSameText (t .bytes) (take n (drop at (now (text .entry))))) ⌝ }
 {
     let mut c = Cursor {
         place: from,

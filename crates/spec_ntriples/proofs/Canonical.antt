@@ -13,7 +13,7 @@ use Rattle.spec.proofs.Ascending.{and-left, and-right}
 use Rattle.spec_ntriples.specs.Utf8.{isScalar}
 use Rattle.spec_ntriples.specs.computed.Decoded.{Decoded, broken, decoded, decode}
 use Rattle.spec_ntriples.specs.Characters.{codes}
-use Rattle.spec_ntriples.specs.Texts.{Text, isSame, iriText, blankText, stringText, taggedText, xsdString, typedText, TextTriple}
+use Rattle.spec_ntriples.specs.Texts.{Text, isSameText, iriText, blankText, stringText, taggedText, xsdString, typedText, TextTriple}
 use Rattle.spec_ntriples.specs.computed.Lines.{Read, nothing, read, readObject, triples, document}
 use Rattle.spec_ntriples.specs.Dictionary.{kindOf}
 use Rattle.spec_ntriples.specs.computed.Canonical.{isNone, givesItself, decodesToItself, isCanonical}
@@ -26,15 +26,15 @@ use Rattle.spec_ntriples.proofs.Respelling.{all-front, all-back, respel
 
 -- ---- the same bytes
 
-pub same-bytes : (a b : List ℕ) → isSame a b ≡ true → a ≡ b
-unfolding isSame
+pub same-bytes : (a b : List ℕ) → isSameText a b ≡ true → a ≡ b
+unfolding isSameText
 same-bytes [] [] e = refl
 same-bytes [] (y ∷ b) e = absurd (true-not-false (sym e))
 same-bytes (x ∷ a) [] e = absurd (true-not-false (sym e))
-same-bytes (x ∷ a) (y ∷ b) e = rw (eqb-true x y (and-left _ (isSame a b) e), same-bytes a b (and-right (eqb x y) _ e))
+same-bytes (x ∷ a) (y ∷ b) e = rw (eqb-true x y (and-left _ (isSameText a b) e), same-bytes a b (and-right (eqb x y) _ e))
 
-pub same-itself : (a : List ℕ) → isSame a a ≡ true
-unfolding isSame
+pub same-itself : (a : List ℕ) → isSameText a a ≡ true
+unfolding isSameText
 same-itself [] = refl
 same-itself (x ∷ a) = rw (eq-eqb x x refl) (same-itself a)
 
@@ -146,7 +146,7 @@ means-kind u t (Means.iri cs I e) = rw e
 means-kind u t (Means.blank ls m s e) = rw e
 means-kind u t (Means.plain cs Q e) = rw e
 means-kind u t (Means.tagged string cs w ls s Q m n e) = rw e
-means-kind u t (Means.typed string cs w w' type ds s Q m n I e) = rw e (by-test (isSame (iriText ds) xsdString) (λ p. rw p) (λ p. rw p))
+means-kind u t (Means.typed string cs w w' type ds s Q m n I e) = rw e (by-test (isSameText (iriText ds) xsdString) (λ p. rw p) (λ p. rw p))
 
 pub text-kind : (cs : List ℕ) (t : Text) (rest : List ℕ) → readObject cs ≡ read t rest → kindOf (t .bytes) ≡ t .kind
 text-kind cs t rest e = let i = object-read cs t rest e in means-kind (i .term) t (i .means)

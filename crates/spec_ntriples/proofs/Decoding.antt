@@ -1,4 +1,4 @@
--- Bytes are UTF-8 exactly where they encode scalar values (decode-encode, at the end). Assumes nothing.
+-- Bytes are UTF-8 exactly where they utf8 scalar values (decode-encode, at the end). Assumes nothing.
 use Prim.Native.Nat.{ℕ, suc, _+_, _-_, _*_, _/_, _%_, _≤_, _<_}
 use mathlib.Core.Path.{_≡_, refl, sym, ap, _∙_}
 use mathlib.Core.Bool.{Bool, true, false, cond}
@@ -10,7 +10,7 @@ use borrow.Author.Tests.{ltb-true, ltb-false, leb-true, eqb-true, eqb-false, lt-
 use Rattle.spec.specs.Lists.{all}
 use Rattle.spec.proofs.Lists.{cond-elim, by-test}
 use Rattle.spec.proofs.Ascending.{and-left, and-right}
-use Rattle.spec_ntriples.specs.Utf8.{isBetween, isScalar, encodeChar, encode}
+use Rattle.spec_ntriples.specs.Utf8.{isBetween, isScalar, encodeChar, utf8}
 use Rattle.spec_ntriples.specs.computed.Decoded.{Decoded, broken, decoded, withChar, Due, bad, due, firstByte, furtherByte, nextByte, noByte, decodeFrom, decode}
 
 -- ---- decoded characters
@@ -317,15 +317,15 @@ decode-char c r s =
 -- ---- the theorem
 
 -- Characters that were encoded are read again, whatever bytes follow.
-pub decode-append : (cs bs ds : List ℕ) → all isScalar cs ≡ true → decode bs ≡ decoded ds → decode (encode cs ++ bs) ≡ decoded (cs ++ ds)
-unfolding encode all withChar
+pub decode-append : (cs bs ds : List ℕ) → all isScalar cs ≡ true → decode bs ≡ decoded ds → decode (utf8 cs ++ bs) ≡ decoded (cs ++ ds)
+unfolding utf8 all withChar
 decode-append [] bs ds s e = e
 decode-append (c ∷ cs) bs ds s e =
-    rw (append-assoc (encodeChar c) (encode cs) bs, decode-char c (encode cs ++ bs) (and-left _ (all isScalar cs) s), decode-append cs bs ds (and-right (isScalar c) _ s) e)
+    rw (append-assoc (encodeChar c) (utf8 cs) bs, decode-char c (utf8 cs ++ bs) (and-left _ (all isScalar cs) s), decode-append cs bs ds (and-right (isScalar c) _ s) e)
 
 -- Bytes that are read are those of the characters, which are scalar values.
-pub decoded-encode : (cs bs : List ℕ) → decode bs ≡ decoded cs → (all isScalar cs ≡ true) × (bs ≡ encode cs)
-unfolding decode all encode
+pub decoded-encode : (cs bs : List ℕ) → decode bs ≡ decoded cs → (all isScalar cs ≡ true) × (bs ≡ utf8 cs)
+unfolding decode all utf8
 decoded-encode [] [] e = (refl, refl)
 decoded-encode [] (b ∷ bs) e = let f = first b bs [] e in nil-cons (sym (f .same))
 decoded-encode (c ∷ cs) [] e = nil-not e
@@ -337,7 +337,7 @@ decoded-encode (c ∷ cs) (b ∷ bs) e =
     (rw (← p, f .scalar) (r .0), f .bytes ∙ rw (p, r .1))
 
 -- Bytes are the UTF-8 of characters exactly where these are Unicode scalar values and the bytes are their encoding.
-pub decode-encode : (bs cs : List ℕ) → (decode bs ≡ decoded cs) ↔ ((all isScalar cs ≡ true) × (bs ≡ encode cs))
+pub decode-encode : (bs cs : List ℕ) → (decode bs ≡ decoded cs) ↔ ((all isScalar cs ≡ true) × (bs ≡ utf8 cs))
 unfolding decode
 decode-encode bs cs =
-    (decoded-encode cs bs, λ h. rw (h .1) (rw (append-nil (encode cs), append-nil cs) at (decode-append cs [] [] (h .0) refl)))
+    (decoded-encode cs bs, λ h. rw (h .1) (rw (append-nil (utf8 cs), append-nil cs) at (decode-append cs [] [] (h .0) refl)))

@@ -10,7 +10,7 @@ use borrow.Author.Tests.{eqb-true, eqb-false, eq-eqb, ne-eqb}
 use Rattle.spec.proofs.Lists.{by-test, true-not-false}
 use Rattle.spec.proofs.Ascending.{and-left, and-right}
 use Rattle.spec.specs.inside.Each.{Each}
-use Rattle.spec_ntriples.specs.Texts.{isSame}
+use Rattle.spec_ntriples.specs.Texts.{isSameText}
 use Rattle.spec_ntriples.specs.Dictionary.{Entry, entry, vocabularyTexts, placeOf, vocabularyOf, termIn, termOf, firstNumber, nextNumber, nextTerm, kindOf, areNumbered, areTexts}
 use Rattle.spec_ntriples.specs.computed.Canonical.{isCanonical}
 use Rattle.spec_ntriples.specs.Sights.{isAmong, firstSights, knownTexts}
@@ -33,20 +33,20 @@ not-zero n h = ne-eqb n 0 (λ (e : n ≡ 0). omega (arith, h, e))
 among-append : (t : List ℕ) (us vs : List (List ℕ)) → isAmong t (us ++ vs) ≡ (isAmong t us || isAmong t vs)
 unfolding isAmong
 among-append t [] vs = refl
-among-append t (u ∷ us) vs = by-test (isSame t u) (λ p. rw p) (λ p. rw p (among-append t us vs))
+among-append t (u ∷ us) vs = by-test (isSameText t u) (λ p. rw p) (λ p. rw p (among-append t us vs))
 
 -- A text has a place exactly where it is among some.
 place-among : (t : List ℕ) (us : List (List ℕ)) → eqb (placeOf t us) 0 ≡ not (isAmong t us)
 unfolding placeOf isAmong
 place-among t [] = refl
 place-among t (u ∷ us) =
-    by-test (isSame t u) (λ p. rw p)
+    by-test (isSameText t u) (λ p. rw p)
     (λ p. by-test (eqb (placeOf t us) 0) (λ q. rw (p, q) (sym q ∙ place-among t us)) (λ q. rw (p, q) (eqb·suc-zero (placeOf t us) ∙ sym q ∙ place-among t us)))
 
 term-among : (t : List ℕ) (es : List Entry) → Each HasTerm es → eqb (termIn es t) 0 ≡ not (isAmong t (map (λ (e : Entry). e .text) es))
 unfolding termIn isAmong
 term-among t [] h = refl
-term-among t (e ∷ es) h = by-test (isSame t (e .text)) (λ p. rw p (not-zero (e .term) (h .0))) (λ p. rw p (term-among t es (h .1)))
+term-among t (e ∷ es) h = by-test (isSameText t (e .text)) (λ p. rw p (not-zero (e .term) (h .0))) (λ p. rw p (term-among t es (h .1)))
 
 -- A text has no term exactly where it is not known.
 pub known-term : (t : List ℕ) (es : List Entry) → Each HasTerm es → eqb (termOf es t) 0 ≡ not (isAmong t (knownTexts es))
@@ -62,7 +62,7 @@ term-in-more : (t : List ℕ) (es fs : List Entry) → 0 < termIn es t → termI
 unfolding termIn
 term-in-more t [] fs h = absurd (omega (arith, h))
 term-in-more t (e ∷ es) fs h =
-    by-test (isSame t (e .text)) (λ p. rw p) (λ p. rw p (term-in-more t es fs (rw p at h)))
+    by-test (isSameText t (e .text)) (λ p. rw p) (λ p. rw p (term-in-more t es fs (rw p at h)))
 
 pub term-more : (t : List ℕ) (es fs : List Entry) → 0 < termOf es t → termOf (es ++ fs) t ≡ termOf es t
 unfolding termOf
@@ -73,7 +73,7 @@ pub term-in-added : (t : List ℕ) (es fs : List Entry) → Each HasTerm es → 
 unfolding termIn
 term-in-added t [] fs h q = refl
 term-in-added t (e ∷ es) fs h q =
-    by-test (isSame t (e .text))
+    by-test (isSameText t (e .text))
     (λ p. let z : e .term ≡ 0 = rw p at q in absurd (omega (arith, z, h .0)))
     (λ p. rw p (term-in-added t es fs (h .1) (rw p at q)))
 
@@ -173,14 +173,14 @@ new-term : (es : List Entry) (t : List ℕ) → termIn (nextEntry es t ∷ []) t
 unfolding termIn
 new-term es t = rw (same-itself t)
 
-none-same : (t : List ℕ) (e : Entry) → isSame t (e .text) ≡ false → termIn (e ∷ []) t ≡ 0
+none-same : (t : List ℕ) (e : Entry) → isSameText t (e .text) ≡ false → termIn (e ∷ []) t ≡ 0
 unfolding termIn
 none-same t e h = rw h
 
-not-same : (x : Entry) (es : List Entry) (t : List ℕ) → HasTerm x → eqb (termIn (x ∷ es) t) 0 ≡ true → isSame t (x .text) ≡ false
+not-same : (x : Entry) (es : List Entry) (t : List ℕ) → HasTerm x → eqb (termIn (x ∷ es) t) 0 ≡ true → isSameText t (x .text) ≡ false
 unfolding termIn
 not-same x es t h i =
-    by-test (isSame t (x .text)) (λ p. let z : eqb (x .term) 0 ≡ true = rw p at i in absurd (true-not-false (sym z ∙ not-zero (x .term) h))) (λ p. p)
+    by-test (isSameText t (x .text)) (λ p. let z : eqb (x .term) 0 ≡ true = rw p at i in absurd (true-not-false (sym z ∙ not-zero (x .term) h))) (λ p. p)
 
 has-added : (es : List Entry) (t : List ℕ) → Each HasTerm es → Each HasTerm (addText es t)
 unfolding addText
@@ -223,7 +223,7 @@ texts-next (x ∷ es) e h a c v i =
     let h1 : (a1 && (a2 && areTexts es)) ≡ true = and-right a0 (a1 && (a2 && areTexts es)) a in
     let h2 : (a2 && areTexts es) ≡ true = and-right a1 (a2 && areTexts es) h1 in
     let n = not-same x es (e .text) (h .0) i in
-    let m : isSame (x .text) (e .text) ≡ false = by-test (isSame (x .text) (e .text)) (λ p. absurd (true-not-false (sym (rw (same-bytes (x .text) (e .text) p) (same-itself (e .text))) ∙ n))) (λ p. p) in
+    let m : isSameText (x .text) (e .text) ≡ false = by-test (isSameText (x .text) (e .text)) (λ p. absurd (true-not-false (sym (rw (same-bytes (x .text) (e .text) p) (same-itself (e .text))) ∙ n))) (λ p. p) in
     let q : termIn (es ++ (e ∷ [])) (x .text) ≡ 0 = term-in-added (x .text) es (e ∷ []) (h .1) (eqb-true (termIn es (x .text)) 0 (and-left a2 (areTexts es) h2)) ∙ none-same (x .text) e m in
     rw (and-left a0 (a1 && (a2 && areTexts es)) a, and-left a1 (a2 && areTexts es) h1, q)
     (texts-next es e (h .1) (and-right a2 (areTexts es) h2) c v (rw n at i))

@@ -4,7 +4,7 @@ use mathlib.Core.Path.{_≡_, refl, sym, ap, _∙_}
 use mathlib.Core.List.{List, [], _∷_, _++_, map, append-assoc}
 use lib.ListN.{length}
 use Rattle.spec.specs.declared.Triple.{Triple}
-use Rattle.spec_ntriples.specs.Utf8.{isScalar, encodeChar, encode}
+use Rattle.spec_ntriples.specs.Utf8.{isScalar, encodeChar, utf8}
 use Rattle.spec_ntriples.specs.computed.Decoded.{withChar, decoded, decode}
 use Rattle.spec_ntriples.specs.Characters.{codes, isOneOf}
 use Rattle.spec_ntriples.specs.Texts.{TextTriple}
@@ -91,8 +91,8 @@ newline b ds h = decode-char 10 b refl ∙ ap (withChar 10) h
 file-then : (a b : List ℕ) (ts us : List TextTriple) → FileSays a ts → FileSays b us → FileSays (a ++ (10 ∷ b)) (ts ++ us)
 file-then a b ts us F G =
     let d : decode b ≡ decoded (G .chars) = decode-encode b (G .chars) .1 (G .scalar, G .encoded) in
-    let e : decode (encode (F .chars) ++ (10 ∷ b)) ≡ decoded (F .chars ++ (10 ∷ G .chars)) = decode-append (F .chars) (10 ∷ b) (10 ∷ G .chars) (F .scalar) (newline b (G .chars) d) in
-    let u = decode-encode (encode (F .chars) ++ (10 ∷ b)) (F .chars ++ (10 ∷ G .chars)) .0 e in
+    let e : decode (utf8 (F .chars) ++ (10 ∷ b)) ≡ decoded (F .chars ++ (10 ∷ G .chars)) = decode-append (F .chars) (10 ∷ b) (10 ∷ G .chars) (F .scalar) (newline b (G .chars) d) in
+    let u = decode-encode (utf8 (F .chars) ++ (10 ∷ b)) (F .chars ++ (10 ∷ G .chars)) .0 e in
     record {
       chars = F .chars ++ (10 ∷ G .chars);
       scalar = u .0;

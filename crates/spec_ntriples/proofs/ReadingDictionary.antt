@@ -7,8 +7,8 @@ use native.Mathlib.Omega.{arith}
 use lib.ListN.{length}
 use Rattle.spec.proofs.Ascending.{and-left, and-right}
 use Rattle.spec.specs.inside.Each.{Each}
-use Rattle.spec_ntriples.specs.Texts.{Text, isSame, TextTriple}
-use Rattle.spec_ntriples.specs.Dictionary.{Entry, entriesBytes, dictionaryBytes, entries, termOf, kindOf, areNumbered, areNumbersEnough, areTexts, isDictionary}
+use Rattle.spec_ntriples.specs.Texts.{Text, isSameText, TextTriple}
+use Rattle.spec_ntriples.specs.Dictionary.{Entry, bytesOfEntries, dictionaryBytes, entries, termOf, kindOf, areNumbered, areNumbersEnough, areTexts, isDictionary}
 use Rattle.spec_ntriples.specs.computed.Canonical.{isCanonical}
 use Rattle.spec_ntriples.specs.Reading.{withText, withTexts, withAll, concludeReading, readNTriples}
 use Rattle.spec_ntriples.specs.Sights.{tripleTexts, fileTexts, firstSights, knownTexts}
@@ -45,7 +45,7 @@ and-both a b h k = rw (h, k)
 
 -- What question 1 asks, one by one.
 pub record Formed (bs : List ℕ) : Type 0 where
-  pub same : isSame (dictionaryBytes (length bs) (entries bs)) bs ≡ true
+  pub same : isSameText (dictionaryBytes (length bs) (entries bs)) bs ≡ true
   pub numbered : areNumbered [] (entries bs) ≡ true
   pub numbers : areNumbersEnough (entries bs) ≡ true
   pub texts : areTexts (entries bs) ≡ true
@@ -53,7 +53,7 @@ pub record Formed (bs : List ℕ) : Type 0 where
 pub formed : (bs : List ℕ) → isDictionary bs ≡ true → Formed bs
 unfolding isDictionary
 formed bs h =
-    let a = isSame (dictionaryBytes (length bs) (entries bs)) bs in
+    let a = isSameText (dictionaryBytes (length bs) (entries bs)) bs in
     let b = areNumbered [] (entries bs) in
     let c = areNumbersEnough (entries bs) in
     let d = areTexts (entries bs) in
@@ -62,7 +62,7 @@ formed bs h =
     record { same = and-left a (b && (c && d)) h; numbered = and-left b (c && d) i; numbers = and-left c d j; texts = and-right c d j }
 
 -- Entries that are right and fit make a dictionary.
-pub is-dictionary : (len : ℕ) (es : List Entry) → length (entriesBytes es) ≤ len → entries (dictionaryBytes len es) ≡ es → areNumbered [] es ≡ true → areNumbersEnough es ≡ true → areTexts es ≡ true → isDictionary (dictionaryBytes len es) ≡ true
+pub is-dictionary : (len : ℕ) (es : List Entry) → length (bytesOfEntries es) ≤ len → entries (dictionaryBytes len es) ≡ es → areNumbered [] es ≡ true → areNumbersEnough es ≡ true → areTexts es ≡ true → isDictionary (dictionaryBytes len es) ≡ true
 unfolding isDictionary
 is-dictionary len es s e n c t =
     rw (dictionary-length len es s, e, same-itself (dictionaryBytes len es), n, c, t)

@@ -20,7 +20,7 @@ use Rattle.spec.specs.Messages as format
 use Rattle.spec_ntriples.specs.declared.ByteReply.the-variants.{Length, Refused}
 use Rattle.spec_ntriples.specs.Texts.{TextTriple}
 use Rattle.spec_ntriples.specs.computed.Lines.{Document, refused, triples, document}
-use Rattle.spec_ntriples.specs.Dictionary.{Entry, entriesBytes, areNumbersEnough, isDictionary}
+use Rattle.spec_ntriples.specs.Dictionary.{Entry, bytesOfEntries, areNumbersEnough, isDictionary}
 use Rattle.spec_ntriples.specs.Reading.{tripleOf, additions, textTriples, isRight, ReadFile, readFile, concludeReading, readNTriples}
 use Rattle.spec_ntriples.specs.Promises.{entriesWith, RefusedBy, Accepted}
 
@@ -87,15 +87,15 @@ module _ (dictionary file : List ℕ) (len : ℕ) where
   by-13 h d = rw (h, d)
 
   module _ (ts : List TextTriple) (h : isDictionary dictionary ≡ true) (d : document file ≡ triples ts) where
-    by-14 : (leb (length (entriesBytes (entriesWith dictionary ts))) (length dictionary) && areNumbersEnough (entriesWith dictionary ts)) ≡ false → readNTriples dictionary file len ≡ refusal 14
+    by-14 : (leb (length (bytesOfEntries (entriesWith dictionary ts))) (length dictionary) && areNumbersEnough (entriesWith dictionary ts)) ≡ false → readNTriples dictionary file len ≡ refusal 14
     unfolding readNTriples firstRefusal concludeReading isRight textTriples
     by-14 f = rw (h, d, f)
 
-    by-15 : (leb (length (entriesBytes (entriesWith dictionary ts))) (length dictionary) && areNumbersEnough (entriesWith dictionary ts)) ≡ true → leb (10 + 12 * length ts) (min len mostBytes) ≡ false → readNTriples dictionary file len ≡ refusal 15
+    by-15 : (leb (length (bytesOfEntries (entriesWith dictionary ts))) (length dictionary) && areNumbersEnough (entriesWith dictionary ts)) ≡ true → leb (10 + 12 * length ts) (min len mostBytes) ≡ false → readNTriples dictionary file len ≡ refusal 15
     unfolding readNTriples firstRefusal concludeReading isRight textTriples
     by-15 f g = rw (h, d, f, g)
 
-    by-none : (leb (length (entriesBytes (entriesWith dictionary ts))) (length dictionary) && areNumbersEnough (entriesWith dictionary ts)) ≡ true → leb (10 + 12 * length ts) (min len mostBytes) ≡ true → readNTriples dictionary file len ≡ concludeReading 0 dictionary (entriesWith dictionary ts) (map (tripleOf (entriesWith dictionary ts)) ts) len
+    by-none : (leb (length (bytesOfEntries (entriesWith dictionary ts))) (length dictionary) && areNumbersEnough (entriesWith dictionary ts)) ≡ true → leb (10 + 12 * length ts) (min len mostBytes) ≡ true → readNTriples dictionary file len ≡ concludeReading 0 dictionary (entriesWith dictionary ts) (map (tripleOf (entriesWith dictionary ts)) ts) len
     unfolding readNTriples firstRefusal isRight textTriples
     by-none f g = rw (h, d, f, g)
 
@@ -124,9 +124,9 @@ module _ (dictionary file : List ℕ) (len : ℕ) where
       rw (accepted-is n A)
       (ap Length (additions-length (map (tripleOf es) (A .lines)) ∙ ap (λ (m : ℕ). 10 + 12 * m) (length-map (tripleOf es) (A .lines)) ∙ sym (A .size)))
 
-  in-room : (ts : List TextTriple) → isDictionary dictionary ≡ true → document file ≡ triples ts → length (entriesBytes (entriesWith dictionary ts)) ≤ length dictionary → areNumbersEnough (entriesWith dictionary ts) ≡ true → Refusal ⊎ Acceptance
+  in-room : (ts : List TextTriple) → isDictionary dictionary ≡ true → document file ≡ triples ts → length (bytesOfEntries (entriesWith dictionary ts)) ≤ length dictionary → areNumbersEnough (entriesWith dictionary ts) ≡ true → Refusal ⊎ Acceptance
   in-room ts h d s e =
-      let f : (leb (length (entriesBytes (entriesWith dictionary ts))) (length dictionary) && areNumbersEnough (entriesWith dictionary ts)) ≡ true = rw (le-leb _ _ s, e) in
+      let f : (leb (length (bytesOfEntries (entriesWith dictionary ts))) (length dictionary) && areNumbersEnough (entriesWith dictionary ts)) ≡ true = rw (le-leb _ _ s, e) in
       by-test (leb (10 + 12 * length ts) (min len mostBytes))
       (λ p.
       let A : Accepted dictionary file len (10 + 12 * length ts) = record { lines = ts; formed = h; said = d; space = s; numbers = e; room = leb-true _ _ p; size = refl } in
@@ -136,7 +136,7 @@ module _ (dictionary file : List ℕ) (len : ℕ) where
   in-space : (ts : List TextTriple) → isDictionary dictionary ≡ true → document file ≡ triples ts → Refusal ⊎ Acceptance
   in-space ts h d =
       let es : List Entry = entriesWith dictionary ts in
-      by-test (leb (length (entriesBytes es)) (length dictionary))
+      by-test (leb (length (bytesOfEntries es)) (length dictionary))
       (λ p.
       by-test (areNumbersEnough es)
       (λ q. in-room ts h d (leb-true _ _ p) q)
@@ -158,7 +158,7 @@ module _ (dictionary file : List ℕ) (len : ℕ) where
   refused-by n (RefusedBy.no-dictionary e h) = rw e (by-1 h)
   refused-by n (RefusedBy.wrong-line e h d) = rw e (by-13 h d)
   refused-by n (RefusedBy.no-space e h ts d s) = rw e (by-14 ts h d (rw (lt-leb _ _ s)))
-  refused-by n (RefusedBy.no-number e h ts d q) = rw e (by-14 ts h d (and-no (leb (length (entriesBytes (entriesWith dictionary ts))) (length dictionary)) (areNumbersEnough (entriesWith dictionary ts)) q))
+  refused-by n (RefusedBy.no-number e h ts d q) = rw e (by-14 ts h d (and-no (leb (length (bytesOfEntries (entriesWith dictionary ts))) (length dictionary)) (areNumbersEnough (entriesWith dictionary ts)) q))
   refused-by n (RefusedBy.no-room e h ts d s q r) = rw e (by-15 ts h d (rw (le-leb _ _ s, q)) (lt-leb _ _ r))
 
   -- Theorem 4: a reading is refused by n exactly where n is the number of the first "no" of 1, 13, 14 and 15.

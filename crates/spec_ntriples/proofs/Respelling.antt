@@ -13,9 +13,9 @@ use Rattle.spec.specs.Lists.{all}
 use Rattle.spec.proofs.Lists.{cond-elim, by-test, or-cases}
 use Rattle.spec.proofs.Ascending.{and-left, and-right}
 use Rattle.spec.proofs.TableAll.{all-append}
-use Rattle.spec_ntriples.specs.Utf8.{isBetween, isScalar, encodeChar, encode}
+use Rattle.spec_ntriples.specs.Utf8.{isBetween, isScalar, encodeChar, utf8}
 use Rattle.spec_ntriples.specs.Characters.{codes, isOneOf, isLetter, isDigit, isLetterOrDigit, isIriChar, isStringChar, echar}
-use Rattle.spec_ntriples.specs.Texts.{lowerChar, Text, text, isSame, iriText, blankText, canonicalChar, canonicalChars, stringText, taggedText, xsdString, typedText}
+use Rattle.spec_ntriples.specs.Texts.{lowerChar, Text, text, isSameText, iriText, blankText, canonicalChar, canonicalChars, stringText, taggedText, xsdString, typedText}
 use Rattle.spec_ntriples.specs.Expressions.{Expression, Matches, Repeated, set, exactly, _then_, _or_, many}
 use Rattle.spec_ntriples.specs.Productions.{LANGTAG}
 use Rattle.spec_ntriples.specs.Meaning.{IriPiece, StringPiece, Resolves, Iri, Quoted, Means}
@@ -23,14 +23,14 @@ use Rattle.spec_ntriples.proofs.Escapes.{within, above, each-one}
 
 -- ---- bytes of characters
 
-pub encode-append : (a b : List ℕ) → encode (a ++ b) ≡ encode a ++ encode b
-unfolding encode
+pub encode-append : (a b : List ℕ) → utf8 (a ++ b) ≡ utf8 a ++ utf8 b
+unfolding utf8
 encode-append [] b = refl
-encode-append (c ∷ a) b = rw (encode-append a b) (sym (append-assoc (encodeChar c) (encode a) (encode b)))
+encode-append (c ∷ a) b = rw (encode-append a b) (sym (append-assoc (encodeChar c) (utf8 a) (utf8 b)))
 
 -- Characters of ASCII are their bytes.
-pub encode-ascii : (cs : List ℕ) → all (λ c. ltb c 0x80) cs ≡ true → encode cs ≡ cs
-unfolding encode encodeChar all
+pub encode-ascii : (cs : List ℕ) → all (λ c. ltb c 0x80) cs ≡ true → utf8 cs ≡ cs
+unfolding utf8 encodeChar all
 encode-ascii [] h = refl
 encode-ascii (c ∷ cs) h =
     let p : ltb c 0x80 ≡ true = and-left (ltb c 0x80) (all (λ c. ltb c 0x80) cs) h in
@@ -167,10 +167,10 @@ pub record Respelled (Spells : List ℕ → Type 0) (bytes : List ℕ) : Type 0 
   pub chars : List ℕ
   pub spells : Spells chars
   pub scalar : all isScalar chars ≡ true
-  pub same : bytes ≡ encode chars
+  pub same : bytes ≡ utf8 chars
 
 respell-iri : (u cs : List ℕ) → all isScalar u ≡ true → Iri u cs → Respelled (λ v. Iri v cs) (iriText cs)
-unfolding codes all isScalar iriText encode encodeChar
+unfolding codes all isScalar iriText utf8 encodeChar
 respell-iri u cs h I =
     let k = all-front isScalar (I .inside) (codes ">") (all-back isScalar (codes "<") (I .inside ++ codes ">") (rw (I .spelled) at h)) in
     let c = iri-chars (I .inside) cs k (I .resolved) in
@@ -213,8 +213,8 @@ respelled-scalar c h =
     (λ q. cond-elim (λ p. all isScalar p ≡ true) (eqb c 0x0A) (λ r. refl)
     (λ r. cond-elim (λ p. all isScalar p ≡ true) (eqb c 0x0D) (λ s. refl) (λ s. all-single isScalar c h))))
 
-respelled-bytes : (c : ℕ) → canonicalChar c ≡ encode (respellChar c)
-unfolding respellChar canonicalChar codes encode encodeChar
+respelled-bytes : (c : ℕ) → canonicalChar c ≡ utf8 (respellChar c)
+unfolding respellChar canonicalChar codes utf8 encodeChar
 respelled-bytes c =
     by-test (eqb c 0x22) (λ p. rw p)
     (λ p. by-test (eqb c 0x5C) (λ q. rw (p, q))
@@ -254,13 +254,13 @@ respell-scalar [] h = refl
 respell-scalar (c ∷ cs) h =
     all-append isScalar (respellChar c) (respell cs) (respelled-scalar c (and-left _ (all isScalar cs) h)) (respell-scalar cs (and-right (isScalar c) _ h))
 
-respell-bytes : (cs : List ℕ) → canonicalChars cs ≡ encode (respell cs)
-unfolding respell canonicalChars encode
+respell-bytes : (cs : List ℕ) → canonicalChars cs ≡ utf8 (respell cs)
+unfolding respell canonicalChars utf8
 respell-bytes [] = refl
 respell-bytes (c ∷ cs) = rw (respelled-bytes c, respell-bytes cs) (sym (encode-append (respellChar c) (respell cs)))
 
 respell-string : (u cs : List ℕ) → all isScalar u ≡ true → Quoted u cs → Respelled (λ v. Quoted v cs) (stringText cs)
-unfolding codes all isScalar stringText encode encodeChar
+unfolding codes all isScalar stringText utf8 encodeChar
 respell-string u cs h Q =
     let k = all-front isScalar (Q .inside) (codes "\"") (all-back isScalar (codes "\"") (Q .inside ++ codes "\"") (rw (Q .spelled) at h)) in
     record {
@@ -290,32 +290,32 @@ respell-tagged string cs ls t h Q m e =
       chars = q .chars ++ (codes "@" ++ l);
       spells = Means.tagged (q .chars) cs [] l refl (q .spells) (Repeated.end refl) n (e ∙ ap (λ x. text 2 (taggedText (stringText cs) x)) (sym (lower-twice ls)));
       scalar = all-append isScalar (q .chars) (codes "@" ++ l) (q .scalar) (ascii-scalar (codes "@" ++ l) a);
-      same = ap (λ (x : Text). x .bytes) e ∙ ap (λ x. x ++ (codes "@" ++ l)) (q .same) ∙ ap (λ x. encode (q .chars) ++ x) (sym (encode-ascii (codes "@" ++ l) a)) ∙ sym (encode-append (q .chars) (codes "@" ++ l));
+      same = ap (λ (x : Text). x .bytes) e ∙ ap (λ x. x ++ (codes "@" ++ l)) (q .same) ∙ ap (λ x. utf8 (q .chars) ++ x) (sym (encode-ascii (codes "@" ++ l) a)) ∙ sym (encode-append (q .chars) (codes "@" ++ l));
     }
 
 respell-typed : (string cs type ds : List ℕ) (t : Text) → all isScalar string ≡ true → all isScalar type ≡ true → Quoted string cs → Iri type ds → t ≡ text 2 (typedText (stringText cs) (iriText ds)) → Respelled (λ v. Means v t) (t .bytes)
-unfolding codes typedText encode encodeChar all isScalar
+unfolding codes typedText utf8 encodeChar all isScalar
 respell-typed string cs type ds t h k Q I e =
     let q = respell-string string cs h Q in
     let i = respell-iri type ds k I in
-    by-test (isSame (iriText ds) xsdString)
+    by-test (isSameText (iriText ds) xsdString)
     (λ p. let f : t ≡ text 2 (stringText cs) = e ∙ rw p in
     record { chars = q .chars; spells = Means.plain cs (q .spells) f; scalar = q .scalar; same = ap (λ (x : Text). x .bytes) f ∙ q .same })
     (λ p. record {
       chars = q .chars ++ (codes "^^" ++ i .chars);
       spells = Means.typed (q .chars) cs [] [] (i .chars) ds refl (q .spells) (Repeated.end refl) (Repeated.end refl) (i .spells) e;
       scalar = all-append isScalar (q .chars) (codes "^^" ++ i .chars) (q .scalar) (i .scalar);
-      same = ap (λ (x : Text). x .bytes) e ∙ rw p (ap (λ x. x ++ (codes "^^" ++ iriText ds)) (q .same) ∙ ap (λ x. encode (q .chars) ++ (codes "^^" ++ x)) (i .same) ∙ sym (encode-append (q .chars) (codes "^^" ++ i .chars)));
+      same = ap (λ (x : Text). x .bytes) e ∙ rw p (ap (λ x. x ++ (codes "^^" ++ iriText ds)) (q .same) ∙ ap (λ x. utf8 (q .chars) ++ (codes "^^" ++ x)) (i .same) ∙ sym (encode-append (q .chars) (codes "^^" ++ i .chars)));
     })
 
 -- A term has a spelling with the same meaning whose bytes are its text.
 pub respell-term : (u : List ℕ) (t : Text) → all isScalar u ≡ true → Means u t → Respelled (λ v. Means v t) (t .bytes)
-unfolding codes blankText encode encodeChar
+unfolding codes blankText utf8 encodeChar
 respell-term u t h (Means.iri cs I e) =
     let i = respell-iri u cs h I in
     record { chars = i .chars; spells = Means.iri cs (i .spells) e; scalar = i .scalar; same = ap (λ (x : Text). x .bytes) e ∙ i .same }
 respell-term u t h (Means.blank ls m s e) =
-    record { chars = u; spells = Means.blank ls m s e; scalar = h; same = ap (λ (x : Text). x .bytes) e ∙ ap encode (sym s) }
+    record { chars = u; spells = Means.blank ls m s e; scalar = h; same = ap (λ (x : Text). x .bytes) e ∙ ap utf8 (sym s) }
 respell-term u t h (Means.plain cs Q e) =
     let q = respell-string u cs h Q in
     record { chars = q .chars; spells = Means.plain cs (q .spells) e; scalar = q .scalar; same = ap (λ (x : Text). x .bytes) e ∙ q .same }

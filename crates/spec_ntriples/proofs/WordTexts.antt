@@ -12,7 +12,7 @@ use Rattle.spec.proofs.Lists.{by-test}
 use Rattle.spec.proofs.Ascending.{and-left, and-right}
 use Rattle.spec.specs.inside.Each.{Each}
 use Rattle.spec_ntriples.specs.Characters.{codes}
-use Rattle.spec_ntriples.specs.Texts.{isSame}
+use Rattle.spec_ntriples.specs.Texts.{isSameText}
 use Rattle.spec_ntriples.specs.Dictionary.{Entry, vocabularyTexts, placeOf, vocabularyOf, termIn, termOf, firstNumber, nextNumber, nextTerm, kindOf, areNumbered}
 use Rattle.spec_ntriples.specs.Sights.{textIn, textOf}
 use Rattle.spec_ntriples.proofs.Canonical.{same-bytes}
@@ -34,7 +34,7 @@ found : (es : List Entry) (t : List ℕ) → 0 < termIn es t → Found es t
 unfolding termIn
 found [] t h = absurd (omega (arith, h))
 found (e ∷ es) t h =
-    by-test (isSame t (e .text))
+    by-test (isSameText t (e .text))
     (λ p. record { before = []; here = e; after = es; split = refl; text = sym (same-bytes t (e .text) p); term = rw p })
     (λ p.
     let f = found es t (rw p at h) in
@@ -73,7 +73,7 @@ place-text : (t : List ℕ) (us : List (List ℕ)) (n : ℕ) → placeOf t us �
 unfolding placeOf
 place-text t [] n h = absurd (omega (arith, h))
 place-text t (u ∷ us) n h =
-    by-test (isSame t u)
+    by-test (isSameText t u)
     (λ p. let z : 1 ≡ suc n = rw p at h in let m : n ≡ 0 = omega (arith, z) in rw m (sym (same-bytes t u p)))
     (λ p.
     let g : cond (eqb (placeOf t us) 0) 0 (suc (placeOf t us)) ≡ suc n = rw p at h in
@@ -89,7 +89,7 @@ place-least : (t : List ℕ) (us : List (List ℕ)) → placeOf t us ≤ length 
 unfolding placeOf
 place-least t [] = omega arith
 place-least t (u ∷ us) =
-    by-test (isSame t u) (λ p. rw p (omega arith))
+    by-test (isSameText t u) (λ p. rw p (omega arith))
     (λ p. by-test (eqb (placeOf t us) 0) (λ q. rw (p, q) (omega arith)) (λ q. rw (p, q) (omega (arith, place-least t us))))
 
 vocabulary-kind : (n : ℕ) → n < 5 → kindOf (getD vocabularyTexts n []) ≡ 0

@@ -6,7 +6,7 @@ use mathlib.Core.Bool.{true, false}
 use mathlib.Core.List.{List, [], _∷_, _++_, map}
 use lib.ListN.{replicate}
 use Rattle.spec_ntriples.specs.declared.ByteReply.the-variants.{Length, Refused}
-use Rattle.spec_ntriples.specs.Utf8.{encode}
+use Rattle.spec_ntriples.specs.Utf8.{utf8}
 use Rattle.spec_ntriples.specs.computed.Decoded.{Decoded, broken, decoded, decode}
 use Rattle.spec_ntriples.specs.Characters.{codes}
 use Rattle.spec_ntriples.specs.Texts.{Text, text, TextTriple}
@@ -19,13 +19,13 @@ use Rattle.spec_ntriples.specs.inside.Compute.{compute}
 
 -- The text of a URI, a blank node or a literal.
 abbrev uri : String → Text
-uri s = text 0 (encode (codes s))
+uri s = text 0 (utf8 (codes s))
 
 abbrev blank : String → Text
-blank s = text 1 (encode (codes s))
+blank s = text 1 (utf8 (codes s))
 
 abbrev literal : String → Text
-literal s = text 2 (encode (codes s))
+literal s = text 2 (utf8 (codes s))
 
 -- A triple of texts.
 abbrev says : Text → Text → Text → TextTriple

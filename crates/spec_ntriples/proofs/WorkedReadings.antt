@@ -7,7 +7,7 @@ use lib.ListN.{replicate}
 use Rattle.spec_ntriples.specs.declared.ByteReply.the-variants.{Length}
 use Rattle.spec_ntriples.specs.Characters.{codes}
 use Rattle.spec_ntriples.specs.Texts.{text, TextTriple}
-use Rattle.spec_ntriples.specs.Dictionary.{entry, entriesBytes, dictionaryBytes}
+use Rattle.spec_ntriples.specs.Dictionary.{entry, bytesOfEntries, dictionaryBytes}
 use Rattle.spec_ntriples.specs.Reading.{readFile, readNTriples}
 use Rattle.spec_ntriples.specs.Sights.{firstSights, knownTexts, textOf}
 use Rattle.spec_ntriples.specs.Promises.{Accepted, Entered, Delivers}
@@ -74,6 +74,6 @@ unfolding compute
 texts-worked = refl
 
 -- An entry byte by byte: the term in 4 and the length in 8, the low byte first, then the text.
-pub entry-worked : entriesBytes (entry 0x40000102 (codes "_:b") ∷ []) ≡ 2 ∷ 1 ∷ 0 ∷ 64 ∷ 3 ∷ 0 ∷ 0 ∷ 0 ∷ 0 ∷ 0 ∷ 0 ∷ 0 ∷ 95 ∷ 58 ∷ 98 ∷ []
+pub entry-worked : bytesOfEntries (entry 0x40000102 (codes "_:b") ∷ []) ≡ 2 ∷ 1 ∷ 0 ∷ 64 ∷ 3 ∷ 0 ∷ 0 ∷ 0 ∷ 0 ∷ 0 ∷ 0 ∷ 0 ∷ 95 ∷ 58 ∷ 98 ∷ []
 unfolding compute
 entry-worked = refl

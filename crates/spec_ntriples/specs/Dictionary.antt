@@ -7,7 +7,7 @@ use lib.ListN.{length, getD, take, drop, replicate}
 use lib.Dec.{eqb, leb, ltb}
 use Rattle.spec.specs.Lists.{select}
 use Rattle.spec_ntriples.specs.Characters.{codes}
-use Rattle.spec_ntriples.specs.Texts.{isSame}
+use Rattle.spec_ntriples.specs.Texts.{isSameText}
 use Rattle.spec_ntriples.specs.computed.Canonical.{isCanonical}
 
 -- "An entry for each text": its term, and its bytes.
@@ -27,17 +27,17 @@ numberBytes zero n = []
 numberBytes (suc k) n = n % 256 ∷ numberBytes k (n / 256)
 
 -- "Term in 4 bytes, length in 8, little-endian, then the canonical text."
-unfoldable pub entryBytes : Entry → List ℕ
-entryBytes e = numberBytes 4 (e .term) ++ (numberBytes 8 (length (e .text)) ++ e .text)
+unfoldable pub bytesOfEntry : Entry → List ℕ
+bytesOfEntry e = numberBytes 4 (e .term) ++ (numberBytes 8 (length (e .text)) ++ e .text)
 
 -- "From byte 0", one entry behind the other.
-unfoldable pub entriesBytes : List Entry → List ℕ
-entriesBytes [] = []
-entriesBytes (e ∷ es) = entryBytes e ++ entriesBytes es
+unfoldable pub bytesOfEntries : List Entry → List ℕ
+bytesOfEntries [] = []
+bytesOfEntries (e ∷ es) = bytesOfEntry e ++ bytesOfEntries es
 
 -- "Zeros follow": the dictionary of len bytes that has some entries.
 unfoldable pub dictionaryBytes : ℕ → List Entry → List ℕ
-dictionaryBytes len es = entriesBytes es ++ replicate (len - length (entriesBytes es)) 0
+dictionaryBytes len es = bytesOfEntries es ++ replicate (len - length (bytesOfEntries es)) 0
 
 -- The number of little-endian bytes.
 unfoldable pub bytesNumber : List ℕ → ℕ
@@ -79,7 +79,7 @@ vocabularyTexts =
 -- The place of a text among some, from 1 on; 0 where it is not among them.
 unfoldable pub placeOf : List ℕ → List (List ℕ) → ℕ
 placeOf t [] = 0
-placeOf t (u ∷ us) = let r = placeOf t us in cond (isSame t u) 1 (cond (eqb r 0) 0 (suc r))
+placeOf t (u ∷ us) = let r = placeOf t us in cond (isSameText t u) 1 (cond (eqb r 0) 0 (suc r))
 
 -- The vocabulary URI with a text, 0 where there is none.
 abbrev pub vocabularyOf : List ℕ → ℕ
@@ -88,7 +88,7 @@ vocabularyOf t = placeOf t vocabularyTexts
 -- The term of a text among entries, 0 where none has it.
 unfoldable pub termIn : List Entry → List ℕ → ℕ
 termIn [] t = 0
-termIn (e ∷ es) t = cond (isSame t (e .text)) (e .term) (termIn es t)
+termIn (e ∷ es) t = cond (isSameText t (e .text)) (e .term) (termIn es t)
 
 -- The term of a text in a dictionary, 0 where it has none.
 unfoldable pub termOf : List Entry → List ℕ → ℕ
@@ -132,6 +132,6 @@ areTexts (e ∷ es) = isCanonical (e .text) && (eqb (vocabularyOf (e .text)) 0 &
 -- Question 1 for a dictionary: its bytes are those of its entries, "so numbered, its texts canonical, distinct and none of 1 to 5".
 unfoldable pub isDictionary : List ℕ → Bool
 isDictionary bs =
-    isSame (dictionaryBytes (length bs) (entries bs)) bs
+    isSameText (dictionaryBytes (length bs) (entries bs)) bs
     && (areNumbered [] (entries bs)
     && (areNumbersEnough (entries bs) && areTexts (entries bs)))

@@ -6,7 +6,7 @@ use mathlib.Core.Bool.{Bool, true, not}
 use mathlib.Core.List.{List, [], _∷_, _++_, map}
 use lib.ListN.{getD, drop}
 use Rattle.spec.specs.Lists.{all}
-use Rattle.spec_ntriples.specs.Utf8.{isScalar, encode}
+use Rattle.spec_ntriples.specs.Utf8.{isScalar, utf8}
 use Rattle.spec_ntriples.specs.Characters.{codes, isOneOf, isIriChar, isStringChar, hexValue, echar}
 use Rattle.spec_ntriples.specs.Texts.{lowerChar, Text, text, isAbsolute, iriText, blankText, stringText, taggedText, typedText, TextTriple}
 use Rattle.spec_ntriples.specs.Expressions.{Matches, optional}
@@ -140,5 +140,5 @@ pub data Says : List ℕ → List TextTriple → Type 0 where
 pub record FileSays (bytes : List ℕ) (ts : List TextTriple) : Type 0 where
   pub chars : List ℕ
   pub scalar : all isScalar chars ≡ true
-  pub encoded : bytes ≡ encode chars
+  pub encoded : bytes ≡ utf8 chars
   pub says : Says chars ts

@@ -13,7 +13,7 @@ use Rattle.spec.specs.Messages.{mostBytes}
 use Rattle.spec.specs.computed.Decoded.{read}
 use Rattle.spec_ntriples.specs.Texts.{TextTriple}
 use Rattle.spec_ntriples.specs.computed.Lines.{refused, triples, document}
-use Rattle.spec_ntriples.specs.Dictionary.{Entry, entriesBytes, entries, areNumbersEnough, areNumbered, isDictionary}
+use Rattle.spec_ntriples.specs.Dictionary.{Entry, bytesOfEntries, entries, areNumbersEnough, areNumbered, isDictionary}
 use Rattle.spec_ntriples.specs.Reading.{withAll}
 use Rattle.spec_ntriples.specs.Sights.{tripleTexts, fileTexts, firstSights, knownTexts, wordTexts}
 
@@ -29,13 +29,13 @@ pub data RefusedBy (dictionary file : List ℕ) (len n : ℕ) : Type 0 where
   wrong-line : n ≡ 13 → isDictionary dictionary ≡ true → document file ≡ refused → RefusedBy dictionary file len n
   no-space
       : n ≡ 14 → isDictionary dictionary ≡ true → (ts : List TextTriple) → document file ≡ triples ts
-      → length dictionary < length (entriesBytes (entriesWith dictionary ts)) → RefusedBy dictionary file len n
+      → length dictionary < length (bytesOfEntries (entriesWith dictionary ts)) → RefusedBy dictionary file len n
   no-number
       : n ≡ 14 → isDictionary dictionary ≡ true → (ts : List TextTriple) → document file ≡ triples ts → areNumbersEnough (entriesWith dictionary ts) ≡ false
       → RefusedBy dictionary file len n
   no-room
       : n ≡ 15 → isDictionary dictionary ≡ true → (ts : List TextTriple) → document file ≡ triples ts
-      → length (entriesBytes (entriesWith dictionary ts)) ≤ length dictionary → areNumbersEnough (entriesWith dictionary ts) ≡ true
+      → length (bytesOfEntries (entriesWith dictionary ts)) ≤ length dictionary → areNumbersEnough (entriesWith dictionary ts) ≡ true
       → min len mostBytes < 10 + 12 * length ts → RefusedBy dictionary file len n
 
 -- That a file is accepted, and its delivery has n bytes.
@@ -43,7 +43,7 @@ pub record Accepted (dictionary file : List ℕ) (len n : ℕ) : Type 0 where
   pub lines : List TextTriple
   pub formed : isDictionary dictionary ≡ true
   pub said : document file ≡ triples lines
-  pub space : length (entriesBytes (entriesWith dictionary lines)) ≤ length dictionary
+  pub space : length (bytesOfEntries (entriesWith dictionary lines)) ≤ length dictionary
   pub numbers : areNumbersEnough (entriesWith dictionary lines) ≡ true
   pub room : 10 + 12 * length lines ≤ min len mostBytes
   pub size : n ≡ 10 + 12 * length lines

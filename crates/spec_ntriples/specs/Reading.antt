@@ -14,7 +14,7 @@ use Rattle.spec_ntriples.specs.declared.ByteReply.{ByteReply}
 use Rattle.spec_ntriples.specs.declared.ByteReply.the-variants.{Length, Refused}
 use Rattle.spec_ntriples.specs.Texts.{Text, TextTriple}
 use Rattle.spec_ntriples.specs.computed.Lines.{Document, refused, triples, document}
-use Rattle.spec_ntriples.specs.Dictionary.{Entry, entry, entriesBytes, dictionaryBytes, entries, termOf, nextTerm, areNumbersEnough, isDictionary}
+use Rattle.spec_ntriples.specs.Dictionary.{Entry, entry, bytesOfEntries, dictionaryBytes, entries, termOf, nextTerm, areNumbersEnough, isDictionary}
 
 -- ---- terms
 
@@ -60,7 +60,7 @@ abbrev pub readingChecks : List ℕ → Document → List Entry → ℕ → List
 readingChecks dictionary d es len =
     (1, isDictionary dictionary)
     ∷ (13, isRight d)
-    ∷ (14, leb (length (entriesBytes es)) (length dictionary) && areNumbersEnough es)
+    ∷ (14, leb (length (bytesOfEntries es)) (length dictionary) && areNumbersEnough es)
     ∷ (15, leb (10 + 12 * length (textTriples d)) (min len mostBytes))
     ∷ []
 

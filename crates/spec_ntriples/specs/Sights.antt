@@ -6,7 +6,7 @@ use lib.ListN.{getD}
 use lib.Dec.{eqb}
 use Rattle.spec.specs.declared.Triple.{Triple}
 use Rattle.spec.specs.Terms.{isVocabulary}
-use Rattle.spec_ntriples.specs.Texts.{isSame, TextTriple}
+use Rattle.spec_ntriples.specs.Texts.{isSameText, TextTriple}
 use Rattle.spec_ntriples.specs.Dictionary.{Entry, vocabularyTexts}
 
 -- ---- texts in order of first sight
@@ -22,7 +22,7 @@ fileTexts ts = flatMap tripleTexts ts
 -- Whether a text is among some.
 unfoldable pub isAmong : List ℕ → List (List ℕ) → Bool
 isAmong t [] = false
-isAmong t (u ∷ us) = isSame t u || isAmong t us
+isAmong t (u ∷ us) = isSameText t u || isAmong t us
 
 -- "Each new text .. in order of first sight": of some texts those that are not known, each once, where it comes first.
 unfoldable pub firstSights : List (List ℕ) → List (List ℕ) → List (List ℕ)

@@ -4,7 +4,7 @@ use Prim.Native.Char.{code}
 use mathlib.Core.Bool.{Bool, true, false, _&&_, _||_, cond}
 use mathlib.Core.List.{List, [], _∷_, _++_}
 use lib.Dec.{eqb}
-use Rattle.spec_ntriples.specs.Utf8.{isBetween, encodeChar, encode}
+use Rattle.spec_ntriples.specs.Utf8.{isBetween, encodeChar, utf8}
 use Rattle.spec_ntriples.specs.Characters.{codes, isOneOf, isLetter, isLetterOrDigit}
 
 -- A term by its kind, 0 URI, 1 blank or 2 literal, and its "canonical text with its marks".
@@ -23,11 +23,11 @@ pub record TextTriple : Type 0 where
   pub object : Text
 
 -- Whether two texts have the same bytes.
-unfoldable pub isSame : List ℕ → List ℕ → Bool
-isSame [] [] = true
-isSame [] (b ∷ t) = false
-isSame (a ∷ s) [] = false
-isSame (a ∷ s) (b ∷ t) = eqb a b && isSame s t
+unfoldable pub isSameText : List ℕ → List ℕ → Bool
+isSameText [] [] = true
+isSameText [] (b ∷ t) = false
+isSameText (a ∷ s) [] = false
+isSameText (a ∷ s) (b ∷ t) = eqb a b && isSameText s t
 
 -- The rest of a scheme: "*( ALPHA / DIGIT / "+" / "-" / "." )" and a colon.
 unfoldable pub isScheme : List ℕ → Bool
@@ -41,11 +41,11 @@ isAbsolute (c ∷ cs) = isLetter c && isScheme cs
 
 -- "UCHAR .. MUST NOT be used": an IRI as its characters are, between its marks.
 unfoldable pub iriText : List ℕ → List ℕ
-iriText cs = code "<" ∷ (encode cs ++ (code ">" ∷ []))
+iriText cs = code "<" ∷ (utf8 cs ++ (code ">" ∷ []))
 
 -- A blank node's label as it is, behind "_:".
 unfoldable pub blankText : List ℕ → List ℕ
-blankText cs = codes "_:" ++ encode cs
+blankText cs = codes "_:" ++ utf8 cs
 
 -- "Within STRING_LITERAL_QUOTE, only the characters U+0022, U+005C, U+000A, U+000D are encoded using ECHAR."
 unfoldable pub canonicalChar : ℕ → List ℕ
@@ -78,4 +78,4 @@ xsdString = codes "<http://www.w3.org/2001/XMLSchema#string>"
 
 -- A literal's string with a datatype: "the type xsd:string left off".
 unfoldable pub typedText : List ℕ → List ℕ → List ℕ
-typedText string type = cond (isSame type xsdString) string (string ++ (codes "^^" ++ type))
+typedText string type = cond (isSameText type xsdString) string (string ++ (codes "^^" ++ type))

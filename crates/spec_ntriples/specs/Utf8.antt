@@ -21,6 +21,6 @@ encodeChar c =
     ((0xF0 + c / 262144) ∷ (0x80 + c / 4096 % 64) ∷ (0x80 + c / 64 % 64) ∷ (0x80 + c % 64) ∷ [])))
 
 -- The bytes of some characters.
-unfoldable pub encode : List ℕ → List ℕ
-encode [] = []
-encode (c ∷ cs) = encodeChar c ++ encode cs
+unfoldable pub utf8 : List ℕ → List ℕ
+utf8 [] = []
+utf8 (c ∷ cs) = encodeChar c ++ utf8 cs

@@ -4,7 +4,7 @@ use mathlib.Core.Path.{_≡_, refl, sym, _∙_, ap}
 use native.Mathlib.Omega.{arith}
 use native.Mathlib.Nat.{add-zero, sub-zero}
 use lib.ListN.{length, getD, take, drop}
-use Rattle.spec_ntriples.specs.Texts.{isSame}
+use Rattle.spec_ntriples.specs.Texts.{isSameText}
 use Rattle.spec_ntriples.specs.Dictionary.{bytesNumber}
 use Rattle.dictionary_bytes.specs.inside.Hashes.{hashOn, hashFrom, hash, slotOf}
 use Rattle.dictionary_bytes.proofs.Same.{parts-more, parts-stop, parts-end}
@@ -20,7 +20,7 @@ use Rattle.dictionary_bytes.proofs.is_same.Reads as reads
 use Rattle.dictionary_bytes.proofs.is_same.Lts as lts
 
 abbrev Inv-loop : tie.InvT-loop
-Inv-loop a from b at n i₀ i = (i ≤ n) × (isSame (take n (drop from a)) (take n (drop at b)) ≡ isSame (take (n - i) (drop (from + i) a)) (take (n - i) (drop (at + i) b)))
+Inv-loop a from b at n i₀ i = (i ≤ n) × (isSameText (take n (drop from a)) (take n (drop at b)) ≡ isSameText (take (n - i) (drop (from + i) a)) (take (n - i) (drop (at + i) b)))
 
 abbrev μ-loop : tie.MeasureT-loop
 μ-loop a from b at n i₀ i = n - i

@@ -6,7 +6,7 @@ use mathlib.Core.List.{List, [], _++_}
 use lib.ListN.{length, getD, take, drop}
 use lib.Dec.{eqb}
 use Rattle.spec.specs.inside.Each.{Each}
-use Rattle.spec_ntriples.specs.Dictionary.{Entry, entry, entriesBytes, frontTerm, entries, vocabularyOf, areNumbered, isDictionary}
+use Rattle.spec_ntriples.specs.Dictionary.{Entry, entry, bytesOfEntries, frontTerm, entries, vocabularyOf, areNumbered, isDictionary}
 use Rattle.spec_ntriples.specs.computed.Canonical.{isCanonical}
 use Rattle.dictionary_bytes.specs.inside.Entries.{textAt, placeAt, entriesAt, FilledBy}
 use Rattle.dictionary_bytes.specs.declared.Filled.{Filled}
@@ -34,7 +34,7 @@ pub record Filling (bs : List ℕ) (f : Filled) : Type 0 where
   pub place : f .end ≡ placeAt bs 0 count
   pub within : f .end ≤ length bs
   pub read : entries bs ≡ entriesAt bs 0 count ++ entries (drop (f .end) bs)
-  pub written : take (f .end) bs ≡ entriesBytes (entriesAt bs 0 count)
+  pub written : take (f .end) bs ≡ bytesOfEntries (entriesAt bs 0 count)
   pub numbered : areNumbered [] (entriesAt bs 0 count) ≡ true
   pub counts : Counts f (entriesAt bs 0 count)
   pub texts : Each HasOwnText (entriesAt bs 0 count)

@@ -5,7 +5,7 @@ use mathlib.Core.Logic.{_⊎_}
 use mathlib.Core.List.{List, [], _∷_, _++_}
 use lib.ListN.{length}
 use Rattle.spec_ntriples.specs.Texts.{Text}
-use Rattle.spec_ntriples.specs.Dictionary.{Entry, entry, entriesBytes, termIn, nextNumber, nextTerm}
+use Rattle.spec_ntriples.specs.Dictionary.{Entry, entry, bytesOfEntries, termIn, nextNumber, nextTerm}
 use Rattle.ntriples_bytes.specs.inside.Places.{HasText}
 use Rattle.dictionary_bytes.specs.declared.Filled.{Filled}
 use Rattle.dictionary_bytes.specs.inside.Entries.{FilledBy}
@@ -19,7 +19,7 @@ use Rattle.dictionary_names.specs.inside.IndexOf.{IndexOf}
 -- slots are their index.
 pub record LastSegment (slots bs : List ℕ) (first count : ℕ) (f : Filled) (ds es : List Entry) : Type 0 where
   pub filled : FilledBy bs f (ds ++ es)
-  pub starts : first ≡ length (entriesBytes ds)
+  pub starts : first ≡ length (bytesOfEntries ds)
   pub counts : count ≡ length es
   pub index : IndexOf slots bs first es
 
@@ -45,7 +45,7 @@ pub record CanAdd (slots bs : List ℕ) (first slot : ℕ) (line : List ℕ) (fr
 
 -- A text has no space in a dictionary of len bytes: its entry would go past the end, or its kind has no number left.
 abbrev pub HasNoSpace : ℕ → List Entry → Text → Type 0
-HasNoSpace len es t = (len < length (entriesBytes es) + 12 + length (t .bytes)) ⊎ (nextNumber (t .kind) es ≡ 2 ^ 30)
+HasNoSpace len es t = (len < length (bytesOfEntries es) + 12 + length (t .bytes)) ⊎ (nextNumber (t .kind) es ≡ 2 ^ 30)
 
 -- What naming a text did in the last segment: an entry of the segment has it; or it was new and has the next term of its kind, in an entry
 -- behind the others, to which the index leads too; or it is in no entry of the segment and nothing changed: a new segment has to begin, or

@@ -4,7 +4,7 @@ use Prim.Native.Char.{code}
 use mathlib.Core.Path.{_≡_}
 use mathlib.Core.List.{List, [], _∷_, _++_}
 use lib.ListN.{length, take}
-use Rattle.spec_ntriples.specs.Utf8.{encode}
+use Rattle.spec_ntriples.specs.Utf8.{utf8}
 use Rattle.spec_ntriples.specs.Characters.{codes}
 use Rattle.spec_ntriples.specs.computed.Terminals.{outside, iriStep, stringStep, scan, got, skip}
 use Rattle.spec_ntriples.specs.Texts.{lowerChar, Text, iriText, canonicalChars, xsdString}
@@ -61,7 +61,7 @@ pub record IriComing (line : List ℕ) (end place : ℕ) (bytes : List ℕ) : Ty
   pub rest : List ℕ
   pub reads : Reads line place iriStep outside given rest
   pub ends : At line end rest
-  pub same : bytes ≡ encode given ++ (code ">" ∷ [])
+  pub same : bytes ≡ utf8 given ++ (code ">" ∷ [])
 
 -- Inside a label, or behind the last byte of the text.
 pub record LabelComing (line : List ℕ) (end place : ℕ) (bytes : List ℕ) : Type 0 where
@@ -69,7 +69,7 @@ pub record LabelComing (line : List ℕ) (end place : ℕ) (bytes : List ℕ) : 
   pub rest : List ℕ
   pub stands : At line place (given ++ rest)
   pub ends : At line end rest
-  pub same : bytes ≡ encode given
+  pub same : bytes ≡ utf8 given
 
 -- Inside a string.
 pub record StringComing (line : List ℕ) (end place : ℕ) (bytes : List ℕ) : Type 0 where

@@ -7,7 +7,7 @@ use lib.ListN.{length}
 use lib.Dec.{leb}
 use Rattle.spec.specs.Tables.{firstRows}
 use Rattle.spec_ntriples.specs.Texts.{TextTriple}
-use Rattle.spec_ntriples.specs.Dictionary.{Entry, entriesBytes, areNumbersEnough}
+use Rattle.spec_ntriples.specs.Dictionary.{Entry, bytesOfEntries, areNumbersEnough}
 use Rattle.spec_ntriples.specs.Reading.{withAll, tripleOf}
 use Rattle.dictionary_bytes.specs.declared.Filled.{Filled}
 use Rattle.dictionary_bytes.specs.inside.Entries.{FilledBy}
@@ -36,7 +36,7 @@ pub record AllNamed (es : List Entry) (ts : List TextTriple) (bs : List ℕ) (f 
 
 -- Question 14 says no to some entries in a dictionary of len bytes: they are longer, or a kind has too few numbers.
 abbrev pub DoNotFit : ℕ → List Entry → Type 0
-DoNotFit len es = (leb (length (entriesBytes es)) len && areNumbersEnough es) ≡ false
+DoNotFit len es = (leb (length (bytesOfEntries es)) len && areNumbersEnough es) ≡ false
 
 -- The dictionary has the entries es and perhaps more, and with the texts of some triples they do not fit.
 pub record TextsLackSpace (es : List Entry) (ts : List TextTriple) (bs : List ℕ) (f : Filled) : Type 0 where
@@ -58,7 +58,7 @@ pub record Looked (es : List Entry) (ts : List TextTriple) (bs : List ℕ) (firs
   pub behind : List Entry
   pub more : List Entry
   pub filled : FilledBy bs f (before ++ behind)
-  pub starts : first ≡ length (entriesBytes before)
+  pub starts : first ≡ length (bytesOfEntries before)
   pub grown : before ++ behind ≡ es ++ more
   pub same : withAll (before ++ behind) ts ≡ withAll es ts
   pub words : AreWords before (before ++ behind) (linesTexts ts) ws

@@ -3,7 +3,7 @@
 use Prim.Native.Nat.{ℕ}
 use mathlib.Core.Bool.{Bool, true, false, _&&_}
 use mathlib.Core.List.{List, [], _∷_}
-use Rattle.spec_ntriples.specs.Texts.{isSame}
+use Rattle.spec_ntriples.specs.Texts.{isSameText}
 use Rattle.spec_ntriples.specs.computed.Decoded.{Decoded, broken, decoded, decode}
 use Rattle.spec_ntriples.specs.computed.Lines.{Read, nothing, read, readObject}
 
@@ -15,7 +15,7 @@ isNone (c ∷ cs) = false
 -- Whether what was read of a text is the text itself, to its end.
 unfoldable pub givesItself : List ℕ → Read → Bool
 givesItself t nothing = false
-givesItself t (read u rest) = isNone rest && isSame (u .bytes) t
+givesItself t (read u rest) = isNone rest && isSameText (u .bytes) t
 
 -- The same of the text's characters.
 unfoldable pub decodesToItself : List ℕ → Decoded → Bool

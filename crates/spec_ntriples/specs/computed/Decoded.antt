@@ -1,6 +1,6 @@
--- The characters of bytes in UTF-8, by a walk over the bytes. Nobody has to read it: `encode` of specs/Utf8.antt says what the bytes of
+-- The characters of bytes in UTF-8, by a walk over the bytes. Nobody has to read it: `utf8` of specs/Utf8.antt says what the bytes of
 -- characters are.
--- Fixed by decode-encode (proofs/Decoding.antt): bytes decode to characters exactly when these are scalar values whose encoding they are.
+-- Fixed by decode-encode (proofs/Decoding.antt): bytes decode to characters exactly when these are scalar values whose UTF-8 they are.
 use Prim.Native.Nat.{ℕ, zero, suc, _+_, _-_, _*_}
 use mathlib.Core.Bool.{cond}
 use mathlib.Core.List.{List, [], _∷_}

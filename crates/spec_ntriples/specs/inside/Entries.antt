@@ -4,7 +4,7 @@ use mathlib.Core.Path.{_≡_}
 use mathlib.Core.List.{List}
 use lib.ListN.{length}
 use Rattle.spec.specs.inside.Each.{Each}
-use Rattle.spec_ntriples.specs.Dictionary.{Entry, entriesBytes, dictionaryBytes}
+use Rattle.spec_ntriples.specs.Dictionary.{Entry, bytesOfEntries, dictionaryBytes}
 
 -- An entry that can be written: a term of 32 bits that is not 0, and a length of 64.
 pub record Writable (e : Entry) : Type 0 where
@@ -15,5 +15,5 @@ pub record Writable (e : Entry) : Type 0 where
 -- The bytes of a dictionary hold some entries, which end at a byte index; zeros follow.
 pub record Holds (bs : List ℕ) (end : ℕ) (es : List Entry) : Type 0 where
   pub same : bs ≡ dictionaryBytes (length bs) es
-  pub ends : end ≡ length (entriesBytes es)
+  pub ends : end ≡ length (bytesOfEntries es)
   pub writable : Each Writable es

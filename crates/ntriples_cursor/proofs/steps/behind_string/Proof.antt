@@ -6,7 +6,7 @@ use native.Mathlib.Omega.{arith}
 use borrow.Author.Needs.{needs}
 use borrow.Author.Tests.{not-true, not-false}
 use Rattle.spec_ntriples.specs.Characters.{codes}
-use Rattle.spec_ntriples.specs.Texts.{isSame, lowerChar}
+use Rattle.spec_ntriples.specs.Texts.{isSameText, lowerChar}
 use lib.ListN.{length, take, drop}
 use Rattle.spec_ntriples.specs.computed.Terminals.{skip, outside, iriStep, stringStep}
 use Rattle.ntriples_bytes.specs.inside.Places.{At, Utf8From, Marks}
@@ -15,7 +15,7 @@ use Rattle.ntriples_bytes.proofs.Marking.{between}
 use Rattle.ntriples_cursor.specs.inside.Coming.{Typed, Follows, IriComing, typeTail}
 use Rattle.ntriples_cursor.proofs.Readers.{reads-within, reads-utf8, iri-reader, string-reader, not-closed}
 use Rattle.ntriples_cursor.proofs.Widths.{char-small}
-use Rattle.spec_ntriples.specs.Utf8.{encode}
+use Rattle.spec_ntriples.specs.Utf8.{utf8}
 use Rattle.ntriples_cursor.proofs.Literals.{type-coming, literal-end, mark-within, literal-tag, found-type, literal-string, literal-type}
 use Rattle.ntriples_cursor.proofs.Comparing.{piece-long, piece-same, pieces-end, IriLeft, iri-first, iri-again, iri-stop}
 use Rattle.ntriples_cursor.proofs.Following.{mark-front, inner-place, behind-skip}
@@ -51,15 +51,15 @@ type-inner-requires c κs = record { chars = skip (c .before .before .before .be
 
 -- src/steps.rt:154:8
 is-string-type-requires : tie.Need-is-string-type-requires
-is-string-type-requires c κs = record { bytes = (encode ((found-type (c .before .before .before .before .before .before .before .args .line .now) (c .before .before .before .before .before .before .before .args .end) (c .before .before .before .before .before .before .before .args .place) (c .before .before .before .before .before .before .before .pre .chars) (c .before .before .before .before .before .before .before .pre .rest) (c .before .before .before .before .before .before .before .pre .more) (c .before .before .before .before .before .before .before .pre .stands) (c .before .before .before .before .before .before .before .pre .ends) (c .before .before .before .before .before .before .before .pre .follows) (c .before .before .before .before .before .if1 .left) (c .before .before .before .before .skip .result) (behind-skip (c .before .before .before .before .before .before .before .args .line .now) (c .before .before .before .before .before .before .before .args .place) (c .before .before .before .before .skip .result) (c .before .before .before .before .before .before .before .pre .chars) (c .before .before .before .before .before .before .before .pre .stands) (c .before .before .before .before .skip .ensures)) (c .before .before .before .char-at .result) (c .before .before .before .char-at .ensures) (c .before .if2 .left)) .given) ++ (code ">" ∷ [])); coming = (type-coming (c .before .before .before .before .before .before .before .args .line .now) (c .before .before .before .before .before .before .before .args .end) (c .type-inner .result) (skip (c .before .before .before .before .before .before .before .pre .chars)) (c .before .before .before .before .before .before .before .pre .rest) ((found-type (c .before .before .before .before .before .before .before .args .line .now) (c .before .before .before .before .before .before .before .args .end) (c .before .before .before .before .before .before .before .args .place) (c .before .before .before .before .before .before .before .pre .chars) (c .before .before .before .before .before .before .before .pre .rest) (c .before .before .before .before .before .before .before .pre .more) (c .before .before .before .before .before .before .before .pre .stands) (c .before .before .before .before .before .before .before .pre .ends) (c .before .before .before .before .before .before .before .pre .follows) (c .before .before .before .before .before .if1 .left) (c .before .before .before .before .skip .result) (behind-skip (c .before .before .before .before .before .before .before .args .line .now) (c .before .before .before .before .before .before .before .args .place) (c .before .before .before .before .skip .result) (c .before .before .before .before .before .before .before .pre .chars) (c .before .before .before .before .before .before .before .pre .stands) (c .before .before .before .before .skip .ensures)) (c .before .before .before .char-at .result) (c .before .before .before .char-at .ensures) (c .before .if2 .left)) .given) ((found-type (c .before .before .before .before .before .before .before .args .line .now) (c .before .before .before .before .before .before .before .args .end) (c .before .before .before .before .before .before .before .args .place) (c .before .before .before .before .before .before .before .pre .chars) (c .before .before .before .before .before .before .before .pre .rest) (c .before .before .before .before .before .before .before .pre .more) (c .before .before .before .before .before .before .before .pre .stands) (c .before .before .before .before .before .before .before .pre .ends) (c .before .before .before .before .before .before .before .pre .follows) (c .before .before .before .before .before .if1 .left) (c .before .before .before .before .skip .result) (behind-skip (c .before .before .before .before .before .before .before .args .line .now) (c .before .before .before .before .before .before .before .args .place) (c .before .before .before .before .skip .result) (c .before .before .before .before .before .before .before .pre .chars) (c .before .before .before .before .before .before .before .pre .stands) (c .before .before .before .before .skip .ensures)) (c .before .before .before .char-at .result) (c .before .before .before .char-at .ensures) (c .before .if2 .left)) .typed) (c .type-inner .ensures (skip (c .before .before .before .before .before .before .before .pre .chars)) (c .before .before .before .before .before .before .before .pre .rest) ((found-type (c .before .before .before .before .before .before .before .args .line .now) (c .before .before .before .before .before .before .before .args .end) (c .before .before .before .before .before .before .before .args .place) (c .before .before .before .before .before .before .before .pre .chars) (c .before .before .before .before .before .before .before .pre .rest) (c .before .before .before .before .before .before .before .pre .more) (c .before .before .before .before .before .before .before .pre .stands) (c .before .before .before .before .before .before .before .pre .ends) (c .before .before .before .before .before .before .before .pre .follows) (c .before .before .before .before .before .if1 .left) (c .before .before .before .before .skip .result) (behind-skip (c .before .before .before .before .before .before .before .args .line .now) (c .before .before .before .before .before .before .before .args .place) (c .before .before .before .before .skip .result) (c .before .before .before .before .before .before .before .pre .chars) (c .before .before .before .before .before .before .before .pre .stands) (c .before .before .before .before .skip .ensures)) (c .before .before .before .char-at .result) (c .before .before .before .char-at .ensures) (c .before .if2 .left)) .given) (behind-skip (c .before .before .before .before .before .before .before .args .line .now) (c .before .before .before .before .before .before .before .args .place) (c .before .before .before .before .skip .result) (c .before .before .before .before .before .before .before .pre .chars) (c .before .before .before .before .before .before .before .pre .stands) (c .before .before .before .before .skip .ensures)) ((found-type (c .before .before .before .before .before .before .before .args .line .now) (c .before .before .before .before .before .before .before .args .end) (c .before .before .before .before .before .before .before .args .place) (c .before .before .before .before .before .before .before .pre .chars) (c .before .before .before .before .before .before .before .pre .rest) (c .before .before .before .before .before .before .before .pre .more) (c .before .before .before .before .before .before .before .pre .stands) (c .before .before .before .before .before .before .before .pre .ends) (c .before .before .before .before .before .before .before .pre .follows) (c .before .before .before .before .before .if1 .left) (c .before .before .before .before .skip .result) (behind-skip (c .before .before .before .before .before .before .before .args .line .now) (c .before .before .before .before .before .before .before .args .place) (c .before .before .before .before .skip .result) (c .before .before .before .before .before .before .before .pre .chars) (c .before .before .before .before .before .before .before .pre .stands) (c .before .before .before .before .skip .ensures)) (c .before .before .before .char-at .result) (c .before .before .before .char-at .ensures) (c .before .if2 .left)) .typed) .0) (c .before .before .before .before .before .before .before .pre .ends)) }
+is-string-type-requires c κs = record { bytes = (utf8 ((found-type (c .before .before .before .before .before .before .before .args .line .now) (c .before .before .before .before .before .before .before .args .end) (c .before .before .before .before .before .before .before .args .place) (c .before .before .before .before .before .before .before .pre .chars) (c .before .before .before .before .before .before .before .pre .rest) (c .before .before .before .before .before .before .before .pre .more) (c .before .before .before .before .before .before .before .pre .stands) (c .before .before .before .before .before .before .before .pre .ends) (c .before .before .before .before .before .before .before .pre .follows) (c .before .before .before .before .before .if1 .left) (c .before .before .before .before .skip .result) (behind-skip (c .before .before .before .before .before .before .before .args .line .now) (c .before .before .before .before .before .before .before .args .place) (c .before .before .before .before .skip .result) (c .before .before .before .before .before .before .before .pre .chars) (c .before .before .before .before .before .before .before .pre .stands) (c .before .before .before .before .skip .ensures)) (c .before .before .before .char-at .result) (c .before .before .before .char-at .ensures) (c .before .if2 .left)) .given) ++ (code ">" ∷ [])); coming = (type-coming (c .before .before .before .before .before .before .before .args .line .now) (c .before .before .before .before .before .before .before .args .end) (c .type-inner .result) (skip (c .before .before .before .before .before .before .before .pre .chars)) (c .before .before .before .before .before .before .before .pre .rest) ((found-type (c .before .before .before .before .before .before .before .args .line .now) (c .before .before .before .before .before .before .before .args .end) (c .before .before .before .before .before .before .before .args .place) (c .before .before .before .before .before .before .before .pre .chars) (c .before .before .before .before .before .before .before .pre .rest) (c .before .before .before .before .before .before .before .pre .more) (c .before .before .before .before .before .before .before .pre .stands) (c .before .before .before .before .before .before .before .pre .ends) (c .before .before .before .before .before .before .before .pre .follows) (c .before .before .before .before .before .if1 .left) (c .before .before .before .before .skip .result) (behind-skip (c .before .before .before .before .before .before .before .args .line .now) (c .before .before .before .before .before .before .before .args .place) (c .before .before .before .before .skip .result) (c .before .before .before .before .before .before .before .pre .chars) (c .before .before .before .before .before .before .before .pre .stands) (c .before .before .before .before .skip .ensures)) (c .before .before .before .char-at .result) (c .before .before .before .char-at .ensures) (c .before .if2 .left)) .given) ((found-type (c .before .before .before .before .before .before .before .args .line .now) (c .before .before .before .before .before .before .before .args .end) (c .before .before .before .before .before .before .before .args .place) (c .before .before .before .before .before .before .before .pre .chars) (c .before .before .before .before .before .before .before .pre .rest) (c .before .before .before .before .before .before .before .pre .more) (c .before .before .before .before .before .before .before .pre .stands) (c .before .before .before .before .before .before .before .pre .ends) (c .before .before .before .before .before .before .before .pre .follows) (c .before .before .before .before .before .if1 .left) (c .before .before .before .before .skip .result) (behind-skip (c .before .before .before .before .before .before .before .args .line .now) (c .before .before .before .before .before .before .before .args .place) (c .before .before .before .before .skip .result) (c .before .before .before .before .before .before .before .pre .chars) (c .before .before .before .before .before .before .before .pre .stands) (c .before .before .before .before .skip .ensures)) (c .before .before .before .char-at .result) (c .before .before .before .char-at .ensures) (c .before .if2 .left)) .typed) (c .type-inner .ensures (skip (c .before .before .before .before .before .before .before .pre .chars)) (c .before .before .before .before .before .before .before .pre .rest) ((found-type (c .before .before .before .before .before .before .before .args .line .now) (c .before .before .before .before .before .before .before .args .end) (c .before .before .before .before .before .before .before .args .place) (c .before .before .before .before .before .before .before .pre .chars) (c .before .before .before .before .before .before .before .pre .rest) (c .before .before .before .before .before .before .before .pre .more) (c .before .before .before .before .before .before .before .pre .stands) (c .before .before .before .before .before .before .before .pre .ends) (c .before .before .before .before .before .before .before .pre .follows) (c .before .before .before .before .before .if1 .left) (c .before .before .before .before .skip .result) (behind-skip (c .before .before .before .before .before .before .before .args .line .now) (c .before .before .before .before .before .before .before .args .place) (c .before .before .before .before .skip .result) (c .before .before .before .before .before .before .before .pre .chars) (c .before .before .before .before .before .before .before .pre .stands) (c .before .before .before .before .skip .ensures)) (c .before .before .before .char-at .result) (c .before .before .before .char-at .ensures) (c .before .if2 .left)) .given) (behind-skip (c .before .before .before .before .before .before .before .args .line .now) (c .before .before .before .before .before .before .before .args .place) (c .before .before .before .before .skip .result) (c .before .before .before .before .before .before .before .pre .chars) (c .before .before .before .before .before .before .before .pre .stands) (c .before .before .before .before .skip .ensures)) ((found-type (c .before .before .before .before .before .before .before .args .line .now) (c .before .before .before .before .before .before .before .args .end) (c .before .before .before .before .before .before .before .args .place) (c .before .before .before .before .before .before .before .pre .chars) (c .before .before .before .before .before .before .before .pre .rest) (c .before .before .before .before .before .before .before .pre .more) (c .before .before .before .before .before .before .before .pre .stands) (c .before .before .before .before .before .before .before .pre .ends) (c .before .before .before .before .before .before .before .pre .follows) (c .before .before .before .before .before .if1 .left) (c .before .before .before .before .skip .result) (behind-skip (c .before .before .before .before .before .before .before .args .line .now) (c .before .before .before .before .before .before .before .args .place) (c .before .before .before .before .skip .result) (c .before .before .before .before .before .before .before .pre .chars) (c .before .before .before .before .before .before .before .pre .stands) (c .before .before .before .before .skip .ensures)) (c .before .before .before .char-at .result) (c .before .before .before .char-at .ensures) (c .before .if2 .left)) .typed) .0) (c .before .before .before .before .before .before .before .pre .ends)) }
 
 -- src/steps.rt:155:9
 returns-3 : tie.Need-returns-3
-returns-3 c = λ cs rest more A E F. literal-string (c .before .before .before .before .before .before .before .before .before .args .line .now) (c .before .before .before .before .before .before .before .before .before .args .end) (c .before .before .before .before .before .before .before .before .before .args .place) cs rest more A E F (c .before .before .before .before .before .before .before .if1 .left) (c .before .before .before .before .before .before .skip .result) (behind-skip (c .before .before .before .before .before .before .before .before .before .args .line .now) (c .before .before .before .before .before .before .before .before .before .args .place) (c .before .before .before .before .before .before .skip .result) cs A (c .before .before .before .before .before .before .skip .ensures)) (c .before .before .before .before .before .char-at .result) (c .before .before .before .before .before .char-at .ensures) (found-type (c .before .before .before .before .before .before .before .before .before .args .line .now) (c .before .before .before .before .before .before .before .before .before .args .end) (c .before .before .before .before .before .before .before .before .before .args .place) cs rest more A E F (c .before .before .before .before .before .before .before .if1 .left) (c .before .before .before .before .before .before .skip .result) (behind-skip (c .before .before .before .before .before .before .before .before .before .args .line .now) (c .before .before .before .before .before .before .before .before .before .args .place) (c .before .before .before .before .before .before .skip .result) cs A (c .before .before .before .before .before .before .skip .ensures)) (c .before .before .before .before .before .char-at .result) (c .before .before .before .before .before .char-at .ensures) (c .before .before .before .if2 .left)) (sym (c .before .is-string-type .ensures (encode ((found-type (c .before .before .before .before .before .before .before .before .before .args .line .now) (c .before .before .before .before .before .before .before .before .before .args .end) (c .before .before .before .before .before .before .before .before .before .args .place) cs rest more A E F (c .before .before .before .before .before .before .before .if1 .left) (c .before .before .before .before .before .before .skip .result) (behind-skip (c .before .before .before .before .before .before .before .before .before .args .line .now) (c .before .before .before .before .before .before .before .before .before .args .place) (c .before .before .before .before .before .before .skip .result) cs A (c .before .before .before .before .before .before .skip .ensures)) (c .before .before .before .before .before .char-at .result) (c .before .before .before .before .before .char-at .ensures) (c .before .before .before .if2 .left)) .given) ++ (code ">" ∷ [])) (type-coming (c .before .before .before .before .before .before .before .before .before .args .line .now) (c .before .before .before .before .before .before .before .before .before .args .end) (c .before .before .type-inner .result) (skip cs) rest ((found-type (c .before .before .before .before .before .before .before .before .before .args .line .now) (c .before .before .before .before .before .before .before .before .before .args .end) (c .before .before .before .before .before .before .before .before .before .args .place) cs rest more A E F (c .before .before .before .before .before .before .before .if1 .left) (c .before .before .before .before .before .before .skip .result) (behind-skip (c .before .before .before .before .before .before .before .before .before .args .line .now) (c .before .before .before .before .before .before .before .before .before .args .place) (c .before .before .before .before .before .before .skip .result) cs A (c .before .before .before .before .before .before .skip .ensures)) (c .before .before .before .before .before .char-at .result) (c .before .before .before .before .before .char-at .ensures) (c .before .before .before .if2 .left)) .given) ((found-type (c .before .before .before .before .before .before .before .before .before .args .line .now) (c .before .before .before .before .before .before .before .before .before .args .end) (c .before .before .before .before .before .before .before .before .before .args .place) cs rest more A E F (c .before .before .before .before .before .before .before .if1 .left) (c .before .before .before .before .before .before .skip .result) (behind-skip (c .before .before .before .before .before .before .before .before .before .args .line .now) (c .before .before .before .before .before .before .before .before .before .args .place) (c .before .before .before .before .before .before .skip .result) cs A (c .before .before .before .before .before .before .skip .ensures)) (c .before .before .before .before .before .char-at .result) (c .before .before .before .before .before .char-at .ensures) (c .before .before .before .if2 .left)) .typed) (c .before .before .type-inner .ensures (skip cs) rest ((found-type (c .before .before .before .before .before .before .before .before .before .args .line .now) (c .before .before .before .before .before .before .before .before .before .args .end) (c .before .before .before .before .before .before .before .before .before .args .place) cs rest more A E F (c .before .before .before .before .before .before .before .if1 .left) (c .before .before .before .before .before .before .skip .result) (behind-skip (c .before .before .before .before .before .before .before .before .before .args .line .now) (c .before .before .before .before .before .before .before .before .before .args .place) (c .before .before .before .before .before .before .skip .result) cs A (c .before .before .before .before .before .before .skip .ensures)) (c .before .before .before .before .before .char-at .result) (c .before .before .before .before .before .char-at .ensures) (c .before .before .before .if2 .left)) .given) (behind-skip (c .before .before .before .before .before .before .before .before .before .args .line .now) (c .before .before .before .before .before .before .before .before .before .args .place) (c .before .before .before .before .before .before .skip .result) cs A (c .before .before .before .before .before .before .skip .ensures)) ((found-type (c .before .before .before .before .before .before .before .before .before .args .line .now) (c .before .before .before .before .before .before .before .before .before .args .end) (c .before .before .before .before .before .before .before .before .before .args .place) cs rest more A E F (c .before .before .before .before .before .before .before .if1 .left) (c .before .before .before .before .before .before .skip .result) (behind-skip (c .before .before .before .before .before .before .before .before .before .args .line .now) (c .before .before .before .before .before .before .before .before .before .args .place) (c .before .before .before .before .before .before .skip .result) cs A (c .before .before .before .before .before .before .skip .ensures)) (c .before .before .before .before .before .char-at .result) (c .before .before .before .before .before .char-at .ensures) (c .before .before .before .if2 .left)) .typed) .0) E)) ∙ c .if3 .taken)
+returns-3 c = λ cs rest more A E F. literal-string (c .before .before .before .before .before .before .before .before .before .args .line .now) (c .before .before .before .before .before .before .before .before .before .args .end) (c .before .before .before .before .before .before .before .before .before .args .place) cs rest more A E F (c .before .before .before .before .before .before .before .if1 .left) (c .before .before .before .before .before .before .skip .result) (behind-skip (c .before .before .before .before .before .before .before .before .before .args .line .now) (c .before .before .before .before .before .before .before .before .before .args .place) (c .before .before .before .before .before .before .skip .result) cs A (c .before .before .before .before .before .before .skip .ensures)) (c .before .before .before .before .before .char-at .result) (c .before .before .before .before .before .char-at .ensures) (found-type (c .before .before .before .before .before .before .before .before .before .args .line .now) (c .before .before .before .before .before .before .before .before .before .args .end) (c .before .before .before .before .before .before .before .before .before .args .place) cs rest more A E F (c .before .before .before .before .before .before .before .if1 .left) (c .before .before .before .before .before .before .skip .result) (behind-skip (c .before .before .before .before .before .before .before .before .before .args .line .now) (c .before .before .before .before .before .before .before .before .before .args .place) (c .before .before .before .before .before .before .skip .result) cs A (c .before .before .before .before .before .before .skip .ensures)) (c .before .before .before .before .before .char-at .result) (c .before .before .before .before .before .char-at .ensures) (c .before .before .before .if2 .left)) (sym (c .before .is-string-type .ensures (utf8 ((found-type (c .before .before .before .before .before .before .before .before .before .args .line .now) (c .before .before .before .before .before .before .before .before .before .args .end) (c .before .before .before .before .before .before .before .before .before .args .place) cs rest more A E F (c .before .before .before .before .before .before .before .if1 .left) (c .before .before .before .before .before .before .skip .result) (behind-skip (c .before .before .before .before .before .before .before .before .before .args .line .now) (c .before .before .before .before .before .before .before .before .before .args .place) (c .before .before .before .before .before .before .skip .result) cs A (c .before .before .before .before .before .before .skip .ensures)) (c .before .before .before .before .before .char-at .result) (c .before .before .before .before .before .char-at .ensures) (c .before .before .before .if2 .left)) .given) ++ (code ">" ∷ [])) (type-coming (c .before .before .before .before .before .before .before .before .before .args .line .now) (c .before .before .before .before .before .before .before .before .before .args .end) (c .before .before .type-inner .result) (skip cs) rest ((found-type (c .before .before .before .before .before .before .before .before .before .args .line .now) (c .before .before .before .before .before .before .before .before .before .args .end) (c .before .before .before .before .before .before .before .before .before .args .place) cs rest more A E F (c .before .before .before .before .before .before .before .if1 .left) (c .before .before .before .before .before .before .skip .result) (behind-skip (c .before .before .before .before .before .before .before .before .before .args .line .now) (c .before .before .before .before .before .before .before .before .before .args .place) (c .before .before .before .before .before .before .skip .result) cs A (c .before .before .before .before .before .before .skip .ensures)) (c .before .before .before .before .before .char-at .result) (c .before .before .before .before .before .char-at .ensures) (c .before .before .before .if2 .left)) .given) ((found-type (c .before .before .before .before .before .before .before .before .before .args .line .now) (c .before .before .before .before .before .before .before .before .before .args .end) (c .before .before .before .before .before .before .before .before .before .args .place) cs rest more A E F (c .before .before .before .before .before .before .before .if1 .left) (c .before .before .before .before .before .before .skip .result) (behind-skip (c .before .before .before .before .before .before .before .before .before .args .line .now) (c .before .before .before .before .before .before .before .before .before .args .place) (c .before .before .before .before .before .before .skip .result) cs A (c .before .before .before .before .before .before .skip .ensures)) (c .before .before .before .before .before .char-at .result) (c .before .before .before .before .before .char-at .ensures) (c .before .before .before .if2 .left)) .typed) (c .before .before .type-inner .ensures (skip cs) rest ((found-type (c .before .before .before .before .before .before .before .before .before .args .line .now) (c .before .before .before .before .before .before .before .before .before .args .end) (c .before .before .before .before .before .before .before .before .before .args .place) cs rest more A E F (c .before .before .before .before .before .before .before .if1 .left) (c .before .before .before .before .before .before .skip .result) (behind-skip (c .before .before .before .before .before .before .before .before .before .args .line .now) (c .before .before .before .before .before .before .before .before .before .args .place) (c .before .before .before .before .before .before .skip .result) cs A (c .before .before .before .before .before .before .skip .ensures)) (c .before .before .before .before .before .char-at .result) (c .before .before .before .before .before .char-at .ensures) (c .before .before .before .if2 .left)) .given) (behind-skip (c .before .before .before .before .before .before .before .before .before .args .line .now) (c .before .before .before .before .before .before .before .before .before .args .place) (c .before .before .before .before .before .before .skip .result) cs A (c .before .before .before .before .before .before .skip .ensures)) ((found-type (c .before .before .before .before .before .before .before .before .before .args .line .now) (c .before .before .before .before .before .before .before .before .before .args .end) (c .before .before .before .before .before .before .before .before .before .args .place) cs rest more A E F (c .before .before .before .before .before .before .before .if1 .left) (c .before .before .before .before .before .before .skip .result) (behind-skip (c .before .before .before .before .before .before .before .before .before .args .line .now) (c .before .before .before .before .before .before .before .before .before .args .place) (c .before .before .before .before .before .before .skip .result) cs A (c .before .before .before .before .before .before .skip .ensures)) (c .before .before .before .before .before .char-at .result) (c .before .before .before .before .before .char-at .ensures) (c .before .before .before .if2 .left)) .typed) .0) E)) ∙ c .if3 .taken)
 
 -- src/steps.rt:136:1
 returns-4 : tie.Need-returns-4
-returns-4 c = λ cs rest more A E F. literal-type (c .before .before .before .before .before .before .before .before .before .args .line .now) (c .before .before .before .before .before .before .before .before .before .args .end) (c .before .before .before .before .before .before .before .before .before .args .place) cs rest more A E F (c .before .before .before .before .before .before .before .if1 .left) (c .before .before .before .before .before .before .skip .result) (behind-skip (c .before .before .before .before .before .before .before .before .before .args .line .now) (c .before .before .before .before .before .before .before .before .before .args .place) (c .before .before .before .before .before .before .skip .result) cs A (c .before .before .before .before .before .before .skip .ensures)) (c .before .before .before .before .before .char-at .result) (c .before .before .before .before .before .char-at .ensures) (found-type (c .before .before .before .before .before .before .before .before .before .args .line .now) (c .before .before .before .before .before .before .before .before .before .args .end) (c .before .before .before .before .before .before .before .before .before .args .place) cs rest more A E F (c .before .before .before .before .before .before .before .if1 .left) (c .before .before .before .before .before .before .skip .result) (behind-skip (c .before .before .before .before .before .before .before .before .before .args .line .now) (c .before .before .before .before .before .before .before .before .before .args .place) (c .before .before .before .before .before .before .skip .result) cs A (c .before .before .before .before .before .before .skip .ensures)) (c .before .before .before .before .before .char-at .result) (c .before .before .before .before .before .char-at .ensures) (c .before .before .before .if2 .left)) (sym (c .before .is-string-type .ensures (encode ((found-type (c .before .before .before .before .before .before .before .before .before .args .line .now) (c .before .before .before .before .before .before .before .before .before .args .end) (c .before .before .before .before .before .before .before .before .before .args .place) cs rest more A E F (c .before .before .before .before .before .before .before .if1 .left) (c .before .before .before .before .before .before .skip .result) (behind-skip (c .before .before .before .before .before .before .before .before .before .args .line .now) (c .before .before .before .before .before .before .before .before .before .args .place) (c .before .before .before .before .before .before .skip .result) cs A (c .before .before .before .before .before .before .skip .ensures)) (c .before .before .before .before .before .char-at .result) (c .before .before .before .before .before .char-at .ensures) (c .before .before .before .if2 .left)) .given) ++ (code ">" ∷ [])) (type-coming (c .before .before .before .before .before .before .before .before .before .args .line .now) (c .before .before .before .before .before .before .before .before .before .args .end) (c .before .before .type-inner .result) (skip cs) rest ((found-type (c .before .before .before .before .before .before .before .before .before .args .line .now) (c .before .before .before .before .before .before .before .before .before .args .end) (c .before .before .before .before .before .before .before .before .before .args .place) cs rest more A E F (c .before .before .before .before .before .before .before .if1 .left) (c .before .before .before .before .before .before .skip .result) (behind-skip (c .before .before .before .before .before .before .before .before .before .args .line .now) (c .before .before .before .before .before .before .before .before .before .args .place) (c .before .before .before .before .before .before .skip .result) cs A (c .before .before .before .before .before .before .skip .ensures)) (c .before .before .before .before .before .char-at .result) (c .before .before .before .before .before .char-at .ensures) (c .before .before .before .if2 .left)) .given) ((found-type (c .before .before .before .before .before .before .before .before .before .args .line .now) (c .before .before .before .before .before .before .before .before .before .args .end) (c .before .before .before .before .before .before .before .before .before .args .place) cs rest more A E F (c .before .before .before .before .before .before .before .if1 .left) (c .before .before .before .before .before .before .skip .result) (behind-skip (c .before .before .before .before .before .before .before .before .before .args .line .now) (c .before .before .before .before .before .before .before .before .before .args .place) (c .before .before .before .before .before .before .skip .result) cs A (c .before .before .before .before .before .before .skip .ensures)) (c .before .before .before .before .before .char-at .result) (c .before .before .before .before .before .char-at .ensures) (c .before .before .before .if2 .left)) .typed) (c .before .before .type-inner .ensures (skip cs) rest ((found-type (c .before .before .before .before .before .before .before .before .before .args .line .now) (c .before .before .before .before .before .before .before .before .before .args .end) (c .before .before .before .before .before .before .before .before .before .args .place) cs rest more A E F (c .before .before .before .before .before .before .before .if1 .left) (c .before .before .before .before .before .before .skip .result) (behind-skip (c .before .before .before .before .before .before .before .before .before .args .line .now) (c .before .before .before .before .before .before .before .before .before .args .place) (c .before .before .before .before .before .before .skip .result) cs A (c .before .before .before .before .before .before .skip .ensures)) (c .before .before .before .before .before .char-at .result) (c .before .before .before .before .before .char-at .ensures) (c .before .before .before .if2 .left)) .given) (behind-skip (c .before .before .before .before .before .before .before .before .before .args .line .now) (c .before .before .before .before .before .before .before .before .before .args .place) (c .before .before .before .before .before .before .skip .result) cs A (c .before .before .before .before .before .before .skip .ensures)) ((found-type (c .before .before .before .before .before .before .before .before .before .args .line .now) (c .before .before .before .before .before .before .before .before .before .args .end) (c .before .before .before .before .before .before .before .before .before .args .place) cs rest more A E F (c .before .before .before .before .before .before .before .if1 .left) (c .before .before .before .before .before .before .skip .result) (behind-skip (c .before .before .before .before .before .before .before .before .before .args .line .now) (c .before .before .before .before .before .before .before .before .before .args .place) (c .before .before .before .before .before .before .skip .result) cs A (c .before .before .before .before .before .before .skip .ensures)) (c .before .before .before .before .before .char-at .result) (c .before .before .before .before .before .char-at .ensures) (c .before .before .before .if2 .left)) .typed) .0) E)) ∙ c .if3 .left)
+returns-4 c = λ cs rest more A E F. literal-type (c .before .before .before .before .before .before .before .before .before .args .line .now) (c .before .before .before .before .before .before .before .before .before .args .end) (c .before .before .before .before .before .before .before .before .before .args .place) cs rest more A E F (c .before .before .before .before .before .before .before .if1 .left) (c .before .before .before .before .before .before .skip .result) (behind-skip (c .before .before .before .before .before .before .before .before .before .args .line .now) (c .before .before .before .before .before .before .before .before .before .args .place) (c .before .before .before .before .before .before .skip .result) cs A (c .before .before .before .before .before .before .skip .ensures)) (c .before .before .before .before .before .char-at .result) (c .before .before .before .before .before .char-at .ensures) (found-type (c .before .before .before .before .before .before .before .before .before .args .line .now) (c .before .before .before .before .before .before .before .before .before .args .end) (c .before .before .before .before .before .before .before .before .before .args .place) cs rest more A E F (c .before .before .before .before .before .before .before .if1 .left) (c .before .before .before .before .before .before .skip .result) (behind-skip (c .before .before .before .before .before .before .before .before .before .args .line .now) (c .before .before .before .before .before .before .before .before .before .args .place) (c .before .before .before .before .before .before .skip .result) cs A (c .before .before .before .before .before .before .skip .ensures)) (c .before .before .before .before .before .char-at .result) (c .before .before .before .before .before .char-at .ensures) (c .before .before .before .if2 .left)) (sym (c .before .is-string-type .ensures (utf8 ((found-type (c .before .before .before .before .before .before .before .before .before .args .line .now) (c .before .before .before .before .before .before .before .before .before .args .end) (c .before .before .before .before .before .before .before .before .before .args .place) cs rest more A E F (c .before .before .before .before .before .before .before .if1 .left) (c .before .before .before .before .before .before .skip .result) (behind-skip (c .before .before .before .before .before .before .before .before .before .args .line .now) (c .before .before .before .before .before .before .before .before .before .args .place) (c .before .before .before .before .before .before .skip .result) cs A (c .before .before .before .before .before .before .skip .ensures)) (c .before .before .before .before .before .char-at .result) (c .before .before .before .before .before .char-at .ensures) (c .before .before .before .if2 .left)) .given) ++ (code ">" ∷ [])) (type-coming (c .before .before .before .before .before .before .before .before .before .args .line .now) (c .before .before .before .before .before .before .before .before .before .args .end) (c .before .before .type-inner .result) (skip cs) rest ((found-type (c .before .before .before .before .before .before .before .before .before .args .line .now) (c .before .before .before .before .before .before .before .before .before .args .end) (c .before .before .before .before .before .before .before .before .before .args .place) cs rest more A E F (c .before .before .before .before .before .before .before .if1 .left) (c .before .before .before .before .before .before .skip .result) (behind-skip (c .before .before .before .before .before .before .before .before .before .args .line .now) (c .before .before .before .before .before .before .before .before .before .args .place) (c .before .before .before .before .before .before .skip .result) cs A (c .before .before .before .before .before .before .skip .ensures)) (c .before .before .before .before .before .char-at .result) (c .before .before .before .before .before .char-at .ensures) (c .before .before .before .if2 .left)) .given) ((found-type (c .before .before .before .before .before .before .before .before .before .args .line .now) (c .before .before .before .before .before .before .before .before .before .args .end) (c .before .before .before .before .before .before .before .before .before .args .place) cs rest more A E F (c .before .before .before .before .before .before .before .if1 .left) (c .before .before .before .before .before .before .skip .result) (behind-skip (c .before .before .before .before .before .before .before .before .before .args .line .now) (c .before .before .before .before .before .before .before .before .before .args .place) (c .before .before .before .before .before .before .skip .result) cs A (c .before .before .before .before .before .before .skip .ensures)) (c .before .before .before .before .before .char-at .result) (c .before .before .before .before .before .char-at .ensures) (c .before .before .before .if2 .left)) .typed) (c .before .before .type-inner .ensures (skip cs) rest ((found-type (c .before .before .before .before .before .before .before .before .before .args .line .now) (c .before .before .before .before .before .before .before .before .before .args .end) (c .before .before .before .before .before .before .before .before .before .args .place) cs rest more A E F (c .before .before .before .before .before .before .before .if1 .left) (c .before .before .before .before .before .before .skip .result) (behind-skip (c .before .before .before .before .before .before .before .before .before .args .line .now) (c .before .before .before .before .before .before .before .before .before .args .place) (c .before .before .before .before .before .before .skip .result) cs A (c .before .before .before .before .before .before .skip .ensures)) (c .before .before .before .before .before .char-at .result) (c .before .before .before .before .before .char-at .ensures) (c .before .before .before .if2 .left)) .given) (behind-skip (c .before .before .before .before .before .before .before .before .before .args .line .now) (c .before .before .before .before .before .before .before .before .before .args .place) (c .before .before .before .before .before .before .skip .result) cs A (c .before .before .before .before .before .before .skip .ensures)) ((found-type (c .before .before .before .before .before .before .before .before .before .args .line .now) (c .before .before .before .before .before .before .before .before .before .args .end) (c .before .before .before .before .before .before .before .before .before .args .place) cs rest more A E F (c .before .before .before .before .before .before .before .if1 .left) (c .before .before .before .before .before .before .skip .result) (behind-skip (c .before .before .before .before .before .before .before .before .before .args .line .now) (c .before .before .before .before .before .before .before .before .before .args .place) (c .before .before .before .before .before .before .skip .result) cs A (c .before .before .before .before .before .before .skip .ensures)) (c .before .before .before .before .before .char-at .result) (c .before .before .before .before .before .char-at .ensures) (c .before .before .before .if2 .left)) .typed) .0) E)) ∙ c .if3 .left)
 
 pub behind-string-spec : {M : Type 1} → statement M
 behind-string-spec =
