@@ -1,11 +1,10 @@
-# make run: the worked example's delivery.  make test: everything that is proved, run and tried.  make bench: measured speed.  make deps: what
-# these install.  make crate NAME=x: one crate and its edits.
+# make run: the programs, and the worked example's delivery.  make test: everything that is proved, run and tried.  make bench: measured
+# speed.  make deps: what these install.  make crate NAME=x: one crate and its edits.
 SHELL := /bin/bash
 .SHELLFLAGS := -eu -o pipefail -c
-.PHONY: run test crate trial bench bench-docs library deps jena rapper prolog postgres valgrind cargo toolchain
+.PHONY: run test crate trial bench bench-docs library programs deps jena rapper prolog postgres valgrind cargo toolchain
 
-run: toolchain
-	@tools/progress target/run.log rt check families
+run: programs
 	@target/bin/families <crates/families/stdin
 
 # Standard error shows how far it is; all that the gate prints goes to test.log (it removes target/), and what the trial prints to
@@ -19,8 +18,8 @@ test: toolchain cargo jena rapper valgrind
 crate: toolchain
 	@tools/crate "$(NAME)"
 
-# The exported library beside an independent model, beside Apache Jena, and under valgrind; and the model's reader of N-Triples beside those of
-# Jena and of raptor.
+# The exported library beside an independent model, on stores and on files of N-Triples, beside Apache Jena, and under valgrind; and library and
+# model on N-Triples beside the readers of Jena and of raptor.
 TRIAL := CARGO_TARGET_DIR=target/tests cargo run --release --offline --quiet --manifest-path tests/Cargo.toml --
 TRIAL_LOG := target/trial.log
 
@@ -28,15 +27,20 @@ TRIAL_LOG := target/trial.log
 SHELF := CARGO_TARGET_DIR=target/tests cargo run --release --offline --quiet --manifest-path bindings/rust/Cargo.toml --example shelf
 SHELF_STDOUT := bindings/rust/examples/shelf.stdout
 
-trial: library cargo jena rapper valgrind
+# What tools/programs must print.
+PROGRAMS_STDOUT := tests/cases/programs.stdout
+
+trial: library programs cargo jena rapper valgrind
 	@tools/chain >$(TRIAL_LOG) || exit 1
 	@$(call try,1,beside the model,)
-	@$(call try,2,beside Apache Jena,--part jena)
-	@$(call try,3,under valgrind,--part memory)
-	@$(call try,4,readers of N-Triples,--part readers)
+	@$(call try,2,N-Triples beside the model,--part files)
+	@$(call try,3,beside Apache Jena,--part jena)
+	@$(call try,4,under valgrind,--part memory)
+	@$(call try,5,readers of N-Triples,--part readers)
 	@echo "trial, the example of bindings/rust" >&2; $(SHELF) | diff $(SHELF_STDOUT) - || { echo "the example of bindings/rust does not print $(SHELF_STDOUT)" >&2; exit 1; }
+	@echo "trial, the programs" >&2; tools/programs | diff $(PROGRAMS_STDOUT) - || { echo "tools/programs does not print $(PROGRAMS_STDOUT)" >&2; exit 1; }
 
-try = echo "trial, part $(1) of 4, $(2): its log is $(TRIAL_LOG)" >&2; $(TRIAL) $(3) >>$(TRIAL_LOG) 2>&1 \
+try = echo "trial, part $(1) of 5, $(2): its log is $(TRIAL_LOG)" >&2; $(TRIAL) $(3) >>$(TRIAL_LOG) 2>&1 \
 	|| { tail -n 40 $(TRIAL_LOG) >&2; echo "the trial failed: $(TRIAL_LOG) has all that it printed" >&2; exit 1; }
 
 # The exported library beside the peers named, and alone: target/bench/report.md and target/bench/plot.svg. `make bench BENCH_PEERS=` runs
@@ -54,6 +58,9 @@ bench-docs:
 
 library: toolchain
 	@tools/progress target/library.log rt staticlib capi
+
+programs: toolchain
+	@tools/progress target/programs.log rt check families read_ntriples
 
 # All that the other targets install: each also installs what it needs by itself.
 deps: cargo jena rapper valgrind prolog postgres

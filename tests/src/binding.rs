@@ -38,6 +38,7 @@ pub fn call(store: &mut Store, call: &Call) -> Outcome {
             let order = order_of(*order).expect("an order of the binding");
             given(output, |words| tables.list(table_of(*table), order, words))
         }
+        Call::Read(file, output) => read(file, &mut store.dictionary, output),
     }
 }
 
@@ -93,4 +94,11 @@ fn given(
         output: words,
         ..Outcome::default()
     }
+}
+
+/// What a reading gave.
+fn read(file: &[u8], dictionary: &mut [u8], output: &Output) -> Outcome {
+    let mut delivery = output.lent_bytes();
+    let reply = families::read_ntriples(file, dictionary, &mut delivery);
+    Outcome::of_reading(reply.map_err(Refusal::number), delivery)
 }

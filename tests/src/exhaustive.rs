@@ -4,10 +4,20 @@
 use crate::generate::{Parts, EDGES, VARIABLE};
 use crate::model::tables::{self, Content};
 use crate::model::terms::*;
+use crate::plan::Directed;
 use crate::random::Random;
 use crate::script::{Call, Command, Output, Way};
 use crate::session::{Failure, Harness, Session};
 use crate::store::{Store, Table};
+
+/// All of them, by name.
+pub const CASES: [Directed; 5] = [
+    ("updates with words at edges", updates),
+    ("atoms with words at edges", atoms),
+    ("rows with words at edges", rows),
+    ("each damage to a store", tables),
+    ("each damage to a delivery", bytes),
+];
 
 const V0: u32 = VARIABLE;
 const V1: u32 = VARIABLE + 1;
@@ -33,7 +43,7 @@ fn each_triple(
 }
 
 /// Every triple of edge words added, withdrawn and delivered.
-pub fn updates(harness: &mut Harness) -> Result<(), Failure> {
+fn updates(harness: &mut Harness) -> Result<(), Failure> {
     each_triple(harness, |session, triple| {
         session.run(Command::Empty([4, 4, 7, 2]))?;
         session.call(Call::Withdraw(triple))?;
@@ -48,7 +58,7 @@ pub fn updates(harness: &mut Harness) -> Result<(), Failure> {
 }
 
 /// Every triple of edge words as an atom, and each edge word as a head.
-pub fn atoms(harness: &mut Harness) -> Result<(), Failure> {
+fn atoms(harness: &mut Harness) -> Result<(), Failure> {
     each_triple(harness, |session, [s, p, o]| {
         let table = |row: Triple| vec![1, row[0], row[1], row[2]];
         session.run(Command::Lend(Table::Statements, table([16, 2, 17])))?;
@@ -65,7 +75,7 @@ pub fn atoms(harness: &mut Harness) -> Result<(), Failure> {
 }
 
 /// Every triple of edge words as the row of each table.
-pub fn rows(harness: &mut Harness) -> Result<(), Failure> {
+fn rows(harness: &mut Harness) -> Result<(), Failure> {
     each_triple(harness, |session, triple| {
         let words = vec![1, triple[0], triple[1], triple[2], 0];
         for table in Table::ALL {
@@ -123,7 +133,7 @@ fn each_call(session: &mut Session, store: &Store) -> Result<(), Failure> {
 }
 
 /// Each word of each table changed in several ways, and each table cut at each word.
-pub fn tables(harness: &mut Harness) -> Result<(), Failure> {
+fn tables(harness: &mut Harness) -> Result<(), Failure> {
     let (store, _) = example();
     let changes: [fn(u32) -> u32; 7] = [
         |_| 0,
@@ -162,7 +172,7 @@ pub fn tables(harness: &mut Harness) -> Result<(), Failure> {
 
 /// A delivery with entries in each section and fields, cut at each byte, with a byte more, and with
 /// each byte changed in several ways.
-pub fn bytes(harness: &mut Harness) -> Result<(), Failure> {
+fn bytes(harness: &mut Harness) -> Result<(), Failure> {
     let (store, content) = example();
     let statements: Vec<Triple> = content.statements.into_iter().collect();
     let parts = Parts {

@@ -5,6 +5,7 @@ use crate::model::ntriples::{escaped, Text, Texts};
 use crate::random::Random;
 
 /// A term as it was drawn, escapes aside.
+#[derive(Clone)]
 enum Term {
     Iri(String),
     Blank(String),
@@ -12,6 +13,7 @@ enum Term {
     Literal(String, Suffix),
 }
 
+#[derive(Clone)]
 enum Suffix {
     None,
     Tag(String),
@@ -55,6 +57,47 @@ pub enum Range {
     Raptor,
 }
 
+/// What the files of one source have in common.
+pub struct Source {
+    /// The lines of a file at most, but for a last one without an end.
+    pub lines: usize,
+    pub range: Range,
+    /// A fault in the triples that a file says, where one is wanted.
+    pub fault: Option<Fault>,
+    names: Names,
+}
+
+/// Terms that come again and again.
+#[derive(Default)]
+struct Names {
+    subjects: Vec<Term>,
+    properties: Vec<Term>,
+    objects: Vec<Term>,
+}
+
+impl Source {
+    /// Files with terms that seldom come again.
+    pub fn new(lines: usize, range: Range) -> Source {
+        Source {
+            lines,
+            range,
+            fault: None,
+            names: Names::default(),
+        }
+    }
+
+    /// Files with a few terms, which most lines have.
+    pub fn with_names(random: &mut Random, lines: usize) -> Source {
+        let mut source = Source::new(lines, Range::All);
+        for _ in 0..random.between(1, 6) {
+            source.names.subjects.push(term(random, 2, Range::All));
+            source.names.properties.push(property(random));
+            source.names.objects.push(term(random, 3, Range::All));
+        }
+        source
+    }
+}
+
 /// A file, and the triples that it says.
 pub struct File {
     pub bytes: Vec<u8>,
@@ -88,17 +131,19 @@ const DATATYPES: [&str; 3] = [
 ];
 
 /// Properties, those of statements among them.
-const PROPERTIES: [&str; 4] = [
+const PROPERTIES: [&str; 6] = [
     "http://www.w3.org/1999/02/22-rdf-syntax-ns#type",
     "http://www.w3.org/2000/01/rdf-schema#subClassOf",
+    "http://www.w3.org/2000/01/rdf-schema#subPropertyOf",
+    "http://www.w3.org/2000/01/rdf-schema#domain",
     "http://www.w3.org/2000/01/rdf-schema#range",
     "p:property",
 ];
 
 /// One of some characters.
 fn one_of(random: &mut Random, from: &str) -> char {
-    let characters: Vec<char> = from.chars().collect();
-    random.pick(&characters)
+    let at = random.below(from.chars().count());
+    from.chars().nth(at).expect("a character")
 }
 
 /// So many characters at most, from some.
@@ -132,9 +177,10 @@ fn literal(random: &mut Random) -> Term {
     Term::Literal(drawn(random, STRING, 8), suffix)
 }
 
-/// An IRI or a blank node; for an object a literal too.
+/// An IRI, one with a meaning among them, or a blank node; for an object a literal too.
 fn term(random: &mut Random, kinds: usize, range: Range) -> Term {
     match random.below(kinds) {
+        0 if random.once_in(16) => property(random),
         0 => Term::Iri(iri(random)),
         1 => Term::Blank(label(random, range)),
         _ => literal(random),
@@ -253,21 +299,31 @@ fn white(random: &mut Random, must: bool) -> String {
     (0..length).map(|_| random.pick(&[' ', '\t'])).collect()
 }
 
+/// One of the names, where there are any and mostly, or a new term.
+fn again(random: &mut Random, names: &[Term], new: impl FnOnce(&mut Random) -> Term) -> Term {
+    match names.is_empty() || random.once_in(8) {
+        true => new(random),
+        false => names[random.below(names.len())].clone(),
+    }
+}
+
 /// A line with a triple, and the triple.
-fn triple(random: &mut Random, range: Range, fault: Option<Fault>) -> (String, Texts) {
+fn triple(random: &mut Random, source: &Source) -> (String, Texts) {
+    let Source { range, names, .. } = source;
     let terms = [
-        term(random, 2, range),
-        property(random),
-        term(random, 3, range),
+        again(random, &names.subjects, |random| term(random, 2, *range)),
+        again(random, &names.properties, property),
+        again(random, &names.objects, |random| term(random, 3, *range)),
     ];
     let mut line = white(random, false);
     for term in &terms {
-        line += &term.spelled(random, range);
-        line += &white(random, matches!(term, Term::Blank(_)));
+        line += &term.spelled(random, *range);
+        let must = *range == Range::Raptor && matches!(term, Term::Blank(_));
+        line += &white(random, must);
     }
     line += ".";
     line += &white(random, false);
-    (line, terms.map(|term| term.text(fault)))
+    (line, terms.map(|term| term.text(source.fault)))
 }
 
 /// A comment.
@@ -279,28 +335,33 @@ fn comment(random: &mut Random, range: Range) -> String {
     "#".to_string() + &drawn(random, from, 8)
 }
 
-/// A file of so many lines at most, some of them without a triple.
-pub fn file(random: &mut Random, most: usize, range: Range, fault: Option<Fault>) -> File {
+/// The end of a line.
+fn line_end(random: &mut Random, range: Range) -> &'static str {
+    match range {
+        Range::All => random.pick(&["\n", "\r\n", "\r", "\n\n"]),
+        Range::Raptor => random.pick(&["\n", "\n\n"]),
+    }
+}
+
+/// A file, some of whose lines are without a triple.
+pub fn file(random: &mut Random, source: &Source) -> File {
     let mut text = String::new();
     let mut triples = Vec::new();
-    for _ in 0..random.between(0, most) {
+    for _ in 0..random.between(0, source.lines) {
         if random.once_in(6) {
             text += &white(random, false);
         } else {
-            let (line, texts) = triple(random, range, fault);
+            let (line, texts) = triple(random, source);
             text += &line;
             triples.push(texts);
         }
         if random.once_in(6) {
-            text += &comment(random, range);
+            text += &comment(random, source.range);
         }
-        text += match range {
-            Range::All => random.pick(&["\n", "\r\n", "\r", "\n\n"]),
-            Range::Raptor => random.pick(&["\n", "\n\n"]),
-        };
+        text += line_end(random, source.range);
     }
     if random.once_in(3) {
-        let (line, texts) = triple(random, range, fault);
+        let (line, texts) = triple(random, source);
         text += &line;
         triples.push(texts);
     }

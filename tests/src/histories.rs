@@ -2,10 +2,20 @@
 
 use crate::generate::{self, Names};
 use crate::model::terms::Triple;
+use crate::plan::Phase;
 use crate::random::Random;
 use crate::script::{Call, Command};
 use crate::session::{Failure, Harness, Session};
 use crate::store::Store;
+
+/// All of them, by name.
+pub const PHASES: [Phase; 5] = [
+    ("grown stores", grown, 1000),
+    ("lent stores", lent, 1000),
+    ("damaged stores", damaged, 3000),
+    ("larger stores", larger, 2),
+    ("stores grown by the binding for Rust", by_binding, 100),
+];
 
 /// A number of rows, tight now and then.
 fn rows(random: &mut Random, tight: &[usize], roomy: usize) -> usize {
@@ -48,7 +58,7 @@ pub fn grown(harness: &mut Harness, seed: u64) -> Result<(), Failure> {
 }
 
 /// The same, all calls made by the binding for Rust.
-pub fn by_binding(harness: &mut Harness, seed: u64) -> Result<(), Failure> {
+fn by_binding(harness: &mut Harness, seed: u64) -> Result<(), Failure> {
     let mut session = Session::new(harness);
     session.run(Command::Binding(true))?;
     grow(&mut session, seed)
@@ -118,7 +128,7 @@ fn many_names(random: &mut Random) -> Names {
 }
 
 /// A larger store, filled by one delivery and then changed and looked at.
-pub fn larger(harness: &mut Harness, seed: u64) -> Result<(), Failure> {
+fn larger(harness: &mut Harness, seed: u64) -> Result<(), Failure> {
     let mut random = Random::new(seed);
     let names = many_names(&mut random);
     let statements: Vec<Triple> = (0..random.between(10, 200))

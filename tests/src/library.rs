@@ -21,6 +21,7 @@ pub struct Library {
     facts: Fence,
     kept: Fence,
     supports: Fence,
+    dictionary: Fence,
     input: Fence,
     output: Fence,
     small: Fence,
@@ -28,11 +29,11 @@ pub struct Library {
     pub null_when_empty: bool,
     /// Whether calls are made by the binding for Rust, which lends the tables where they are.
     pub by_binding: bool,
-    /// A deliberate fault of listings, where one is wanted.
+    /// A deliberate fault of listings and readings, where one is wanted.
     pub fault: Option<Fault>,
 }
 
-/// Deliberate faults: a listing that is told of other memory than was lent.
+/// Deliberate faults: a listing or a reading that is told of other memory than was lent.
 #[derive(Clone, Copy, PartialEq, Eq)]
 pub enum Fault {
     /// The table is said to have one word more, which is read.
@@ -41,10 +42,23 @@ pub enum Fault {
     WritePast,
     /// The output is said to have one word less, so that its last word is never written.
     Unwritten,
+    /// The file is said to have one byte more.
+    FilePast,
+    /// The dictionary is said to have one byte more.
+    DictionaryPast,
+    /// The delivery is said to have one byte more, which is written.
+    DeliveryPast,
 }
 
 impl Fault {
-    pub const ALL: [Fault; 3] = [Fault::ReadPast, Fault::WritePast, Fault::Unwritten];
+    pub const ALL: [Fault; 6] = [
+        Fault::ReadPast,
+        Fault::WritePast,
+        Fault::Unwritten,
+        Fault::FilePast,
+        Fault::DictionaryPast,
+        Fault::DeliveryPast,
+    ];
 
     /// The name by which the command line calls a fault.
     pub fn name(self) -> &'static str {
@@ -52,6 +66,9 @@ impl Fault {
             Fault::ReadPast => "read-past",
             Fault::WritePast => "write-past",
             Fault::Unwritten => "unwritten",
+            Fault::FilePast => "file-past",
+            Fault::DictionaryPast => "dictionary-past",
+            Fault::DeliveryPast => "delivery-past",
         }
     }
 }
@@ -63,6 +80,7 @@ impl Library {
             facts: Fence::new(memory, ROOM),
             kept: Fence::new(memory, ROOM),
             supports: Fence::new(memory, ROOM),
+            dictionary: Fence::new(memory, ROOM),
             input: Fence::new(memory, ROOM),
             output: Fence::new(memory, ROOM),
             small: Fence::new(memory, 64),
@@ -93,6 +111,9 @@ impl Library {
                 };
                 self.list(f, store.table(*table), *order, &output.lent())
             }
+            Call::Read(file, output) => {
+                self.read(file, &mut store.dictionary, &output.lent_bytes())
+            }
         }
     }
 
@@ -101,8 +122,8 @@ impl Library {
         or_null(fence.lend(slice), slice.is_empty() && null_when_empty)
     }
 
-    /// The output of rows, likewise.
-    fn lend_rows(&mut self, output: &[u32]) -> *mut u32 {
+    /// An output, likewise.
+    fn lend_output<T: Copy>(&mut self, output: &[T]) -> *mut T {
         let null = output.is_empty() && self.null_when_empty;
         or_null(self.output.lend_output(output), null)
     }
@@ -199,7 +220,7 @@ impl Library {
         let st = Library::lend(&mut self.statements, &store.statements, null);
         let fa = Library::lend(&mut self.facts, facts, null);
         let qu = Library::lend(&mut self.input, question, null);
-        let rows = self.lend_rows(output);
+        let rows = self.lend_output(output);
         let count = self.small.lend_output(&[RUBBISH_COUNT]);
         // SAFETY: each pointer is that of a slice of the length given, apart from the others.
         let number = unsafe {
@@ -230,7 +251,7 @@ impl Library {
     ) -> Result<Outcome, String> {
         let null = self.null_when_empty;
         let st = Library::lend(&mut self.statements, statements, null);
-        let rows = self.lend_rows(output);
+        let rows = self.lend_output(output);
         let count = self.small.lend_output(&[RUBBISH_COUNT]);
         // SAFETY: each pointer is that of a slice of the length given, apart from the others.
         let number = unsafe {
@@ -250,20 +271,57 @@ impl Library {
     ) -> Result<Outcome, String> {
         let null = self.null_when_empty;
         let words = Library::lend(&mut self.statements, table, null);
-        let rows = self.lend_rows(output);
+        let rows = self.lend_output(output);
         let count = self.small.lend_output(&[RUBBISH_COUNT]);
-        let (read, written) = match self.fault {
-            None => (table.len(), output.len()),
-            Some(Fault::ReadPast) => (table.len() + 1, output.len()),
-            Some(Fault::WritePast) => (table.len(), output.len() + 1),
-            Some(Fault::Unwritten) => (table.len(), output.len() - 1),
-        };
+        let read = table.len() + self.more_by(Fault::ReadPast);
+        let written =
+            output.len() + self.more_by(Fault::WritePast) - self.more_by(Fault::Unwritten);
         // SAFETY: each pointer is that of a slice of the length given, apart from the others, unless
         // a fault is planted.
         let number = unsafe { f(words, read, order, rows, written, count) };
         unchanged(&self.statements, table)?;
         whole(&[&self.statements])?;
         self.rows(number)
+    }
+
+    fn read(
+        &mut self,
+        file: &[u8],
+        dictionary: &mut [u8],
+        delivery: &[u8],
+    ) -> Result<Outcome, String> {
+        let null = self.null_when_empty;
+        let fi = Library::lend(&mut self.input, file, null);
+        let di = Library::lend(&mut self.dictionary, dictionary, null);
+        let de = self.lend_output(delivery);
+        let length = self.small.lend_output(&[RUBBISH_COUNT]);
+        // SAFETY: each pointer is that of a slice of the length given, apart from the others, unless
+        // a fault is planted.
+        let number = unsafe {
+            sys::families_read_ntriples(
+                fi,
+                file.len() + self.more_by(Fault::FilePast),
+                di,
+                dictionary.len() + self.more_by(Fault::DictionaryPast),
+                de,
+                delivery.len() + self.more_by(Fault::DeliveryPast),
+                length,
+            )
+        };
+        unchanged(&self.input, file)?;
+        whole(&[&self.input, &self.dictionary, &self.output, &self.small])?;
+        dictionary.copy_from_slice(self.dictionary.read());
+        Ok(Outcome {
+            number,
+            count: self.small.read::<u64>()[0],
+            delivery: self.output.read().to_vec(),
+            ..Outcome::default()
+        })
+    }
+
+    /// What a fault adds to a length, where it is planted.
+    fn more_by(&self, fault: Fault) -> usize {
+        usize::from(self.fault == Some(fault))
     }
 
     /// The outcome of a call with an output of rows.

@@ -4,6 +4,7 @@ use crate::generate::{Parts, VARIABLE};
 use crate::model::tables::{self, Content, FACTS, KEPT, STATEMENTS};
 use crate::model::terms::*;
 use crate::model::IDLE;
+use crate::plan::Directed;
 use crate::random::Random;
 use crate::script::{Call, Command, Expected, Output, Way};
 use crate::session::{Failure, Harness, Session};
@@ -20,7 +21,7 @@ const V1: u32 = VARIABLE + 1;
 const V2: u32 = VARIABLE + 2;
 
 /// All directed cases, by name.
-pub const CASES: [(&str, fn(&mut Harness) -> Result<(), Failure>); 15] = [
+pub const CASES: [Directed; 15] = [
     ("chain of subclasses", |h| chain(h, SUBCLASS)),
     ("chain of subproperties", |h| chain(h, SUBPROPERTY)),
     ("chain through a domain", |h| bent_chain(h, DOMAIN)),

@@ -4,7 +4,9 @@ use crate::fence::Memory;
 use crate::histories;
 use crate::library::Fault;
 use crate::model::Model;
+use crate::plan::Case;
 use crate::random::case_seed;
+use crate::reading;
 use crate::script::{Call, Command, Output};
 use crate::session::{Failure, Harness, Session};
 use crate::store::{Store, Table};
@@ -59,35 +61,53 @@ pub fn run(seed: u64) {
     }
 }
 
-/// A listing of a table of one row, with a planted fault.
+/// A listing of a table of one row, or a reading of a file of one line, with a planted fault.
 pub fn fail(fault: Fault) {
     let mut harness = Harness::new(Model::default(), Memory::Heap);
     let mut session = Session::new(&mut harness);
-    let lengths = [Store::words(1); 4];
-    let output = Output { words: 6, fill: 1 };
-    let list = Call::List(Table::Statements, 0, output);
     for command in [
-        Command::Empty(lengths),
+        Command::Empty([Store::words(1); 4]),
         Command::Call(Call::Add([16, 2, 17])),
+        Command::LendDictionary(vec![0; 60]),
     ] {
         session
             .run(command)
             .unwrap_or_else(|f| panic!("{}", f.what));
     }
     session.harness.library.fault = Some(fault);
-    let _ = session.call(list);
+    let _ = session.call(match fault {
+        Fault::ReadPast | Fault::WritePast | Fault::Unwritten => {
+            Call::List(Table::Statements, 0, Output { words: 6, fill: 1 })
+        }
+        Fault::FilePast | Fault::DictionaryPast | Fault::DeliveryPast => {
+            Call::Read(LINE.to_vec(), Output { words: 22, fill: 1 })
+        }
+    });
 }
 
-/// The cases of the sample: what runs one, and how many.
-const CASES: [(fn(&mut Harness, u64) -> Result<(), Failure>, u64); 3] = [
+/// A file of one line.
+const LINE: &[u8] = b"<p:a> <p:b> <p:c> .";
+
+/// Histories of the sample: what runs one, and how many.
+const HISTORIES: [(Case, u64); 3] = [
     (histories::grown, 300),
     (histories::lent, 300),
     (histories::damaged, 900),
 ];
 
+/// The files of the sample, at about.
+const FILES: u64 = 5_000;
+
+/// The cases of the sample: what runs one, and how many.
+fn cases() -> impl Iterator<Item = (Case, u64)> {
+    let files = reading::PHASES.into_iter();
+    let files = files.map(|(_, case, share)| (case, FILES * share / 1000));
+    HISTORIES.into_iter().chain(files)
+}
+
 /// Runs the sample; the place and the failure of the first difference.
 pub fn sample(harness: &mut Harness, seed: u64) -> Result<(), (String, Failure)> {
-    for (number, (case, cases)) in CASES.into_iter().enumerate() {
+    for (number, (case, cases)) in cases().enumerate() {
         for i in 0..cases {
             case(harness, case_seed(seed, 32 + number as u64, i))
                 .map_err(|f| (format!("sample {number}, case {i}"), f))?;

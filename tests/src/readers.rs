@@ -1,15 +1,23 @@
-//! The model's reader of N-Triples: on worked cases, on files that are valid by construction, and
+//! N-Triples read by the library and by the model, on files that are valid by construction, and
 //! beside the readers of Apache Jena and of raptor (its program rapper).
 
-use crate::files::{self, Fault, File, Range};
-use crate::model::dictionary::{self, Reading};
-use crate::model::ntriples::{self, Texts};
+use crate::entries;
+use crate::fence::Memory;
+use crate::files::{self, Fault, File, Range, Source};
+use crate::library::Library;
+use crate::model::deliveries;
+use crate::model::dictionary::VOCABULARY;
+use crate::model::ntriples::{Text, Texts};
+use crate::model::Model;
 use crate::random::{case_seed, Random};
+use crate::script::{Call, Output};
+use crate::store::Store;
 use peers::Jena;
+use std::collections::HashMap;
 use std::path::{Path, PathBuf};
 use std::process::Command;
 
-/// Files read by the model alone, and files read by the three.
+/// Files read by library and model alone, and files read by all.
 const FILES: u64 = 20_000;
 const SHARED_FILES: u64 = 200;
 
@@ -17,17 +25,21 @@ const SHARED_FILES: u64 = 200;
 const LINES: usize = 8;
 const SHARED_LINES: usize = 40;
 
+/// The bytes of a dictionary with room for the texts of a file.
+const ROOM: usize = 1 << 14;
+
 /// The phase number of the files' seeds.
 const PHASE: u64 = 24;
 
 /// A difference, in words.
 type Difference = String;
 
-/// Where the files lie that the other programs read, and what they write.
+/// Where the files lie that the other programs read, and what they write; and the library.
 pub struct Desk {
     jena: Jena,
     file: PathBuf,
     written: PathBuf,
+    library: Library,
 }
 
 impl Desk {
@@ -37,6 +49,7 @@ impl Desk {
             jena: Jena::start().expect("Jena does not start"),
             file: folder.join("file.nt"),
             written: folder.join("written.nt"),
+            library: Library::new(Memory::Fenced),
         }
     }
 
@@ -45,7 +58,7 @@ impl Desk {
         let read = self.jena.read(&self.file, &self.written);
         read.map_err(|error| format!("Jena does not read the file: {error}"))?;
         let written = std::fs::read(&self.written).expect("what Jena wrote cannot be read");
-        ntriples::document(&written).ok_or_else(|| "what Jena wrote is not read".to_string())
+        by_model(&written).map_err(|_| "what Jena wrote is not read".to_string())
     }
 
     /// The triples that rapper reads, as it writes them.
@@ -60,26 +73,108 @@ impl Desk {
             let error = String::from_utf8_lossy(&output.stderr);
             return Err(format!("rapper does not read the file: {error}"));
         }
-        ntriples::document(&output.stdout)
-            .ok_or_else(|| "what rapper wrote is not read".to_string())
+        by_model(&output.stdout).map_err(|_| "what rapper wrote is not read".to_string())
     }
 
-    /// Lets Jena read a file, and rapper one of what it reads: how many triples the two have.
+    /// The triples that the library reads: those of its delivery, by the texts of its dictionary.
+    fn by_library(&mut self, file: &[u8]) -> Result<Vec<Texts>, Difference> {
+        let mut store = Store {
+            dictionary: vec![0; ROOM],
+            ..Store::default()
+        };
+        let output = Output {
+            words: deliveries::BYTES,
+            fill: 1,
+        };
+        let call = Call::Read(file.to_vec(), output);
+        let outcome = self.library.call(&mut store, &call)?;
+        if outcome.number != 0 {
+            return Err(format!(
+                "the library refuses the file by {}",
+                outcome.number
+            ));
+        }
+        let delivery = deliveries::read(&outcome.delivery[..outcome.count as usize])
+            .map_err(|number| format!("the delivery is refused by {number}"))?;
+        let known = texts(&store.dictionary);
+        let triples = delivery.entries.into_iter().map(|(_, triple)| triple);
+        Ok(triples
+            .map(|triple| triple.map(|term| known[&term].clone()))
+            .collect())
+    }
+
+    /// Lets Jena and the library read a file, and rapper and the library one of what rapper reads:
+    /// how many triples the two have.
     fn compare(&mut self, seed: u64, fault: Option<Fault>) -> Result<usize, Difference> {
         let mut random = Random::new(seed);
-        let file = files::file(&mut random, SHARED_LINES, Range::All, fault);
-        self.lay(&file);
-        differ("Jena", &file.triples, &self.by_jena()?)?;
-        let narrow = files::file(&mut random, SHARED_LINES, Range::Raptor, fault);
-        self.lay(&narrow);
-        differ("rapper", &narrow.triples, &self.by_rapper()?)?;
+        let file = self.lay(&mut random, Range::All, fault);
+        let read = self.by_jena()?;
+        differ("Jena", &file.triples, &read)?;
+        self.compare_library(&file, read)?;
+        let narrow = self.lay(&mut random, Range::Raptor, fault);
+        let read = self.by_rapper()?;
+        differ("rapper", &narrow.triples, &read)?;
+        self.compare_library(&narrow, read)?;
         Ok(file.triples.len() + narrow.triples.len())
     }
 
     /// Lays a file where the programs read it.
-    fn lay(&self, file: &File) {
+    fn lay(&self, random: &mut Random, range: Range, fault: Option<Fault>) -> File {
+        let file = drawn(random, SHARED_LINES, range, fault);
         std::fs::write(&self.file, &file.bytes).expect("the file cannot be written");
+        file
     }
+
+    /// Lets the library read a file of which its triples are known.
+    fn compare_library(&mut self, file: &File, triples: Vec<Texts>) -> Result<(), Difference> {
+        let read = self.by_library(&file.bytes)?;
+        differ("the library", &in_sections(triples), &read)
+    }
+
+    /// The library reads a file that is valid by construction.
+    fn construct(&mut self, seed: u64, fault: Option<Fault>) -> Result<(), Difference> {
+        let file = drawn(&mut Random::new(seed), LINES, Range::All, fault);
+        self.compare_library(&file, file.triples.clone())
+    }
+}
+
+/// The model reads a file that is valid by construction.
+fn construct(seed: u64, fault: Option<Fault>) -> Result<(), Difference> {
+    let file = drawn(&mut Random::new(seed), LINES, Range::All, fault);
+    differ("the model", &file.triples, &by_model(&file.bytes)?)
+}
+
+/// The texts of terms: those of the vocabulary, and of a dictionary.
+fn texts(dictionary: &[u8]) -> HashMap<u32, Text> {
+    let vocabulary = VOCABULARY.map(|text| text.as_bytes().to_vec());
+    let entries = entries::of(dictionary).into_iter();
+    (1..)
+        .zip(vocabulary)
+        .chain(entries.map(|entry| (entry.term, entry.text)))
+        .collect()
+}
+
+/// A file, with a fault in the triples that it says, where one is wanted.
+fn drawn(random: &mut Random, lines: usize, range: Range, fault: Option<Fault>) -> File {
+    let mut source = Source::new(lines, range);
+    source.fault = fault;
+    files::file(random, &source)
+}
+
+/// The triples that the model reads.
+fn by_model(file: &[u8]) -> Result<Vec<Texts>, Difference> {
+    let read = Model::default().document(file);
+    read.ok_or_else(|| "the model refuses the file".to_string())
+}
+
+/// Triples in the order of a delivery: statements, then all others.
+fn in_sections(triples: Vec<Texts>) -> Vec<Texts> {
+    let is_statement = |triple: &Texts| {
+        let mut properties = VOCABULARY[1..].iter();
+        properties.any(|text| text.as_bytes() == triple[1])
+    };
+    let (statements, facts): (Vec<Texts>, Vec<Texts>) = triples.into_iter().partition(is_statement);
+    [statements, facts].concat()
 }
 
 /// Says where what a reader gives differs from what the file says.
@@ -103,117 +198,29 @@ fn differ(reader: &str, wanted: &[Texts], given: &[Texts]) -> Result<(), Differe
     }
 }
 
-/// The model reads a file that is valid by construction.
-fn construct(seed: u64, fault: Option<Fault>) -> Result<(), Difference> {
-    let file = files::file(&mut Random::new(seed), LINES, Range::All, fault);
-    let read = ntriples::document(&file.bytes).ok_or("the model refuses the file")?;
-    differ("the model", &file.triples, &read)
-}
-
-/// A worked case: a file, a dictionary, the delivery's length, and the reply.
-type Case = (&'static str, Vec<u8>, usize, Result<usize, u32>);
-
-/// A dictionary of so many bytes with some entries.
-fn entries(length: usize, entries: &[(u32, &str)]) -> Vec<u8> {
-    let mut bytes = Vec::new();
-    for (term, text) in entries {
-        bytes.extend(term.to_le_bytes());
-        bytes.extend((text.len() as u64).to_le_bytes());
-        bytes.extend(text.as_bytes());
-    }
-    bytes.resize(length, 0);
-    bytes
-}
-
-/// The traps of reading: what each refuses, or how long the delivery is.
-fn cases() -> Vec<Case> {
-    let three = [
-        (16, "<http://e/s>"),
-        (17, "<http://e/p>"),
-        (18, "<http://e/o>"),
-    ];
-    let triple = "<http://e/s> <http://e/p> <http://e/o> .";
-    let mut long = entries(40, &[(16, "<p:a>")]);
-    long[4..12].copy_from_slice(&(u64::MAX - 4).to_le_bytes());
-    let mut behind = entries(40, &[(16, "<p:a>")]);
-    behind[30] = 1;
-    vec![
-        ("<p:a> <p:b> <p:c> .\nx", vec![0; 5], 0, Err(13)),
-        ("<http://e/\\u006F> <http://e/p> <http://e/s> .", entries(72, &three), 22, Ok(22)),
-        (triple, vec![0; 71], 0, Err(14)),
-        (triple, vec![0; 72], 21, Err(15)),
-        (triple, vec![0; 72], 22, Ok(22)),
-        ("", Vec::new(), 9, Err(15)),
-        ("", Vec::new(), 10, Ok(10)),
-        ("<http://e/s><http://e/p>_:b.", vec![0; 99], 99, Ok(22)),
-        ("<p:a> <p:b> _:b..", vec![0; 99], 99, Err(13)),
-        ("<p:a> <p:b> _:a.b.", entries(51, &[(16, "<p:a>"), (17, "<p:b>"), (0x4000_0001, "_:a.b")]), 22, Ok(22)),
-        ("<p:a> <p:b> \"a\"@en-US .\n<p:a> <p:b> \"a\"@EN-us .", vec![0; 55], 34, Ok(34)),
-        ("<p:a> <p:b> \"a\" .\n<p:a> <p:b> \"a\"^^<http://www.w3.org/2001/XMLSchema#\\u0073tring> .", vec![0; 49], 34, Ok(34)),
-        ("<p:a> <p:b> <http://e/\\u003E> .", vec![0; 99], 99, Err(13)),
-        ("<p:a> <p:b> <http://e/\\u0020> .", vec![0; 99], 99, Err(13)),
-        ("<p:a> <p:b> <http://e/\\n> .", vec![0; 99], 99, Err(13)),
-        ("<p:a> <p:b> \"\\u003E\" .", vec![0; 99], 99, Ok(22)),
-        ("<p:a> <p:b> \"\\uD83D\\uDE00\" .", vec![0; 99], 99, Err(13)),
-        ("<p:a> <p:b> \"\\U00110000\" .", vec![0; 99], 99, Err(13)),
-        ("<p:a> <p:b> \"\\uFFFE\\u0000\" .", vec![0; 99], 99, Ok(22)),
-        ("<s> <http://e/p> <http://e/o> .", vec![0; 99], 99, Err(13)),
-        ("<a:> <a:> <a:> .", vec![0; 16], 22, Ok(22)),
-        ("<p:a> <p:b> <p:c> . <p:a> <p:b> <p:c> .", vec![0; 99], 99, Err(13)),
-        ("\u{feff}<p:a> <p:b> <p:c> .", vec![0; 99], 99, Err(13)),
-        ("<p:a> <p:b> \"a\" ^^ <p:t> . # \u{e9}", vec![0; 99], 99, Ok(22)),
-        ("# nothing", entries(40, &[(17, "<p:a>")]), 10, Err(1)),
-        ("# nothing", entries(40, &[(0x8000_0001, "\"a\"@EN")]), 10, Err(1)),
-        ("# nothing", entries(60, &[(16, "<http://e/\\u0073>")]), 10, Err(1)),
-        ("# nothing", entries(60, &[(16, "<p:a>"), (17, "<p:a>")]), 10, Err(1)),
-        ("# nothing", entries(80, &[(16, "<http://www.w3.org/2000/01/rdf-schema#range>")]), 10, Err(1)),
-        ("# nothing", long, 10, Err(1)),
-        ("# nothing", behind, 10, Err(1)),
-        ("# nothing", entries(40, &[(16, "<p:a>")]), 10, Ok(10)),
-    ]
-}
-
-/// The model gives each worked case its reply, and a refusal leaves the dictionary and zeros.
-fn worked() -> Result<usize, Difference> {
-    let cases = cases();
-    for (file, dictionary, length, wanted) in &cases {
-        let Reading {
-            reply,
-            dictionary: after,
-            delivery,
-        } = dictionary::read(file.as_bytes(), dictionary, *length);
-        if reply != *wanted {
-            return Err(format!("{file:?}: {reply:?}, not {wanted:?}"));
-        }
-        if reply.is_err() && (after != *dictionary || delivery != vec![0; *length]) {
-            return Err(format!(
-                "{file:?}: a refusal changes the dictionary or the delivery"
-            ));
-        }
-    }
-    Ok(cases.len())
-}
-
-/// Whether a planted fault is found by the model and by the other programs.
+/// Whether a planted fault is found by the model, by the library, and by the other programs.
 pub fn finds(desk: &mut Desk, seed: u64, fault: Fault) -> bool {
-    let model = (0..FILES).any(|i| construct(case_seed(seed, PHASE, i), Some(fault)).is_err());
-    let others = (0..SHARED_FILES).any(|i| {
-        desk.compare(case_seed(seed, PHASE, i), Some(fault))
-            .is_err()
-    });
-    model && others
+    let seeds = |files: u64| (0..files).map(move |i| case_seed(seed, PHASE, i));
+    let model = seeds(FILES).any(|seed| construct(seed, Some(fault)).is_err());
+    let library = seeds(FILES).any(|seed| desk.construct(seed, Some(fault)).is_err());
+    let others = seeds(SHARED_FILES).any(|seed| desk.compare(seed, Some(fault)).is_err());
+    model && library && others
 }
 
 /// Runs everything: what was read, in words, or the first difference.
 pub fn run(desk: &mut Desk, seed: u64) -> Result<String, Difference> {
-    let worked = worked()?;
     for i in 0..FILES {
-        construct(case_seed(seed, PHASE, i), None).map_err(|d| format!("file {i}: {d}"))?;
+        let seed = case_seed(seed, PHASE, i);
+        construct(seed, None)
+            .and_then(|()| desk.construct(seed, None))
+            .map_err(|d| format!("file {i}: {d}"))?;
     }
     let mut triples = 0;
     for i in 0..SHARED_FILES {
         let compared = desk.compare(case_seed(seed, PHASE, i), None);
         triples += compared.map_err(|d| format!("files {i}: {d}"))?;
     }
-    Ok(format!("{worked} worked cases, {FILES} files, and {SHARED_FILES} files each beside Jena and rapper, {triples} triples"))
+    Ok(format!(
+        "{FILES} files, and {SHARED_FILES} files each beside Jena and rapper, {triples} triples"
+    ))
 }

@@ -1,20 +1,24 @@
 //! Commands, and scripts of commands as text.
 //!
 //! One command a line; `#` starts a comment. Words are decimal or hexadecimal numbers, `vN` a
-//! variable, `bN` a blank, `lN` a literal, and `W*N` is the word W repeated N times.
+//! variable, `bN` a blank, `lN` a literal, and `W*N` is the word W repeated N times. BYTES are pairs of
+//! hexadecimal digits, `-` for none, likewise.
 //!
 //!     empty S F K P             an empty store: words of each table, and support places
 //!     nulls on                  slices of no element are lent as null pointers; or `nulls off`
 //!     binding on                calls are made by the binding for Rust; or `binding off`
 //!     lend TABLE WORDS          lends one table's words; TABLE also: supports
+//!     lend dictionary BYTES     lends a dictionary
 //!     add S P O                 and withdraw
-//!     deliver HEX               the bytes as hexadecimal digits, `-` for none
+//!     deliver BYTES
 //!     ask WAY LENGTH FILL WORDS a question by the way `kept` or `rewritten`; an output of LENGTH
 //!                               words, filled with rubbish made from FILL
 //!     alternatives S P O LENGTH FILL
 //!     list TABLE ORDER LENGTH FILL
+//!     read LENGTH FILL BYTES    a file read with the dictionary into a delivery of LENGTH bytes
 //!     expect NUMBER             what the last call answered; also `expect result W W W W`,
-//!                               `expect count N`, `expect output WORDS`, `expect TABLE WORDS`
+//!                               `expect count N`, `expect output WORDS`, `expect TABLE WORDS`,
+//!                               `expect delivery BYTES`, `expect dictionary BYTES`
 
 use crate::model::terms::Triple;
 use crate::random::Random;
@@ -30,6 +34,8 @@ pub enum Call {
     Ask(Way, Vec<u32>, Output),
     Alternatives(Triple, Output),
     List(Table, u32, Output),
+    /// A file, and the delivery that it is read into.
+    Read(Vec<u8>, Output),
 }
 
 /// The two ways of asking a question.
@@ -39,7 +45,7 @@ pub enum Way {
     Rewritten,
 }
 
-/// A lent output: its number of words, and what makes the rubbish in it.
+/// A lent output: its number of words, or of bytes for a delivery, and what makes the rubbish in it.
 #[derive(Clone, Copy)]
 pub struct Output {
     pub words: usize,
@@ -52,6 +58,7 @@ pub enum Command {
     Empty([usize; 4]),
     Lend(Table, Vec<u32>),
     LendSupports(Vec<u16>),
+    LendDictionary(Vec<u8>),
     Nulls(bool),
     Binding(bool),
     Call(Call),
@@ -67,6 +74,8 @@ pub enum Expected {
     Output(Vec<u32>),
     Table(Table, Vec<u32>),
     Supports(Vec<u16>),
+    Delivery(Vec<u8>),
+    Dictionary(Vec<u8>),
 }
 
 impl Output {
@@ -74,6 +83,21 @@ impl Output {
     pub fn lent(self) -> Vec<u32> {
         let mut random = Random::new(u64::from(self.fill));
         (0..self.words).map(|_| random.word() | 1).collect()
+    }
+
+    /// The same of bytes.
+    pub fn lent_bytes(self) -> Vec<u8> {
+        let words = Output {
+            words: self.words.div_ceil(4),
+            ..self
+        };
+        let mut bytes: Vec<u8> = words
+            .lent()
+            .into_iter()
+            .flat_map(u32::to_le_bytes)
+            .collect();
+        bytes.truncate(self.words);
+        bytes
     }
 }
 
@@ -96,6 +120,7 @@ impl Call {
             Call::Ask(way, ..) => format!("ask {}", way.name()),
             Call::Alternatives(..) => "alternatives".into(),
             Call::List(table, ..) => format!("list {}", table.name()),
+            Call::Read(..) => "read".into(),
         }
     }
 }
@@ -127,6 +152,22 @@ fn show_all(words: &[u32]) -> String {
     text
 }
 
+/// Bytes as scripts write them, runs of one byte shortened.
+fn show_bytes(bytes: &[u8]) -> String {
+    if bytes.is_empty() {
+        return "-".into();
+    }
+    let mut text = String::new();
+    for run in bytes.chunk_by(|a, b| a == b) {
+        let shown = format!("{:02x}", run[0]);
+        match run.len() {
+            0..8 => text += &shown.repeat(run.len()),
+            length => text += &format!(" {shown}*{length} "),
+        }
+    }
+    text.trim().to_string()
+}
+
 /// A switch as scripts write it.
 fn on_or_off(on: bool) -> &'static str {
     match on {
@@ -150,11 +191,7 @@ impl fmt::Display for Call {
         match self {
             Call::Add(triple) => write!(f, "add{}", show_all(triple)),
             Call::Withdraw(triple) => write!(f, "withdraw{}", show_all(triple)),
-            Call::Deliver(bytes) if bytes.is_empty() => write!(f, "deliver -"),
-            Call::Deliver(bytes) => {
-                write!(f, "deliver ")?;
-                bytes.iter().try_for_each(|b| write!(f, "{b:02x}"))
-            }
+            Call::Deliver(bytes) => write!(f, "deliver {}", show_bytes(bytes)),
             Call::Ask(way, words, output) => {
                 write!(f, "ask {} {output}{}", way.name(), show_all(words))
             }
@@ -164,6 +201,7 @@ impl fmt::Display for Call {
             Call::List(table, order, output) => {
                 write!(f, "list {} {order} {output}", table.name())
             }
+            Call::Read(file, output) => write!(f, "read {output} {}", show_bytes(file)),
         }
     }
 }
@@ -178,6 +216,7 @@ impl fmt::Display for Command {
             Command::LendSupports(words) => {
                 write!(f, "lend supports{}", show_all(&widen(words)))
             }
+            Command::LendDictionary(bytes) => write!(f, "lend dictionary {}", show_bytes(bytes)),
             Command::Nulls(on) => write!(f, "nulls {}", on_or_off(*on)),
             Command::Binding(on) => write!(f, "binding {}", on_or_off(*on)),
             Command::Call(call) => call.fmt(f),
@@ -195,6 +234,8 @@ impl fmt::Display for Expected {
             Expected::Output(words) => write!(f, "output{}", show_all(words)),
             Expected::Table(table, words) => write!(f, "{}{}", table.name(), show_all(words)),
             Expected::Supports(words) => write!(f, "supports{}", show_all(&widen(words))),
+            Expected::Delivery(bytes) => write!(f, "delivery {}", show_bytes(bytes)),
+            Expected::Dictionary(bytes) => write!(f, "dictionary {}", show_bytes(bytes)),
         }
     }
 }
@@ -249,14 +290,24 @@ fn parse_output(words: &str, fill: &str) -> Option<Output> {
     })
 }
 
-fn parse_bytes(text: &str) -> Option<Vec<u8>> {
-    if text == "-" {
+/// Bytes from text, runs written out.
+fn parse_bytes(texts: &[&str]) -> Option<Vec<u8>> {
+    if texts == ["-"] {
         return Some(Vec::new());
     }
-    let digits = text.as_bytes().chunks(2);
-    digits
-        .map(|d| u8::from_str_radix(std::str::from_utf8(d).ok()?, 16).ok())
-        .collect()
+    let mut bytes = Vec::new();
+    for text in texts {
+        let (digits, times) = match text.split_once('*') {
+            Some((digits, times)) => (digits, times.parse().ok()?),
+            None => (*text, 1),
+        };
+        let pairs = digits.as_bytes().chunks(2);
+        let part: Option<Vec<u8>> = pairs
+            .map(|pair| u8::from_str_radix(std::str::from_utf8(pair).ok()?, 16).ok())
+            .collect();
+        bytes.extend(part?.repeat(times));
+    }
+    Some(bytes)
 }
 
 fn parse_on(text: &str) -> Option<bool> {
@@ -275,6 +326,8 @@ fn parse_expected(texts: &[&str]) -> Option<Expected> {
         ["count", count] => Some(Expected::Count(count.parse().ok()?)),
         ["output", words @ ..] => Some(Expected::Output(parse_words(words)?)),
         ["supports", words @ ..] => Some(Expected::Supports(parse_halves(words)?)),
+        ["delivery", bytes @ ..] => Some(Expected::Delivery(parse_bytes(bytes)?)),
+        ["dictionary", bytes @ ..] => Some(Expected::Dictionary(parse_bytes(bytes)?)),
         [number] => Some(Expected::Number(number.parse().ok()?)),
         [table, words @ ..] => Some(Expected::Table(parse_table(table)?, parse_words(words)?)),
         [] => None,
@@ -295,6 +348,9 @@ fn parse_command(texts: &[&str]) -> Option<Command> {
         ["lend", "supports", words @ ..] => {
             return Some(Command::LendSupports(parse_halves(words)?))
         }
+        ["lend", "dictionary", bytes @ ..] => {
+            return Some(Command::LendDictionary(parse_bytes(bytes)?))
+        }
         ["lend", table, words @ ..] => {
             return Some(Command::Lend(parse_table(table)?, parse_words(words)?))
         }
@@ -303,7 +359,7 @@ fn parse_command(texts: &[&str]) -> Option<Command> {
         ["expect", rest @ ..] => return Some(Command::Expect(parse_expected(rest)?)),
         ["add", triple @ ..] => Call::Add(parse_triple(triple)?),
         ["withdraw", triple @ ..] => Call::Withdraw(parse_triple(triple)?),
-        ["deliver", bytes] => Call::Deliver(parse_bytes(bytes)?),
+        ["deliver", bytes @ ..] => Call::Deliver(parse_bytes(bytes)?),
         ["ask", way, words, fill, question @ ..] => Call::Ask(
             parse_way(way)?,
             parse_words(question)?,
@@ -317,6 +373,9 @@ fn parse_command(texts: &[&str]) -> Option<Command> {
             parse_word(order)?,
             parse_output(words, fill)?,
         ),
+        ["read", bytes, fill, file @ ..] => {
+            Call::Read(parse_bytes(file)?, parse_output(bytes, fill)?)
+        }
         _ => return None,
     };
     Some(Command::Call(call))

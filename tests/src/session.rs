@@ -1,5 +1,6 @@
 //! Commands run on library and model side by side, everything compared after each.
 
+use crate::counts::Counts;
 use crate::fence::Memory;
 use crate::library::Library;
 use crate::model::ledger::Ledger;
@@ -7,14 +8,12 @@ use crate::model::questions::write_rows;
 use crate::model::{Model, IDLE};
 use crate::outcome::Outcome;
 use crate::peer::Peer;
-use crate::script::{Call, Command, Expected, Way};
+use crate::script::{self, Call, Command, Expected, Way};
 use crate::store::{Store, Table};
-use std::collections::BTreeMap;
 use std::fmt;
 use std::fs::File;
 use std::io::Write;
 use std::path::PathBuf;
-use std::time::{Duration, Instant};
 
 /// A difference, and the commands up to it.
 pub struct Failure {
@@ -22,11 +21,8 @@ pub struct Failure {
     pub script: Vec<Command>,
 }
 
-/// How often each kind of call gave each answer.
-pub type Counts = BTreeMap<(String, u32), u64>;
-
-/// How long a failing script may be shortened.
-const SHORTENING: Duration = Duration::from_secs(20);
+/// The bytes of a file that a difference shows, at most.
+const SHOWN: usize = 2000;
 
 /// What all sessions share.
 pub struct Harness {
@@ -59,20 +55,10 @@ impl Harness {
         script.iter().try_for_each(|c| session.run(c.clone()))
     }
 
-    /// Leaves out commands of a failing script that its failure does not need, for some time.
-    pub fn shortened(&mut self, failure: Failure) -> Failure {
-        let start = Instant::now();
-        let mut shortest = failure;
-        for i in (0..shortest.script.len()).rev() {
-            let mut script = shortest.script.clone();
-            if i < script.len() && start.elapsed() < SHORTENING {
-                script.remove(i);
-                if let Err(shorter) = self.replay(&script) {
-                    shortest = shorter;
-                }
-            }
-        }
-        shortest
+    /// Runs a script that is known to be one.
+    pub fn replay_text(&mut self, text: &str) -> Result<(), Failure> {
+        let script = script::parse(text).expect("a case is no script");
+        self.replay(&script)
     }
 }
 
@@ -120,7 +106,7 @@ impl<'a> Session<'a> {
         self.run(Command::Call(call))
     }
 
-    /// Runs a call of which document 01 says the number.
+    /// Runs a call of which the papers say the number.
     pub fn expect(&mut self, call: Call, number: u32) -> Result<(), Failure> {
         self.call(call)?;
         self.run(Command::Expect(Expected::Number(number)))
@@ -150,9 +136,10 @@ impl<'a> Session<'a> {
                 self.store.supports = words;
                 self.ledger = None;
             }
+            Command::LendDictionary(bytes) => self.store.dictionary = bytes,
             Command::Nulls(on) => self.harness.library.null_when_empty = on,
             Command::Binding(on) => self.harness.library.by_binding = on,
-            Command::Call(call) => self.compare(&call)?,
+            Command::Call(call) => self.compare(&call).map_err(|what| with_file(what, &call))?,
             Command::Expect(expected) => self.check(&expected)?,
         }
         Ok(())
@@ -195,22 +182,28 @@ impl<'a> Session<'a> {
         Ok(())
     }
 
-    /// Compares the last call with what document 01 says of it.
+    /// Compares the last call with what the papers say of it.
     fn check(&self, expected: &Expected) -> Result<(), String> {
-        let paper = "document 01";
+        let papers = "the papers";
         let last = &self.last;
         match expected {
             Expected::Number(number) => {
-                differ("the answer", Answer(last.number), Answer(*number), paper)
+                differ("the answer", Answer(last.number), Answer(*number), papers)
             }
-            Expected::Count(count) => differ("the row count", last.count, u64::from(*count), paper),
-            Expected::Result(result) => differ_words("the result", &last.result, result, paper),
-            Expected::Output(words) => differ_words("the output", &last.output, words, paper),
+            Expected::Count(count) => differ("the count", last.count, u64::from(*count), papers),
+            Expected::Result(result) => differ_words("the result", &last.result, result, papers),
+            Expected::Output(words) => differ_words("the output", &last.output, words, papers),
             Expected::Table(table, words) => {
-                differ_words(table.name(), self.store.table(*table), words, paper)
+                differ_words(table.name(), self.store.table(*table), words, papers)
             }
             Expected::Supports(words) => {
-                differ_words("supports", &self.store.supports, words, paper)
+                differ_words("supports", &self.store.supports, words, papers)
+            }
+            Expected::Delivery(bytes) => {
+                differ_words("the delivery", &last.delivery, bytes, papers)
+            }
+            Expected::Dictionary(bytes) => {
+                differ_words("the dictionary", &self.store.dictionary, bytes, papers)
             }
         }
     }
@@ -242,6 +235,11 @@ impl Model {
             Call::List(table, order, output) => {
                 let answer = self.list(*table, store.table(*table), *order);
                 rows_outcome(|words| write_rows(answer, 3, words), output.lent())
+            }
+            Call::Read(file, output) => {
+                let mut delivery = output.lent_bytes();
+                let reply = self.read(file, &mut store.dictionary, &mut delivery);
+                Outcome::of_reading(reply, delivery)
             }
         }
     }
@@ -287,6 +285,16 @@ fn ledger_call(ledger: &mut Ledger, call: &Call) -> Option<Outcome> {
     })
 }
 
+/// A difference, with the text of a file that was read and is not too long.
+fn with_file(what: String, call: &Call) -> String {
+    match call {
+        Call::Read(file, _) if file.len() < SHOWN => {
+            format!("{what}\nthe file: {}", file.escape_ascii())
+        }
+        _ => what,
+    }
+}
+
 /// An answer's number, as a difference shows it.
 #[derive(PartialEq)]
 struct Answer(u32);
@@ -318,12 +326,12 @@ where
 {
     if found.len() != expected.len() {
         let (found, expected) = (found.len(), expected.len());
-        return Err(format!("{what}: {found} words, by {by} {expected}"));
+        return Err(format!("{what}: a length of {found}, by {by} {expected}"));
     }
     match found.iter().zip(expected).position(|(f, e)| f != e) {
         None => Ok(()),
         Some(i) => Err(format!(
-            "{what}, word {i}: the library gives {}, {by} {}",
+            "{what}, at {i}: the library gives {}, {by} {}",
             found[i], expected[i]
         )),
     }
@@ -336,14 +344,21 @@ fn differ_outcome(found: &Outcome, expected: &Outcome, by: &str) -> Result<(), S
         Answer(expected.number),
         by,
     )?;
-    differ("the row count", found.count, expected.count, by)?;
+    differ("the count", found.count, expected.count, by)?;
     differ_words("the result", &found.result, &expected.result, by)?;
-    differ_words("the output", &found.output, &expected.output, by)
+    differ_words("the output", &found.output, &expected.output, by)?;
+    differ_words("the delivery", &found.delivery, &expected.delivery, by)
 }
 
 fn differ_store(found: &Store, expected: &Store, by: &str) -> Result<(), String> {
     for table in Table::ALL {
         differ_words(table.name(), found.table(table), expected.table(table), by)?;
     }
-    differ_words("supports", &found.supports, &expected.supports, by)
+    differ_words("supports", &found.supports, &expected.supports, by)?;
+    differ_words(
+        "the dictionary",
+        &found.dictionary,
+        &expected.dictionary,
+        by,
+    )
 }

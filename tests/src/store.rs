@@ -1,12 +1,13 @@
-//! The four lent tables, as library and model are both given them.
+//! What is lent to library and model alike: the four tables, and a dictionary.
 
-/// The words of a store.
+/// The words of a store, and the bytes of a dictionary.
 #[derive(Clone, Default, PartialEq)]
 pub struct Store {
     pub statements: Vec<u32>,
     pub facts: Vec<u32>,
     pub kept: Vec<u32>,
     pub supports: Vec<u16>,
+    pub dictionary: Vec<u8>,
 }
 
 /// A table of rows.
@@ -38,6 +39,7 @@ impl Store {
             facts: vec![0; lengths[1]],
             kept: vec![0; lengths[2]],
             supports: vec![0; lengths[3]],
+            dictionary: Vec::new(),
         }
     }
 

@@ -5,6 +5,7 @@
 
 use crate::generate::VARIABLE;
 use crate::model::terms::*;
+use crate::plan::Directed;
 use crate::script::{Call, Command, Expected, Output, Way};
 use crate::session::{Failure, Harness, Session};
 use crate::store::{Store, Table};
@@ -38,7 +39,7 @@ const VU: u32 = VARIABLE + 4;
 type Case = fn(&mut Session, u32) -> Result<(), Failure>;
 
 /// All cases, by name.
-pub const CASES: [(&str, fn(&mut Harness) -> Result<(), Failure>); 22] = [
+pub const CASES: [Directed; 22] = [
     ("windows of objects, the kept way", |h| run(h, kept_objects)),
     ("windows of objects, the rewritten way", |h| run(h, objects)),
     ("windows of one object", |h| run(h, one_object)),

@@ -1,12 +1,14 @@
 //! The dictionary of texts (document 02's term book), and N-Triples read into it and a delivery
 //! (slip 1).
 
-use crate::model::ntriples::{self, Text};
-use crate::model::terms::{is_statement_property, Triple};
+use super::deliveries::BYTES;
+use super::ntriples::{Text, Texts};
+use super::terms::{is_statement_property, Triple};
+use super::{Fault, Model};
 use std::collections::HashMap;
 
 /// "Vocabulary URIs get 1 to 5 in every book, without an entry."
-const VOCABULARY: [&str; 5] = [
+pub const VOCABULARY: [&str; 5] = [
     "<http://www.w3.org/1999/02/22-rdf-syntax-ns#type>",
     "<http://www.w3.org/2000/01/rdf-schema#subClassOf>",
     "<http://www.w3.org/2000/01/rdf-schema#subPropertyOf>",
@@ -20,54 +22,75 @@ const NUMBERS: u32 = 1 << 30;
 /// The bytes of an entry in front of its text.
 const HEADER: usize = 12;
 
-/// The most bytes of a delivery.
-const MOST_BYTES: usize = 65_536;
-
-/// What reading gives and leaves.
-#[derive(Clone, PartialEq, Eq, Debug)]
-pub struct Reading {
-    /// The length of the delivery, or the number that refused.
-    pub reply: Result<usize, u32>,
-    pub dictionary: Vec<u8>,
-    pub delivery: Vec<u8>,
-}
+/// The texts that the fault `FirstSegment` leaves: the vocabulary and as many entries as the library
+/// has in one index.
+const FIRST_SEGMENT: usize = 5 + 49_152;
 
 /// A dictionary that grows.
 struct Dictionary {
+    model: Model,
     terms: HashMap<Text, u32>,
-    /// The next number of each kind: "URIs from 16 and the others from 1".
+    /// The next number of each kind.
     next: [u32; 3],
     /// The bytes of the entries.
     bytes: Vec<u8>,
 }
 
 impl Dictionary {
-    fn empty() -> Dictionary {
+    fn empty(model: Model) -> Dictionary {
         let texts = VOCABULARY.iter().map(|text| text.as_bytes().to_vec());
-        Dictionary {
+        let mut dictionary = Dictionary {
+            model,
             terms: texts.zip(1..).collect(),
+            // "URIs from 16 and the others from 1".
             next: [16, 1, 1],
             bytes: Vec::new(),
+        };
+        if model.has(Fault::VocabularyEntries) {
+            dictionary.terms.clear();
         }
+        if model.has(Fault::UrisFromOne) {
+            dictionary.next = [1; 3];
+        }
+        dictionary
     }
 
     /// The dictionary of some bytes: none where they are not well formed (question 1).
-    fn of(bytes: &[u8]) -> Option<Dictionary> {
-        let mut dictionary = Dictionary::empty();
+    fn of(model: Model, bytes: &[u8]) -> Option<Dictionary> {
+        let mut dictionary = Dictionary::empty(model);
         let mut rest = bytes;
         while rest.iter().any(|byte| *byte != 0) {
             let term = u32::from_le_bytes(rest.get(..4)?.try_into().ok()?);
-            let length = u64::from_le_bytes(rest.get(4..HEADER)?.try_into().ok()?);
+            if term == 0 && model.has(Fault::BytesBehind) {
+                break;
+            }
+            let mut length = u64::from_le_bytes(rest.get(4..HEADER)?.try_into().ok()?);
+            if model.has(Fault::LengthCut) {
+                length %= 1 << 32;
+            }
             let length = usize::try_from(length).ok()?;
-            let text = rest[HEADER..].get(..length)?.to_vec();
-            let canonical = ntriples::term(&text).as_ref() == Some(&text);
-            let known = dictionary.terms.contains_key(&text);
-            if term == 0 || !canonical || known || dictionary.enter(text) != Some(term) {
+            let text = rest[HEADER..].get(..length)?;
+            if term == 0 || dictionary.enter_again(text)? != term {
                 return None;
             }
             rest = &rest[HEADER + length..];
         }
         Some(dictionary)
+    }
+
+    /// The term of a text of a dictionary that is "canonical, distinct and none of 1 to 5".
+    fn enter_again(&mut self, text: &[u8]) -> Option<u32> {
+        let canonical = self.model.term(text)?;
+        if canonical != text && !self.model.has(Fault::OtherTexts) {
+            return None;
+        }
+        if self.model.has(Fault::TextTwice) {
+            self.terms.remove(text);
+        }
+        match self.terms.contains_key(text) {
+            true => None,
+            false => self.enter(text.to_vec()),
+        }
     }
 
     /// The term of a text, which is entered where it is new; none where no number is left.
@@ -89,61 +112,86 @@ impl Dictionary {
         self.bytes.extend(term.to_le_bytes());
         self.bytes.extend((text.len() as u64).to_le_bytes());
         self.bytes.extend(&text);
-        self.terms.insert(text, term);
+        if !(self.model.has(Fault::FirstSegment) && self.terms.len() >= FIRST_SEGMENT) {
+            self.terms.insert(text, term);
+        }
         Some(term)
     }
 }
 
-/// Reads a file with a dictionary into a delivery of so many bytes.
-pub fn read(file: &[u8], dictionary: &[u8], length: usize) -> Reading {
-    accepted(file, dictionary, length).unwrap_or_else(|number| Reading {
-        reply: Err(number),
-        dictionary: dictionary.to_vec(),
-        delivery: vec![0; length],
-    })
-}
-
-/// What reading gives and leaves where nothing refuses it: 1, 13, 14, 15 are asked in this order,
-/// each of the whole file.
-fn accepted(file: &[u8], dictionary: &[u8], length: usize) -> Result<Reading, u32> {
-    let mut grown = Dictionary::of(dictionary).ok_or(1u32)?;
-    let lines = ntriples::document(file).ok_or(13u32)?;
-    let mut triples = Vec::new();
-    for texts in lines {
-        let mut triple = [0; 3];
-        for (word, text) in triple.iter_mut().zip(texts) {
-            *word = grown.enter(text).ok_or(14u32)?;
+impl Model {
+    /// Reads a file with a dictionary into a delivery: its length, or the number that refuses. 1, 13,
+    /// 14 and 15 are asked in this order, each of the whole file. "A refusal leaves outputs zero, and
+    /// here the book unchanged."
+    pub fn read(
+        &self,
+        file: &[u8],
+        dictionary: &mut [u8],
+        delivery: &mut [u8],
+    ) -> Result<usize, u32> {
+        delivery.fill(0);
+        let mut grown = Dictionary::of(*self, dictionary).ok_or(1u32)?;
+        let lines = self.document(file).ok_or(13u32)?;
+        let triples = self.triples(&mut grown, lines).ok_or(14u32)?;
+        let entries = grown.bytes;
+        let additions = self.additions(&triples);
+        let most = match self.has(Fault::LongDelivery) {
+            true => delivery.len(),
+            false => delivery.len().min(BYTES),
+        };
+        let mut questions = [
+            (14, entries.len() <= dictionary.len()),
+            (15, additions.len() <= most),
+        ];
+        if self.has(Fault::DeliveryFirst) {
+            questions.reverse();
         }
-        triples.push(triple);
+        if let Some((number, _)) = questions.into_iter().find(|(_, fits)| !fits) {
+            if number == 14 && self.has(Fault::EntriesLeft) {
+                dictionary.copy_from_slice(&entries[..dictionary.len()]);
+            }
+            return Err(number);
+        }
+        dictionary[..entries.len()].copy_from_slice(&entries);
+        delivery[..additions.len()].copy_from_slice(&additions);
+        Ok(additions.len())
     }
-    let mut bytes = grown.bytes;
-    if bytes.len() > dictionary.len() {
-        return Err(14);
-    }
-    if 10 + 12 * triples.len() > length.min(MOST_BYTES) {
-        return Err(15);
-    }
-    bytes.resize(dictionary.len(), 0);
-    let mut delivery = additions(&triples);
-    let reply = Ok(delivery.len());
-    delivery.resize(length, 0);
-    Ok(Reading {
-        reply,
-        dictionary: bytes,
-        delivery,
-    })
-}
 
-/// A delivery that adds triples: statements and facts each in order, and nothing else.
-fn additions(triples: &[Triple]) -> Vec<u8> {
-    let (statements, facts): (Vec<Triple>, Vec<Triple>) = triples
-        .iter()
-        .partition(|triple| is_statement_property(triple[1]));
-    let mut bytes = vec![0; 4];
-    for section in [statements, facts] {
-        bytes.extend((section.len() as u16).to_le_bytes());
-        bytes.extend(section.iter().flatten().flat_map(|word| word.to_le_bytes()));
+    /// The triples of a file's lines, whose new texts are entered "in order of first sight"; none
+    /// where no number is left.
+    fn triples(&self, dictionary: &mut Dictionary, lines: Vec<Texts>) -> Option<Vec<Triple>> {
+        let mut triples = Vec::new();
+        for texts in lines {
+            if self.has(Fault::ObjectFirst) {
+                dictionary.enter(texts[2].clone())?;
+            }
+            let mut triple = [0; 3];
+            for (word, text) in triple.iter_mut().zip(texts) {
+                *word = dictionary.enter(text)?;
+            }
+            if !(self.has(Fault::CopyDropped) && triples.contains(&triple)) {
+                triples.push(triple);
+            }
+        }
+        Some(triples)
     }
-    bytes.extend([0, 0]);
-    bytes
+
+    /// A delivery that adds triples, "one for each triple line, statements and facts each in file
+    /// order, without extra fields".
+    fn additions(&self, triples: &[Triple]) -> Vec<u8> {
+        let (statements, facts): (Vec<Triple>, Vec<Triple>) = triples
+            .iter()
+            .partition(|triple| is_statement_property(triple[1]));
+        let mut sections = [statements, facts];
+        if self.has(Fault::SectionsSwapped) {
+            sections.reverse();
+        }
+        let mut bytes = vec![0; 4];
+        for section in sections {
+            bytes.extend((section.len() as u16).to_le_bytes());
+            bytes.extend(section.iter().flatten().flat_map(|word| word.to_le_bytes()));
+        }
+        bytes.extend([0, 0]);
+        bytes
+    }
 }
