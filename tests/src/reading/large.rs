@@ -108,32 +108,6 @@ pub fn long_texts(harness: &mut Harness) -> Result<(), Failure> {
     Ok(())
 }
 
-/// The slot at which the library looks for a text first, as crates/dictionary_bytes has it.
-fn slot_of(text: &str) -> u64 {
-    let on = |hash: u64, byte: u8| (hash * 16_777_619 + u64::from(byte)) % (1 << 32);
-    let hash = text.bytes().fold(0, on);
-    hash * 2_654_435_769 % (1 << 32) / 65_536
-}
-
-/// Texts that all begin at the last slots of the index, so that a few of them fill a segment.
-pub fn last_slots(harness: &mut Harness) -> Result<(), Failure> {
-    let iris = (0..).map(|number| format!("<p:{number}>"));
-    let texts: Vec<String> = iris.filter(|iri| slot_of(iri) >= 65_530).take(30).collect();
-    let mut session = Session::new(harness);
-    for known in 0..texts.len() {
-        let of_known = texts[..known].iter().map(|text| text.clone().into_bytes());
-        let mut dictionary = entries::bytes(&entries::numbered(of_known));
-        dictionary.resize(2000, 0);
-        session.run(Command::LendDictionary(dictionary))?;
-        let line = |text: &String| format!("{text} {0} {text} .\n", texts[known]);
-        let file: String = texts.iter().rev().map(line).collect();
-        for _ in 0..2 {
-            session.expect(call(file.as_bytes(), delivery_length(30)), 0)?;
-        }
-    }
-    Ok(())
-}
-
 /// A file with the texts of some numbers, each of its lines twice.
 fn file_of(subjects: &[usize], property: usize, objects: &[usize]) -> String {
     let mut file = String::new();

@@ -5,6 +5,7 @@ mod damage;
 mod drawn;
 mod large;
 mod places;
+mod slots;
 mod traps;
 
 use crate::plan::{Directed, Phase};
@@ -13,7 +14,7 @@ use crate::script::{Call, Command, Output};
 use crate::session::{Failure, Harness, Session};
 
 /// The directed cases, by name.
-pub const CASES: [Directed; 19] = [
+pub const CASES: [Directed; 20] = [
     ("example of reading", |harness| {
         harness.replay_text(include_str!("../../cases/reading.script"))
     }),
@@ -25,7 +26,8 @@ pub const CASES: [Directed; 19] = [
     ("the most lines", large::most_lines),
     ("more lines than a delivery holds", large::more_lines),
     ("long texts", large::long_texts),
-    ("texts at the end of an index", large::last_slots),
+    ("texts at the end of an index", slots::last_slots),
+    ("texts of one slot that begin alike", slots::begun_alike),
     ("dictionaries of several segments", large::segments),
     ("a text twice, in two segments", large::twice),
     ("a dictionary full of many texts", large::full),
