@@ -71,7 +71,7 @@ uint32_t families_list_kept(const uint32_t *table, size_t table_len, uint32_t or
 
 /* Reads a file of RDF 1.1 N-Triples (document 02, slip 1) with a dictionary, which document 02 calls a term book, into a delivery: 0, or
  * 1, 13, 14, 15; *length: the bytes of the delivery, 0 when refused. Bytes of zeros, or none, are an empty dictionary; texts that are new
- * are entered in it. The delivery adds one triple for each line that has one, and zeros follow it. A reading uses some 0.45 MB of stack. */
+ * are entered in it. The delivery adds one triple for each line that has one, and zeros follow it. A reading uses some 0.37 MB of stack. */
 uint32_t families_read_ntriples(const uint8_t *file, size_t file_len, uint8_t *dictionary, size_t dictionary_len,
                                 uint8_t *delivery, size_t delivery_len, uint64_t *length);
 

@@ -30,7 +30,7 @@ const HASHES: u64 = 4294967296;
 const SPREAD: u64 = 2654435769;
 
 // The hash of a text that goes on by a byte.
-fn hash_on(h: u64, b: u8) -> u64
+pub fn hash_on(h: u64, b: u8) -> u64
     requires { ⌜ h < 4294967296 ⌝ }
     ensures { λ r. ⌜ r ≡ hashOn h b ⌝ }
     ensures { λ r. ⌜ r < 4294967296 ⌝ }

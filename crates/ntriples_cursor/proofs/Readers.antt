@@ -185,7 +185,7 @@ module _ (line : List ℕ) (step : State → ℕ → Step) (close : ℕ) (R : Is
     unfolding afterStep
     outside-escape e = record { chars = M .behind; stands = M .rest; scans = rw (e, R .escapes) at (reads-step line at step outside ds rest D m M) }
 
-    outside-sound : step outside (m .code) ≡ breaks → ⊥
+    pub outside-sound : step outside (m .code) ≡ breaks → ⊥
     unfolding afterStep
     outside-sound e = none-not (rw e at (reads-step line at step outside ds rest D m M))
 

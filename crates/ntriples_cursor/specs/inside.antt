@@ -1,3 +1,4 @@
 pub mod Readers
 pub mod Coming
 pub mod Letters
+pub mod Own

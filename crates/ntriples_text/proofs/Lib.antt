@@ -1,3 +1,4 @@
+pub mod Comparing
 pub mod Passing
 pub mod Writing
 pub mod Vocabulary

@@ -4,7 +4,7 @@ use mathlib.Core.Path.{_≡_, refl, sym, ap, _∙_}
 use mathlib.Core.Bool.{Bool, true, false, _&&_}
 use mathlib.Core.List.{List, [], _∷_, _++_, append-assoc, append-nil}
 use native.Mathlib.Omega.{arith}
-use lib.ListN.{length, take, drop, length-append}
+use lib.ListN.{length, getD, take, drop, length-append}
 use lib.Seq.{sets, length-sets, length-take-le}
 use Rattle.spec_ntriples.specs.Texts.{Text, isSameText}
 use Rattle.ntriples_bytes.specs.inside.Places.{HasText}
@@ -14,6 +14,8 @@ use Rattle.ntriples_cursor.specs.declared.Mode.the-variants.{Term}
 use Rattle.ntriples_cursor.specs.declared.Cursor.{Cursor}
 use Rattle.ntriples_cursor.specs.declared.Piece.{Piece}
 use Rattle.ntriples_cursor.specs.inside.Coming.{Coming, SomeComing, Splits, Stepped}
+use Rattle.ntriples_cursor.specs.inside.Own.{isOwn, ownPiece}
+use Rattle.ntriples_cursor.proofs.Own.{own-stepped}
 use Rattle.ntriples_cursor.proofs.Placing.{coming-placed}
 use Rattle.ntriples_cursor.proofs.Comparing.{pieces-more}
 use Rattle.ntriples_text.specs.inside.Tokens.{Left}
@@ -37,6 +39,12 @@ module _ (line : List ℕ) (end : ℕ) (c : Cursor) (P : List ℕ → Type 0) (X
   -- A piece less.
   pub left-more : (p : Piece) (S : Stepped line end (c .place) (X .left) p) (Q : List ℕ → Type 0) → (P (take (p .len) (p .bytes) ++ S .later) → Q (S .later)) → Left line end (p .next) Q
   left-more p S Q f = record { left = S .later; coming = S .splits .coming; sound = f (rw (S .splits .same) at (X .sound)) }
+
+  -- A byte less that stands for itself.
+  pub left-own
+      : c .place < end → isOwn (c .mode) (getD line (c .place) 0) ≡ true → (Q : List ℕ → Type 0) → ((later : List ℕ) → P (getD line (c .place) 0 ∷ later) → Q later)
+      → Left line end (record { place = c .place + 1; mode = c .mode }) Q
+  left-own h e Q f = let S = own-stepped line end c (X .left) h e (X .coming) in left-more (ownPiece c (getD line (c .place) 0)) S Q (f (S .later))
 
 -- What is counted.
 pub length-more : (n len w : ℕ) (bs later : List ℕ) → len ≤ length bs → n + length (take len bs ++ later) ≡ w → n + len + length later ≡ w

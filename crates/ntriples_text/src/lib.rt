@@ -1,13 +1,17 @@
 // The canonical text of a term that stands in a line: its length, its hash, whether it is a text, and written into bytes.
 use dictionary_bytes::hash_from;
+use dictionary_bytes::hash_on;
 use ntriples_bytes::char_at;
 use ntriples_cursor::Cursor;
 use ntriples_cursor::Mode;
 use ntriples_cursor::Piece;
+use ntriples_cursor::steps::is_own;
 use ntriples_cursor::steps::is_piece;
 use ntriples_cursor::steps::next_piece;
 ghost use mathlib.Core.Path.{_≡_};
-ghost use Prim.Native.Nat.{_+_, _-_, _≤_, _<_};
+ghost use mathlib.Core.Bool.{true, _&&_};
+ghost use mathlib.Core.List.{List, _∷_};
+ghost use Prim.Native.Nat.{ℕ, _+_, _-_, _≤_, _<_};
 ghost use lib.ListN.{length, take, drop};
 ghost use lib.Seq.{sets};
 ghost use Rattle.spec_ntriples.specs.Texts.{Text, isSameText};
@@ -32,6 +36,16 @@ pub fn text_length(line: &[u8], from: usize, end: usize) -> usize
     };
     let mut n = 0;
     while c.place < end {
+        let place = c.place;
+        let mode = c.mode;
+        if is_own(mode, line[place]) {
+            n += 1;
+            c = Cursor {
+                place: place + 1,
+                mode: mode,
+            };
+            continue;
+        }
         let p = next_piece(line, end, c);
         n += p.len;
         let next = p.next;
@@ -63,12 +77,35 @@ pub fn text_hash(line: &[u8], from: usize, end: usize) -> u64
     };
     let mut h = 0;
     while c.place < end {
+        let place = c.place;
+        let mode = c.mode;
+        let b = line[place];
+        if is_own(mode, b) {
+            h = hash_on(h, b);
+            c = Cursor {
+                place: place + 1,
+                mode: mode,
+            };
+            continue;
+        }
         let p = next_piece(line, end, c);
         h = hash_piece(h, p);
         let next = p.next;
         c = next;
     }
     h
+}
+
+// Whether a byte stands first in the bytes left from an index on.
+fn is_byte(b: u8, text: &[u8], at: usize, left: usize) -> bool
+    requires { ⌜ at + left ≤ length (now text) ⌝ }
+    ensures fits { λ r. ⌜ (r ≡ true → 1 ≤ left) ⌝ }
+    ensures first { λ r. ⌜ ((later : List ℕ) → isSameText (b ∷ later) (take left (drop at (now (text .entry)))) ≡ (r && isSameText later (take (left - 1) (drop (at + 1) (now (text .entry)))))) ⌝ }
+{
+    if left == 0 {
+        return false;
+    }
+    b == text[at]
 }
 
 // Whether a term's text is the n bytes from an index on.
@@ -83,6 +120,20 @@ pub fn is_text(line: &[u8], from: usize, end: usize, text: &[u8], at: usize, n: 
     };
     let mut i = 0;
     while c.place < end {
+        let place = c.place;
+        let mode = c.mode;
+        let b = line[place];
+        if is_own(mode, b) {
+            if !is_byte(b, text, at + i, n - i) {
+                return false;
+            }
+            i += 1;
+            c = Cursor {
+                place: place + 1,
+                mode: mode,
+            };
+            continue;
+        }
         let p = next_piece(line, end, c);
         if !is_piece(p, text, at + i, n - i) {
             return false;
@@ -120,6 +171,18 @@ pub fn write_text(line: &[u8], from: usize, end: usize, out: &mut [u8], at: usiz
     };
     let mut i = at;
     while c.place < end {
+        let place = c.place;
+        let mode = c.mode;
+        let b = line[place];
+        if is_own(mode, b) {
+            out[i] = b;
+            i += 1;
+            c = Cursor {
+                place: place + 1,
+                mode: mode,
+            };
+            continue;
+        }
         let p = next_piece(line, end, c);
         write_piece(p, out, i);
         i += p.len;

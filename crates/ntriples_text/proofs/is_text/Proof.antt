@@ -1,25 +1,25 @@
-use Prim.Native.Nat.{ℕ, _+_, _-_, _≤_, _<_, zero-le}
-use mathlib.Core.Path.{_≡_, refl, sym, _∙_, ap}
-use mathlib.Core.List.{List, [], _∷_, _++_}
+use Prim.Native.Nat.{_+_, _-_, _≤_, zero-le}
+use mathlib.Core.Path.{_≡_, refl, sym, _∙_}
+use mathlib.Core.List.{[], _∷_}
 use native.Mathlib.Nat.{add-zero, sub-zero}
 use native.Mathlib.Omega.{arith}
 use borrow.Author.Needs.{needs}
 use borrow.Author.Tests.{not-true, not-false}
-use lib.ListN.{length, getD, take, drop, set}
-use lib.Seq.{sets, length-sets, length-take-le}
+use lib.ListN.{getD, take, drop}
 use Rattle.spec_ntriples.specs.Texts.{Text, isSameText}
 use Rattle.ntriples_bytes.specs.inside.Places.{HasText}
-use Rattle.dictionary_bytes.specs.inside.Hashes.{hashFrom, hash}
+use Rattle.ntriples_cursor.proofs.Own.{own-stepped}
 use Rattle.ntriples_cursor.proofs.Comparing.{pieces-more, pieces-stop, pieces-end}
 use Rattle.ntriples_text.specs.inside.Tokens.{Left}
-use Rattle.ntriples_text.proofs.Writing.{sets-more}
-use Rattle.ntriples_text.proofs.Passing.{left-first, left-some, left-within, left-none, left-more, length-more, hash-more, Wrote, wrote-first, wrote-more, wrote-piece, wrote-all}
+use Rattle.ntriples_text.proofs.Passing.{left-first, left-some, left-none}
 use Rattle.ntriples_text.proofs.is_text.Statement.{statement}
 use Rattle.ntriples_text.proofs.is_text.Tie as tie
 use Rattle.ntriples_text.proofs.is_text.Reads as reads
 use Rattle.ntriples_text.proofs.is_text.Lts as lts
+use Rattle.ntriples_cursor.proofs.steps.is_own.Reads as is-own-reads
 use Rattle.ntriples_cursor.proofs.steps.is_piece.Reads as is-piece-reads
 use Rattle.ntriples_cursor.proofs.steps.next_piece.Reads as next-piece-reads
+use Rattle.ntriples_text.proofs.is_byte.Reads as is-byte-reads
 
 abbrev Inv-loop : tie.InvT-loop
 Inv-loop line from end text at n c₀ i₀ c i = (i ≤ n) × ((t : Text) → HasText line from end t → Left line end c (λ l. isSameText (t .bytes) (take n (drop at text)) ≡ isSameText l (take (n - i) (drop (at + i) text))))
@@ -27,45 +27,85 @@ Inv-loop line from end text at n c₀ i₀ c i = (i ≤ n) × ((t : Text) → Ha
 abbrev μ-loop : tie.MeasureT-loop
 μ-loop line from end text at n c₀ i₀ c i = end - c .place
 
--- src/lib.rt:70:5
+-- src/lib.rt:100:5
 loop-holds : tie.Need-loop-holds Inv-loop μ-loop
-loop-holds c = (zero-le, λ t H. left-first (c .before .before .args .line .now) (c .before .before .args .from) (c .before .before .args .end) t (λ l. isSameText (t .bytes) (take (c .before .before .args .n) (drop (c .before .before .args .at) (c .before .before .args .text .now))) ≡ isSameText l (take ((c .before .before .args .n) - 0) (drop ((c .before .before .args .at) + 0) (c .before .before .args .text .now)))) H (simp (add-zero, sub-zero)))
+loop-holds c = (zero-le, λ t H. left-first (c .before .before .args .line .now) (c .before .before .args .from) (c .before .before .args .end) t (λ l. isSameText (t .bytes) (take (c .before .before .args .n) (drop (c .before .before .args .at) (c .before .before .args .text .now))) ≡ isSameText l (take (c .before .before .args .n - 0) (drop (c .before .before .args .at + 0) (c .before .before .args .text .now)))) H (simp (add-zero, sub-zero)))
 
--- src/lib.rt:71:13
+-- src/lib.rt:103:17
+shared-slice-read-b : tie.Need-shared-slice-read-b Inv-loop μ-loop
+shared-slice-read-b c = search needs
+
+-- src/lib.rt:104:12
+is-own-requires : tie.Need-is-own-requires Inv-loop μ-loop
+is-own-requires c κs = search needs
+
+-- src/lib.rt:105:34
+add-is-byte : tie.Need-add-is-byte Inv-loop μ-loop
+add-is-byte c = search needs
+
+-- src/lib.rt:105:42
+sub-is-byte : tie.Need-sub-is-byte Inv-loop μ-loop
+sub-is-byte c = search needs
+
+-- src/lib.rt:105:17
+is-byte-requires : tie.Need-is-byte-requires Inv-loop μ-loop
+is-byte-requires c κs = search needs
+
+-- src/lib.rt:106:17
+returns : tie.Need-returns Inv-loop μ-loop
+returns c = λ t H. let X = c .before .before .before .before .before .before .before .loop .inv .1 t H in let S = own-stepped (c .before .before .before .before .before .before .before .before .before .before .args .line .now) (c .before .before .before .before .before .before .before .before .before .before .args .end) (c .before .before .before .before .before .before .before .loop .c) (X .left) (c .before .before .before .before .before .if1 .taken) (sym (c .before .before .before .is-own .ensures) ∙ c .before .before .if2 .taken) (X .coming) in sym (pieces-stop (isSameText (t .bytes) (take (c .before .before .before .before .before .before .before .before .before .before .args .n) (drop (c .before .before .before .before .before .before .before .before .before .before .args .at) (c .before .before .before .before .before .before .before .before .before .before .args .text .now)))) (c .before .is-byte .result) (X .left) (S .later) (c .before .before .before .before .before .before .before .before .before .before .args .text .now) (getD (c .before .before .before .before .before .before .before .before .before .before .args .line .now) (c .before .before .before .before .before .before .before .loop .c .place) 0 ∷ 0 ∷ 0 ∷ 0 ∷ []) 1 (c .before .before .before .before .before .before .before .before .before .before .args .at + c .before .before .before .before .before .before .before .loop .i) (c .before .before .before .before .before .before .before .before .before .before .args .n - c .before .before .before .before .before .before .before .loop .i) (S .splits .same) (X .sound) (c .before .is-byte .ensures .1) (not-true _ (c .if3 .taken)))
+
+-- src/lib.rt:108:13
+add-i : tie.Need-add-i Inv-loop μ-loop
+add-i c = search needs
+
+-- src/lib.rt:110:24
+add-t20 : tie.Need-add-t20 Inv-loop μ-loop
+add-t20 c = search needs
+
+-- src/lib.rt:100:5
+loop-less : tie.Need-loop-less Inv-loop μ-loop
+loop-less c = search needs
+
+-- src/lib.rt:100:5
+loop-again : tie.Need-loop-again Inv-loop μ-loop
+loop-again c = (omega (arith, c .before .is-byte .ensures .0 (not-false _ (c .if3 .left))), λ t H. let X = c .before .before .before .before .before .before .before .loop .inv .1 t H in let S = own-stepped (c .before .before .before .before .before .before .before .before .before .before .args .line .now) (c .before .before .before .before .before .before .before .before .before .before .args .end) (c .before .before .before .before .before .before .before .loop .c) (X .left) (c .before .before .before .before .before .if1 .taken) (sym (c .before .before .before .is-own .ensures) ∙ c .before .before .if2 .taken) (X .coming) in record { left = S .later; coming = S .splits .coming; sound = pieces-more (isSameText (t .bytes) (take (c .before .before .before .before .before .before .before .before .before .before .args .n) (drop (c .before .before .before .before .before .before .before .before .before .before .args .at) (c .before .before .before .before .before .before .before .before .before .before .args .text .now)))) (c .before .is-byte .result) (X .left) (S .later) (c .before .before .before .before .before .before .before .before .before .before .args .text .now) (getD (c .before .before .before .before .before .before .before .before .before .before .args .line .now) (c .before .before .before .before .before .before .before .loop .c .place) 0 ∷ 0 ∷ 0 ∷ 0 ∷ []) 1 (c .before .before .before .before .before .before .before .before .before .before .args .at + c .before .before .before .before .before .before .before .loop .i) (c .before .before .before .before .before .before .before .before .before .before .args .n - c .before .before .before .before .before .before .before .loop .i) (S .splits .same) (X .sound) (c .before .is-byte .ensures .1) (c .before .before .before .before .before .before .before .before .before .before .args .at + (c .before .before .before .before .before .before .before .loop .i + 1)) (c .before .before .before .before .before .before .before .before .before .before .args .n - (c .before .before .before .before .before .before .before .loop .i + 1)) (not-false _ (c .if3 .left)) (omega arith) (omega arith) })
+
+-- src/lib.rt:115:13
 next-piece-requires : tie.Need-next-piece-requires Inv-loop μ-loop
-next-piece-requires c κs = (left-some (c .before .before .before .before .before .args .line .now) (c .before .before .before .before .before .args .end) (c .before .before .loop .c) _ (c .before .before .loop .inv .1 (c .before .before .before .before .before .pre .0 .text) (c .before .before .before .before .before .pre .0 .has)), search needs)
+next-piece-requires c κs = (left-some (c .before .before .before .before .before .before .before .before .args .line .now) (c .before .before .before .before .before .before .before .before .args .end) (c .before .before .before .before .before .loop .c) _ (c .before .before .before .before .before .loop .inv .1 (c .before .before .before .before .before .before .before .before .pre .0 .text) (c .before .before .before .before .before .before .before .before .pre .0 .has)), search needs)
 
--- src/lib.rt:72:31
+-- src/lib.rt:116:31
 add-is-piece : tie.Need-add-is-piece Inv-loop μ-loop
 add-is-piece c = search needs
 
--- src/lib.rt:72:39
+-- src/lib.rt:116:39
 sub-is-piece : tie.Need-sub-is-piece Inv-loop μ-loop
 sub-is-piece c = search needs
 
--- src/lib.rt:72:13
+-- src/lib.rt:116:13
 is-piece-requires : tie.Need-is-piece-requires Inv-loop μ-loop
-is-piece-requires c κs = (((c .next-piece .ensures ((c .before .before .before .loop .inv .1 (c .before .before .before .before .before .before .pre .0 .text) (c .before .before .before .before .before .before .pre .0 .has)) .left) ((c .before .before .before .loop .inv .1 (c .before .before .before .before .before .before .pre .0 .text) (c .before .before .before .before .before .before .pre .0 .has)) .coming)) .splits .few, (c .next-piece .ensures ((c .before .before .before .loop .inv .1 (c .before .before .before .before .before .before .pre .0 .text) (c .before .before .before .before .before .before .pre .0 .has)) .left) ((c .before .before .before .loop .inv .1 (c .before .before .before .before .before .before .pre .0 .text) (c .before .before .before .before .before .before .pre .0 .has)) .coming)) .splits .four), omega arith)
+is-piece-requires c κs = let X = c .before .before .before .before .before .before .loop .inv .1 (c .before .before .before .before .before .before .before .before .before .pre .0 .text) (c .before .before .before .before .before .before .before .before .before .pre .0 .has) in let S = c .next-piece .ensures (X .left) (X .coming) in ((S .splits .few, S .splits .four), omega arith)
 
--- src/lib.rt:73:13
-returns : tie.Need-returns Inv-loop μ-loop
-returns c = λ t H. sym (pieces-stop (isSameText (t .bytes) (take (c .before .before .before .before .before .before .before .before .args .n) (drop (c .before .before .before .before .before .before .before .before .args .at) (c .before .before .before .before .before .before .before .before .args .text .now)))) (c .before .is-piece .result) ((c .before .before .before .before .before .loop .inv .1 t H) .left) ((c .before .before .next-piece .ensures ((c .before .before .before .before .before .loop .inv .1 t H) .left) ((c .before .before .before .before .before .loop .inv .1 t H) .coming)) .later) (c .before .before .before .before .before .before .before .before .args .text .now) (c .before .before .next-piece .result .bytes) (c .before .before .next-piece .result .len) ((c .before .before .before .before .before .before .before .before .args .at) + (c .before .before .before .before .before .loop .i)) ((c .before .before .before .before .before .before .before .before .args .n) - (c .before .before .before .before .before .loop .i)) ((c .before .before .next-piece .ensures ((c .before .before .before .before .before .loop .inv .1 t H) .left) ((c .before .before .before .before .before .loop .inv .1 t H) .coming)) .splits .same) ((c .before .before .before .before .before .loop .inv .1 t H) .sound) (c .before .is-piece .ensures .1) (not-true _ (c .if2 .taken)))
-
--- src/lib.rt:75:9
-add-i : tie.Need-add-i Inv-loop μ-loop
-add-i c = omega (arith, c .before .before .is-piece .ensures .0 (not-false _ (c .before .if2 .left)))
-
--- src/lib.rt:70:5
-loop-less : tie.Need-loop-less Inv-loop μ-loop
-loop-less c = omega (arith, (c .before .before .before .before .next-piece .ensures ((c .before .before .before .before .before .before .before .loop .inv .1 (c .before .before .before .before .before .before .before .before .before .before .pre .0 .text) (c .before .before .before .before .before .before .before .before .before .before .pre .0 .has)) .left) ((c .before .before .before .before .before .before .before .loop .inv .1 (c .before .before .before .before .before .before .before .before .before .before .pre .0 .text) (c .before .before .before .before .before .before .before .before .before .before .pre .0 .has)) .coming)) .splits .goes)
-
--- src/lib.rt:70:5
-loop-again : tie.Need-loop-again Inv-loop μ-loop
-loop-again c = (omega (arith, c .before .before .before .is-piece .ensures .0 (not-false _ (c .before .before .if2 .left))), λ t H. record { left = (c .before .before .before .before .next-piece .ensures ((c .before .before .before .before .before .before .before .loop .inv .1 t H) .left) ((c .before .before .before .before .before .before .before .loop .inv .1 t H) .coming)) .later; coming = (c .before .before .before .before .next-piece .ensures ((c .before .before .before .before .before .before .before .loop .inv .1 t H) .left) ((c .before .before .before .before .before .before .before .loop .inv .1 t H) .coming)) .splits .coming; sound = pieces-more (isSameText (t .bytes) (take (c .before .before .before .before .before .before .before .before .before .before .args .n) (drop (c .before .before .before .before .before .before .before .before .before .before .args .at) (c .before .before .before .before .before .before .before .before .before .before .args .text .now)))) (c .before .before .before .is-piece .result) ((c .before .before .before .before .before .before .before .loop .inv .1 t H) .left) ((c .before .before .before .before .next-piece .ensures ((c .before .before .before .before .before .before .before .loop .inv .1 t H) .left) ((c .before .before .before .before .before .before .before .loop .inv .1 t H) .coming)) .later) (c .before .before .before .before .before .before .before .before .before .before .args .text .now) (c .before .before .before .before .next-piece .result .bytes) (c .before .before .before .before .next-piece .result .len) ((c .before .before .before .before .before .before .before .before .before .before .args .at) + (c .before .before .before .before .before .before .before .loop .i)) ((c .before .before .before .before .before .before .before .before .before .before .args .n) - (c .before .before .before .before .before .before .before .loop .i)) ((c .before .before .before .before .next-piece .ensures ((c .before .before .before .before .before .before .before .loop .inv .1 t H) .left) ((c .before .before .before .before .before .before .before .loop .inv .1 t H) .coming)) .splits .same) ((c .before .before .before .before .before .before .before .loop .inv .1 t H) .sound) (c .before .before .before .is-piece .ensures .1) ((c .before .before .before .before .before .before .before .before .before .before .args .at) + ((c .before .before .before .before .before .before .before .loop .i) + c .before .before .before .before .next-piece .result .len)) ((c .before .before .before .before .before .before .before .before .before .before .args .n) - ((c .before .before .before .before .before .before .before .loop .i) + c .before .before .before .before .next-piece .result .len)) (not-false _ (c .before .before .if2 .left)) (omega arith) (omega arith) })
-
--- src/lib.rt:60:1
+-- src/lib.rt:117:13
 returns-2 : tie.Need-returns-2 Inv-loop μ-loop
-returns-2 c = λ t H. sym (pieces-end (isSameText (t .bytes) (take (c .before .before .before .before .before .args .n) (drop (c .before .before .before .before .before .args .at) (c .before .before .before .before .before .args .text .now)))) [] (c .before .before .before .before .before .args .text .now) ((c .before .before .before .before .before .args .at) + (c .before .before .loop .i)) (c .before .before .before .before .before .args .n) (c .before .before .loop .i) (left-none (c .before .before .before .before .before .args .line .now) (c .before .before .before .before .before .args .end) (c .before .before .loop .c) (λ l. isSameText (t .bytes) (take (c .before .before .before .before .before .args .n) (drop (c .before .before .before .before .before .args .at) (c .before .before .before .before .before .args .text .now))) ≡ isSameText l (take ((c .before .before .before .before .before .args .n) - (c .before .before .loop .i)) (drop ((c .before .before .before .before .before .args .at) + (c .before .before .loop .i)) (c .before .before .before .before .before .args .text .now)))) (c .before .before .loop .inv .1 t H) (search needs)) refl (omega arith) (search needs))
+returns-2 c = λ t H. let X = c .before .before .before .before .before .before .before .before .loop .inv .1 t H in let S = c .before .before .next-piece .ensures (X .left) (X .coming) in sym (pieces-stop (isSameText (t .bytes) (take (c .before .before .before .before .before .before .before .before .before .before .before .args .n) (drop (c .before .before .before .before .before .before .before .before .before .before .before .args .at) (c .before .before .before .before .before .before .before .before .before .before .before .args .text .now)))) (c .before .is-piece .result) (X .left) (S .later) (c .before .before .before .before .before .before .before .before .before .before .before .args .text .now) (c .before .before .next-piece .result .bytes) (c .before .before .next-piece .result .len) (c .before .before .before .before .before .before .before .before .before .before .before .args .at + c .before .before .before .before .before .before .before .before .loop .i) (c .before .before .before .before .before .before .before .before .before .before .before .args .n - c .before .before .before .before .before .before .before .before .loop .i) (S .splits .same) (X .sound) (c .before .is-piece .ensures .1) (not-true _ (c .if4 .taken)))
+
+-- src/lib.rt:119:9
+add-i-2 : tie.Need-add-i-2 Inv-loop μ-loop
+add-i-2 c = omega (arith, c .before .before .is-piece .ensures .0 (not-false _ (c .before .if4 .left)))
+
+-- src/lib.rt:100:5
+loop-less-2 : tie.Need-loop-less-2 Inv-loop μ-loop
+loop-less-2 c = let X = c .before .before .before .before .before .before .before .before .before .before .loop .inv .1 (c .before .before .before .before .before .before .before .before .before .before .before .before .before .pre .0 .text) (c .before .before .before .before .before .before .before .before .before .before .before .before .before .pre .0 .has) in let S = c .before .before .before .before .next-piece .ensures (X .left) (X .coming) in omega (arith, S .splits .goes)
+
+-- src/lib.rt:100:5
+loop-again-2 : tie.Need-loop-again-2 Inv-loop μ-loop
+loop-again-2 c = (omega (arith, c .before .before .before .is-piece .ensures .0 (not-false _ (c .before .before .if4 .left))), λ t H. let X = c .before .before .before .before .before .before .before .before .before .before .loop .inv .1 t H in let S = c .before .before .before .before .next-piece .ensures (X .left) (X .coming) in record { left = S .later; coming = S .splits .coming; sound = pieces-more (isSameText (t .bytes) (take (c .before .before .before .before .before .before .before .before .before .before .before .before .before .args .n) (drop (c .before .before .before .before .before .before .before .before .before .before .before .before .before .args .at) (c .before .before .before .before .before .before .before .before .before .before .before .before .before .args .text .now)))) (c .before .before .before .is-piece .result) (X .left) (S .later) (c .before .before .before .before .before .before .before .before .before .before .before .before .before .args .text .now) (c .before .before .before .before .next-piece .result .bytes) (c .before .before .before .before .next-piece .result .len) (c .before .before .before .before .before .before .before .before .before .before .before .before .before .args .at + c .before .before .before .before .before .before .before .before .before .before .loop .i) (c .before .before .before .before .before .before .before .before .before .before .before .before .before .args .n - c .before .before .before .before .before .before .before .before .before .before .loop .i) (S .splits .same) (X .sound) (c .before .before .before .is-piece .ensures .1) (c .before .before .before .before .before .before .before .before .before .before .before .before .before .args .at + (c .before .before .before .before .before .before .before .before .before .before .loop .i + c .before .before .before .before .next-piece .result .len)) (c .before .before .before .before .before .before .before .before .before .before .before .before .before .args .n - (c .before .before .before .before .before .before .before .before .before .before .loop .i + c .before .before .before .before .next-piece .result .len)) (not-false _ (c .before .before .if4 .left)) (omega arith) (omega arith) })
+
+-- src/lib.rt:90:1
+returns-3 : tie.Need-returns-3 Inv-loop μ-loop
+returns-3 c = λ t H. sym (pieces-end (isSameText (t .bytes) (take (c .before .before .before .before .before .args .n) (drop (c .before .before .before .before .before .args .at) (c .before .before .before .before .before .args .text .now)))) [] (c .before .before .before .before .before .args .text .now) (c .before .before .before .before .before .args .at + c .before .before .loop .i) (c .before .before .before .before .before .args .n) (c .before .before .loop .i) (left-none (c .before .before .before .before .before .args .line .now) (c .before .before .before .before .before .args .end) (c .before .before .loop .c) (λ l. isSameText (t .bytes) (take (c .before .before .before .before .before .args .n) (drop (c .before .before .before .before .before .args .at) (c .before .before .before .before .before .args .text .now))) ≡ isSameText l (take (c .before .before .before .before .before .args .n - (c .before .before .loop .i)) (drop (c .before .before .before .before .before .args .at + (c .before .before .loop .i)) (c .before .before .before .before .before .args .text .now)))) (c .before .before .loop .inv .1 t H) (search needs)) refl (omega arith) (search needs))
 
 pub is-text-spec : {M : Type 1} → statement M
 is-text-spec =
@@ -74,12 +114,22 @@ is-text-spec =
     Inv-loop
     μ-loop
     loop-holds
+    shared-slice-read-b
+    is-own-requires
+    add-is-byte
+    sub-is-byte
+    is-byte-requires
+    returns
+    add-i
+    add-t20
+    loop-less
+    loop-again
     next-piece-requires
     add-is-piece
     sub-is-piece
     is-piece-requires
-    returns
-    add-i
-    loop-less
-    loop-again
-    returns-2)
+    returns-2
+    add-i-2
+    loop-less-2
+    loop-again-2
+    returns-3)

@@ -1,23 +1,21 @@
-use Prim.Native.Nat.{ℕ, _+_, _-_, _≤_, _<_, zero-le}
+use Prim.Native.Nat.{_+_, _-_}
 use mathlib.Core.Path.{_≡_, refl, sym, _∙_, ap}
-use mathlib.Core.List.{List, [], _∷_, _++_}
-use native.Mathlib.Nat.{add-zero, sub-zero}
+use mathlib.Core.List.{[], _∷_}
 use native.Mathlib.Omega.{arith}
 use borrow.Author.Needs.{needs}
-use borrow.Author.Tests.{not-true, not-false}
-use lib.ListN.{length, getD, take, drop, set}
-use lib.Seq.{sets, length-sets, length-take-le}
-use Rattle.spec_ntriples.specs.Texts.{Text, isSameText}
+use lib.ListN.{length, getD, take, set, length-set}
+use lib.Seq.{length-sets}
+use Rattle.spec_ntriples.specs.Texts.{Text}
 use Rattle.ntriples_bytes.specs.inside.Places.{HasText}
-use Rattle.dictionary_bytes.specs.inside.Hashes.{hashFrom, hash}
-use Rattle.ntriples_cursor.proofs.Comparing.{pieces-more, pieces-stop, pieces-end}
+use Rattle.ntriples_cursor.proofs.Own.{own-stepped}
+use Rattle.ntriples_cursor.specs.inside.Own.{ownPiece}
 use Rattle.ntriples_text.specs.inside.Tokens.{Left}
-use Rattle.ntriples_text.proofs.Writing.{sets-more}
-use Rattle.ntriples_text.proofs.Passing.{left-first, left-some, left-within, left-none, left-more, length-more, hash-more, Wrote, wrote-first, wrote-more, wrote-piece, wrote-all}
+use Rattle.ntriples_text.proofs.Passing.{left-first, left-some, left-none, left-more, Wrote, wrote-first, wrote-more, wrote-piece, wrote-all}
 use Rattle.ntriples_text.proofs.write_text.Statement.{statement}
 use Rattle.ntriples_text.proofs.write_text.Tie as tie
 use Rattle.ntriples_text.proofs.write_text.Reads as reads
 use Rattle.ntriples_text.proofs.write_text.Lts as lts
+use Rattle.ntriples_cursor.proofs.steps.is_own.Reads as is-own-reads
 use Rattle.ntriples_cursor.proofs.steps.next_piece.Reads as next-piece-reads
 use Rattle.ntriples_text.proofs.write_piece.Reads as write-piece-reads
 
@@ -27,35 +25,63 @@ Inv-loop line from end out₀ at c₀ i₀ out c i = ((t : Text) → HasText lin
 abbrev μ-loop : tie.MeasureT-loop
 μ-loop line from end out₀ at c₀ i₀ out c i = end - c .place
 
--- src/lib.rt:118:5
+-- src/lib.rt:151:5
 loop-holds : tie.Need-loop-holds Inv-loop μ-loop
 loop-holds c = ((λ t H. left-first (c .before .before .args .line .now) (c .before .before .args .from) (c .before .before .args .end) t (Wrote (c .before .before .args .out .now) (c .before .before .args .out .now) (c .before .before .args .at) (c .before .before .args .at) (t .bytes)) H (wrote-first (c .before .before .args .out .now) (c .before .before .args .at) (t .bytes))), refl)
 
--- src/lib.rt:119:13
-next-piece-requires : tie.Need-next-piece-requires Inv-loop μ-loop
-next-piece-requires c κs = (left-some (c .before .before .before .before .before .args .line .now) (c .before .before .before .before .before .args .end) (c .before .before .loop .c) _ (c .before .before .loop .inv .0 (c .before .before .before .before .before .pre .text) (c .before .before .before .before .before .pre .has)), search needs)
+-- src/lib.rt:154:17
+shared-slice-read-b : tie.Need-shared-slice-read-b Inv-loop μ-loop
+shared-slice-read-b c = search needs
 
--- src/lib.rt:120:9
-write-piece-requires : tie.Need-write-piece-requires Inv-loop μ-loop
-write-piece-requires c κs = (((c .before .next-piece .ensures ((c .before .before .before .before .loop .inv .0 (c .before .before .before .before .before .before .before .pre .text) (c .before .before .before .before .before .before .before .pre .has)) .left) ((c .before .before .before .before .loop .inv .0 (c .before .before .before .before .before .before .before .pre .text) (c .before .before .before .before .before .before .before .pre .has)) .coming)) .splits .few, (c .before .next-piece .ensures ((c .before .before .before .before .loop .inv .0 (c .before .before .before .before .before .before .before .pre .text) (c .before .before .before .before .before .before .before .pre .has)) .left) ((c .before .before .before .before .loop .inv .0 (c .before .before .before .before .before .before .before .pre .text) (c .before .before .before .before .before .before .before .pre .has)) .coming)) .splits .four), wrote-piece (c .before .before .before .before .before .before .before .args .out .now) (c .before .before .before .before .loop .out) (c .before .before .before .before .before .before .before .args .at) (c .before .before .before .before .loop .i) (c .before .next-piece .result .len) (c .before .before .before .before .before .before .before .pre .text .bytes) (c .before .next-piece .result .bytes) ((c .before .next-piece .ensures ((c .before .before .before .before .loop .inv .0 (c .before .before .before .before .before .before .before .pre .text) (c .before .before .before .before .before .before .before .pre .has)) .left) ((c .before .before .before .before .loop .inv .0 (c .before .before .before .before .before .before .before .pre .text) (c .before .before .before .before .before .before .before .pre .has)) .coming)) .later) (omega (arith, (c .before .next-piece .ensures ((c .before .before .before .before .loop .inv .0 (c .before .before .before .before .before .before .before .pre .text) (c .before .before .before .before .before .before .before .pre .has)) .left) ((c .before .before .before .before .loop .inv .0 (c .before .before .before .before .before .before .before .pre .text) (c .before .before .before .before .before .before .before .pre .has)) .coming)) .splits .few, (c .before .next-piece .ensures ((c .before .before .before .before .loop .inv .0 (c .before .before .before .before .before .before .before .pre .text) (c .before .before .before .before .before .before .before .pre .has)) .left) ((c .before .before .before .before .loop .inv .0 (c .before .before .before .before .before .before .before .pre .text) (c .before .before .before .before .before .before .before .pre .has)) .coming)) .splits .four)) (rw ((c .before .next-piece .ensures ((c .before .before .before .before .loop .inv .0 (c .before .before .before .before .before .before .before .pre .text) (c .before .before .before .before .before .before .before .pre .has)) .left) ((c .before .before .before .before .loop .inv .0 (c .before .before .before .before .before .before .before .pre .text) (c .before .before .before .before .before .before .before .pre .has)) .coming)) .splits .same) at ((c .before .before .before .before .loop .inv .0 (c .before .before .before .before .before .before .before .pre .text) (c .before .before .before .before .before .before .before .pre .has)) .sound)) (c .before .before .before .before .before .before .before .pre .room))
+-- src/lib.rt:155:12
+is-own-requires : tie.Need-is-own-requires Inv-loop μ-loop
+is-own-requires c κs = search needs
 
--- src/lib.rt:121:9
+-- src/lib.rt:156:13
+slice-write-out : tie.Need-slice-write-out Inv-loop μ-loop
+slice-write-out c = let X = c .before .before .before .before .before .loop .inv .0 (c .before .before .before .before .before .before .before .before .pre .text) (c .before .before .before .before .before .before .before .before .pre .has) in let S = own-stepped (c .before .before .before .before .before .before .before .before .args .line .now) (c .before .before .before .before .before .before .before .before .args .end) (c .before .before .before .before .before .loop .c) (X .left) (c .before .before .before .if1 .taken) (sym (c .before .is-own .ensures) ∙ c .if2 .taken) (X .coming) in let r = wrote-piece (c .before .before .before .before .before .before .before .before .args .out .now) (c .before .before .before .before .before .loop .out) (c .before .before .before .before .before .before .before .before .args .at) (c .before .before .before .before .before .loop .i) 1 (c .before .before .before .before .before .before .before .before .pre .text .bytes) (getD (c .before .before .before .before .before .before .before .before .args .line .now) (c .before .before .before .before .before .loop .c .place) 0 ∷ 0 ∷ 0 ∷ 0 ∷ []) (S .later) (omega (arith, S .splits .few, S .splits .four)) (rw (S .splits .same) at (X .sound)) (c .before .before .before .before .before .before .before .before .pre .room) in omega (arith, r)
+
+-- src/lib.rt:157:13
 add-i : tie.Need-add-i Inv-loop μ-loop
-add-i c = omega (arith, wrote-piece (c .before .before .before .before .before .before .before .before .before .before .before .args .out .now) (c .before .before .before .before .before .before .before .before .loop .out) (c .before .before .before .before .before .before .before .before .before .before .before .args .at) (c .before .before .before .before .before .before .before .before .loop .i) (c .before .before .before .before .before .next-piece .result .len) (c .before .before .before .before .before .before .before .before .before .before .before .pre .text .bytes) (c .before .before .before .before .before .next-piece .result .bytes) ((c .before .before .before .before .before .next-piece .ensures ((c .before .before .before .before .before .before .before .before .loop .inv .0 (c .before .before .before .before .before .before .before .before .before .before .before .pre .text) (c .before .before .before .before .before .before .before .before .before .before .before .pre .has)) .left) ((c .before .before .before .before .before .before .before .before .loop .inv .0 (c .before .before .before .before .before .before .before .before .before .before .before .pre .text) (c .before .before .before .before .before .before .before .before .before .before .before .pre .has)) .coming)) .later) (omega (arith, (c .before .before .before .before .before .next-piece .ensures ((c .before .before .before .before .before .before .before .before .loop .inv .0 (c .before .before .before .before .before .before .before .before .before .before .before .pre .text) (c .before .before .before .before .before .before .before .before .before .before .before .pre .has)) .left) ((c .before .before .before .before .before .before .before .before .loop .inv .0 (c .before .before .before .before .before .before .before .before .before .before .before .pre .text) (c .before .before .before .before .before .before .before .before .before .before .before .pre .has)) .coming)) .splits .few, (c .before .before .before .before .before .next-piece .ensures ((c .before .before .before .before .before .before .before .before .loop .inv .0 (c .before .before .before .before .before .before .before .before .before .before .before .pre .text) (c .before .before .before .before .before .before .before .before .before .before .before .pre .has)) .left) ((c .before .before .before .before .before .before .before .before .loop .inv .0 (c .before .before .before .before .before .before .before .before .before .before .before .pre .text) (c .before .before .before .before .before .before .before .before .before .before .before .pre .has)) .coming)) .splits .four)) (rw ((c .before .before .before .before .before .next-piece .ensures ((c .before .before .before .before .before .before .before .before .loop .inv .0 (c .before .before .before .before .before .before .before .before .before .before .before .pre .text) (c .before .before .before .before .before .before .before .before .before .before .before .pre .has)) .left) ((c .before .before .before .before .before .before .before .before .loop .inv .0 (c .before .before .before .before .before .before .before .before .before .before .before .pre .text) (c .before .before .before .before .before .before .before .before .before .before .before .pre .has)) .coming)) .splits .same) at ((c .before .before .before .before .before .before .before .before .loop .inv .0 (c .before .before .before .before .before .before .before .before .before .before .before .pre .text) (c .before .before .before .before .before .before .before .before .before .before .before .pre .has)) .sound)) (c .before .before .before .before .before .before .before .before .before .before .before .pre .room))
+add-i c = let X = c .before .before .before .before .before .loop .inv .0 (c .before .before .before .before .before .before .before .before .pre .text) (c .before .before .before .before .before .before .before .before .pre .has) in let S = own-stepped (c .before .before .before .before .before .before .before .before .args .line .now) (c .before .before .before .before .before .before .before .before .args .end) (c .before .before .before .before .before .loop .c) (X .left) (c .before .before .before .if1 .taken) (sym (c .before .is-own .ensures) ∙ c .if2 .taken) (X .coming) in let r = wrote-piece (c .before .before .before .before .before .before .before .before .args .out .now) (c .before .before .before .before .before .loop .out) (c .before .before .before .before .before .before .before .before .args .at) (c .before .before .before .before .before .loop .i) 1 (c .before .before .before .before .before .before .before .before .pre .text .bytes) (getD (c .before .before .before .before .before .before .before .before .args .line .now) (c .before .before .before .before .before .loop .c .place) 0 ∷ 0 ∷ 0 ∷ 0 ∷ []) (S .later) (omega (arith, S .splits .few, S .splits .four)) (rw (S .splits .same) at (X .sound)) (c .before .before .before .before .before .before .before .before .pre .room) in omega (arith, r)
 
--- src/lib.rt:118:5
+-- src/lib.rt:159:24
+add-t19 : tie.Need-add-t19 Inv-loop μ-loop
+add-t19 c = search needs
+
+-- src/lib.rt:151:5
 loop-less : tie.Need-loop-less Inv-loop μ-loop
-loop-less c = omega (arith, (c .before .before .before .before .before .before .next-piece .ensures ((c .before .before .before .before .before .before .before .before .before .loop .inv .0 (c .before .before .before .before .before .before .before .before .before .before .before .before .pre .text) (c .before .before .before .before .before .before .before .before .before .before .before .before .pre .has)) .left) ((c .before .before .before .before .before .before .before .before .before .loop .inv .0 (c .before .before .before .before .before .before .before .before .before .before .before .before .pre .text) (c .before .before .before .before .before .before .before .before .before .before .before .before .pre .has)) .coming)) .splits .goes)
+loop-less c = search needs
 
--- src/lib.rt:118:5
+-- src/lib.rt:151:5
 loop-again : tie.Need-loop-again Inv-loop μ-loop
-loop-again c = ((λ t H. left-more (c .before .before .before .before .before .before .before .before .before .before .before .before .args .line .now) (c .before .before .before .before .before .before .before .before .before .before .before .before .args .end) (c .before .before .before .before .before .before .before .before .before .loop .c) (Wrote (c .before .before .before .before .before .before .before .before .before .before .before .before .args .out .now) (c .before .before .before .before .before .before .before .before .before .loop .out) (c .before .before .before .before .before .before .before .before .before .before .before .before .args .at) (c .before .before .before .before .before .before .before .before .before .loop .i) (t .bytes)) (c .before .before .before .before .before .before .before .before .before .loop .inv .0 t H) (c .before .before .before .before .before .before .next-piece .result) (c .before .before .before .before .before .before .next-piece .ensures ((c .before .before .before .before .before .before .before .before .before .loop .inv .0 t H) .left) ((c .before .before .before .before .before .before .before .before .before .loop .inv .0 t H) .coming)) (Wrote (c .before .before .before .before .before .before .before .before .before .before .before .before .args .out .now) (c .before .before .before .before .write-piece .last .1 .0) (c .before .before .before .before .before .before .before .before .before .before .before .before .args .at) ((c .before .before .before .before .before .before .before .before .before .loop .i) + c .before .before .before .before .before .before .next-piece .result .len) (t .bytes)) (wrote-more (c .before .before .before .before .before .before .before .before .before .before .before .before .args .out .now) (c .before .before .before .before .before .before .before .before .before .loop .out) (c .before .before .before .before .write-piece .last .1 .0) (c .before .before .before .before .before .before .before .before .before .before .before .before .args .at) (c .before .before .before .before .before .before .before .before .before .loop .i) (c .before .before .before .before .before .before .next-piece .result .len) (t .bytes) (c .before .before .before .before .before .before .next-piece .result .bytes) ((c .before .before .before .before .before .before .next-piece .ensures ((c .before .before .before .before .before .before .before .before .before .loop .inv .0 t H) .left) ((c .before .before .before .before .before .before .before .before .before .loop .inv .0 t H) .coming)) .later) (omega (arith, (c .before .before .before .before .before .before .next-piece .ensures ((c .before .before .before .before .before .before .before .before .before .loop .inv .0 t H) .left) ((c .before .before .before .before .before .before .before .before .before .loop .inv .0 t H) .coming)) .splits .few, (c .before .before .before .before .before .before .next-piece .ensures ((c .before .before .before .before .before .before .before .before .before .loop .inv .0 t H) .left) ((c .before .before .before .before .before .before .before .before .before .loop .inv .0 t H) .coming)) .splits .four)) (c .before .before .before .before .write-piece .ensures))), ap length (c .before .before .before .before .write-piece .ensures) ∙ length-sets (c .before .before .before .before .before .before .before .before .before .loop .out) (c .before .before .before .before .before .before .before .before .before .loop .i) (take (c .before .before .before .before .before .before .next-piece .result .len) (c .before .before .before .before .before .before .next-piece .result .bytes)) ∙ c .before .before .before .before .before .before .before .before .before .loop .inv .1)
+loop-again c = ((λ t H. let X = c .before .before .before .before .before .loop .inv .0 t H in let S = own-stepped (c .before .before .before .before .before .before .before .before .args .line .now) (c .before .before .before .before .before .before .before .before .args .end) (c .before .before .before .before .before .loop .c) (X .left) (c .before .before .before .if1 .taken) (sym (c .before .is-own .ensures) ∙ c .if2 .taken) (X .coming) in left-more (c .before .before .before .before .before .before .before .before .args .line .now) (c .before .before .before .before .before .before .before .before .args .end) (c .before .before .before .before .before .loop .c) (Wrote (c .before .before .before .before .before .before .before .before .args .out .now) (c .before .before .before .before .before .loop .out) (c .before .before .before .before .before .before .before .before .args .at) (c .before .before .before .before .before .loop .i) (t .bytes)) X (ownPiece (c .before .before .before .before .before .loop .c) (getD (c .before .before .before .before .before .before .before .before .args .line .now) (c .before .before .before .before .before .loop .c .place) 0)) S (Wrote (c .before .before .before .before .before .before .before .before .args .out .now) (set (c .before .before .before .before .before .loop .out) (c .before .before .before .before .before .loop .i) (getD (c .before .before .before .before .before .before .before .before .args .line .now) (c .before .before .before .before .before .loop .c .place) 0)) (c .before .before .before .before .before .before .before .before .args .at) (c .before .before .before .before .before .loop .i + 1) (t .bytes)) (wrote-more (c .before .before .before .before .before .before .before .before .args .out .now) (c .before .before .before .before .before .loop .out) (set (c .before .before .before .before .before .loop .out) (c .before .before .before .before .before .loop .i) (getD (c .before .before .before .before .before .before .before .before .args .line .now) (c .before .before .before .before .before .loop .c .place) 0)) (c .before .before .before .before .before .before .before .before .args .at) (c .before .before .before .before .before .loop .i) 1 (t .bytes) (getD (c .before .before .before .before .before .before .before .before .args .line .now) (c .before .before .before .before .before .loop .c .place) 0 ∷ 0 ∷ 0 ∷ 0 ∷ []) (S .later) (omega (arith, S .splits .few, S .splits .four)) refl)), length-set (c .before .before .before .before .before .loop .out) (c .before .before .before .before .before .loop .i) (getD (c .before .before .before .before .before .before .before .before .args .line .now) (c .before .before .before .before .before .loop .c .place) 0) ∙ c .before .before .before .before .before .loop .inv .1)
 
--- src/lib.rt:108:1
+-- src/lib.rt:164:13
+next-piece-requires : tie.Need-next-piece-requires Inv-loop μ-loop
+next-piece-requires c κs = (left-some (c .before .before .before .before .before .before .before .before .args .line .now) (c .before .before .before .before .before .before .before .before .args .end) (c .before .before .before .before .before .loop .c) _ (c .before .before .before .before .before .loop .inv .0 (c .before .before .before .before .before .before .before .before .pre .text) (c .before .before .before .before .before .before .before .before .pre .has)), search needs)
+
+-- src/lib.rt:165:9
+write-piece-requires : tie.Need-write-piece-requires Inv-loop μ-loop
+write-piece-requires c κs = let X = c .before .before .before .before .before .before .before .loop .inv .0 (c .before .before .before .before .before .before .before .before .before .before .pre .text) (c .before .before .before .before .before .before .before .before .before .before .pre .has) in let S = c .before .next-piece .ensures (X .left) (X .coming) in ((S .splits .few, S .splits .four), wrote-piece (c .before .before .before .before .before .before .before .before .before .before .args .out .now) (c .before .before .before .before .before .before .before .loop .out) (c .before .before .before .before .before .before .before .before .before .before .args .at) (c .before .before .before .before .before .before .before .loop .i) (c .before .next-piece .result .len) (c .before .before .before .before .before .before .before .before .before .before .pre .text .bytes) (c .before .next-piece .result .bytes) (S .later) (omega (arith, S .splits .few, S .splits .four)) (rw (S .splits .same) at (X .sound)) (c .before .before .before .before .before .before .before .before .before .before .pre .room))
+
+-- src/lib.rt:166:9
+add-i-2 : tie.Need-add-i-2 Inv-loop μ-loop
+add-i-2 c = let X = c .before .before .before .before .before .before .before .before .before .before .before .loop .inv .0 (c .before .before .before .before .before .before .before .before .before .before .before .before .before .before .pre .text) (c .before .before .before .before .before .before .before .before .before .before .before .before .before .before .pre .has) in let S = c .before .before .before .before .before .next-piece .ensures (X .left) (X .coming) in let r = wrote-piece (c .before .before .before .before .before .before .before .before .before .before .before .before .before .before .args .out .now) (c .before .before .before .before .before .before .before .before .before .before .before .loop .out) (c .before .before .before .before .before .before .before .before .before .before .before .before .before .before .args .at) (c .before .before .before .before .before .before .before .before .before .before .before .loop .i) (c .before .before .before .before .before .next-piece .result .len) (c .before .before .before .before .before .before .before .before .before .before .before .before .before .before .pre .text .bytes) (c .before .before .before .before .before .next-piece .result .bytes) (S .later) (omega (arith, S .splits .few, S .splits .four)) (rw (S .splits .same) at (X .sound)) (c .before .before .before .before .before .before .before .before .before .before .before .before .before .before .pre .room) in omega (arith, r)
+
+-- src/lib.rt:151:5
+loop-less-2 : tie.Need-loop-less-2 Inv-loop μ-loop
+loop-less-2 c = let X = c .before .before .before .before .before .before .before .before .before .before .before .before .loop .inv .0 (c .before .before .before .before .before .before .before .before .before .before .before .before .before .before .before .pre .text) (c .before .before .before .before .before .before .before .before .before .before .before .before .before .before .before .pre .has) in let S = c .before .before .before .before .before .before .next-piece .ensures (X .left) (X .coming) in omega (arith, S .splits .goes)
+
+-- src/lib.rt:151:5
+loop-again-2 : tie.Need-loop-again-2 Inv-loop μ-loop
+loop-again-2 c = ((λ t H. let X = c .before .before .before .before .before .before .before .before .before .before .before .before .loop .inv .0 t H in let S = c .before .before .before .before .before .before .next-piece .ensures (X .left) (X .coming) in left-more (c .before .before .before .before .before .before .before .before .before .before .before .before .before .before .before .args .line .now) (c .before .before .before .before .before .before .before .before .before .before .before .before .before .before .before .args .end) (c .before .before .before .before .before .before .before .before .before .before .before .before .loop .c) (Wrote (c .before .before .before .before .before .before .before .before .before .before .before .before .before .before .before .args .out .now) (c .before .before .before .before .before .before .before .before .before .before .before .before .loop .out) (c .before .before .before .before .before .before .before .before .before .before .before .before .before .before .before .args .at) (c .before .before .before .before .before .before .before .before .before .before .before .before .loop .i) (t .bytes)) X (c .before .before .before .before .before .before .next-piece .result) S (Wrote (c .before .before .before .before .before .before .before .before .before .before .before .before .before .before .before .args .out .now) (c .before .before .before .before .write-piece .last .1 .0) (c .before .before .before .before .before .before .before .before .before .before .before .before .before .before .before .args .at) (c .before .before .before .before .before .before .before .before .before .before .before .before .loop .i + c .before .before .before .before .before .before .next-piece .result .len) (t .bytes)) (wrote-more (c .before .before .before .before .before .before .before .before .before .before .before .before .before .before .before .args .out .now) (c .before .before .before .before .before .before .before .before .before .before .before .before .loop .out) (c .before .before .before .before .write-piece .last .1 .0) (c .before .before .before .before .before .before .before .before .before .before .before .before .before .before .before .args .at) (c .before .before .before .before .before .before .before .before .before .before .before .before .loop .i) (c .before .before .before .before .before .before .next-piece .result .len) (t .bytes) (c .before .before .before .before .before .before .next-piece .result .bytes) (S .later) (omega (arith, S .splits .few, S .splits .four)) (c .before .before .before .before .write-piece .ensures))), ap length (c .before .before .before .before .write-piece .ensures) ∙ length-sets (c .before .before .before .before .before .before .before .before .before .before .before .before .loop .out) (c .before .before .before .before .before .before .before .before .before .before .before .before .loop .i) (take (c .before .before .before .before .before .before .next-piece .result .len) (c .before .before .before .before .before .before .next-piece .result .bytes)) ∙ c .before .before .before .before .before .before .before .before .before .before .before .before .loop .inv .1)
+
+-- src/lib.rt:141:1
 same-length : tie.Need-same-length Inv-loop μ-loop
 same-length c = search needs
 
--- src/lib.rt:108:1
+-- src/lib.rt:141:1
 returns : tie.Need-returns Inv-loop μ-loop
 returns c = ((λ t H. wrote-all (c .before .before .before .before .before .args .out .now) (c .before .before .loop .out) (c .before .before .before .before .before .args .at) (c .before .before .loop .i) (t .bytes) (left-none (c .before .before .before .before .before .args .line .now) (c .before .before .before .before .before .args .end) (c .before .before .loop .c) (Wrote (c .before .before .before .before .before .args .out .now) (c .before .before .loop .out) (c .before .before .before .before .before .args .at) (c .before .before .loop .i) (t .bytes)) (c .before .before .loop .inv .0 t H) (search needs)) .0), (λ t H. wrote-all (c .before .before .before .before .before .args .out .now) (c .before .before .loop .out) (c .before .before .before .before .before .args .at) (c .before .before .loop .i) (t .bytes) (left-none (c .before .before .before .before .before .args .line .now) (c .before .before .before .before .before .args .end) (c .before .before .loop .c) (Wrote (c .before .before .before .before .before .args .out .now) (c .before .before .loop .out) (c .before .before .before .before .before .args .at) (c .before .before .loop .i) (t .bytes)) (c .before .before .loop .inv .0 t H) (search needs)) .1))
 
@@ -66,10 +92,17 @@ write-text-spec =
     Inv-loop
     μ-loop
     loop-holds
-    next-piece-requires
-    write-piece-requires
+    shared-slice-read-b
+    is-own-requires
+    slice-write-out
     add-i
+    add-t19
     loop-less
     loop-again
+    next-piece-requires
+    write-piece-requires
+    add-i-2
+    loop-less-2
+    loop-again-2
     same-length
     returns)
