@@ -1,9 +1,8 @@
 -- Rows in a column order: no order loses a column, so distinct rows stay distinct, and sorted they are their ordered set. Assumes nothing.
 use Prim.Native.Nat.{ℕ, suc, _+_, _≤_, _<_}
 use mathlib.Core.Path.{_≡_, refl, sym, ap, ap₂, _∙_}
-use mathlib.Core.Bool.{Bool, true, false, _&&_, _||_, cond}
+use mathlib.Core.Bool.{Bool, true, false, cond}
 use mathlib.Core.List.{List, [], _∷_, map, List·Memᴰ, List·Memᴰ·head, List·Memᴰ·tail, Memᴰ·of-map}
-use mathlib.Core.Logic.{⊎-elim}
 use native.Mathlib.Nat.{add-zero}
 use native.Mathlib.Omega.{arith}
 use lib.Dec.{eqb}
@@ -12,54 +11,38 @@ use borrow.Author.Tests.{eqb-true}
 use Rattle.spec.specs.declared.Triple.{Triple}
 use Rattle.spec.specs.Terms.{triple}
 use Rattle.spec.specs.inside.Comparison.{Ascending, triple-eq}
-use Rattle.spec.proofs.Lists.{true-not-false, or-cases}
+use Rattle.spec.proofs.Lists.{by-test}
 use Rattle.spec.proofs.Order.{less-ne}
-use Rattle.spec.proofs.Ascending.{and-left, and-right, above-asc, above-member}
-use Rattle.spec.specs.Lists.{all}
+use Rattle.spec.proofs.Ascending.{above-asc, above-member}
+use Rattle.spec.specs.Lists.{select}
 use Rattle.spec.specs.Tables as table
-use Rattle.spec.proofs.TableAll.{all-getD}
+use Rattle.spec.proofs.ColumnOrders.{timesIn, column-once}
 use Rattle.spec.proofs.TableRows.{getD-rows}
 use Rattle.spec.specs.Rows.{less, insertOnce, ordered}
 use Rattle.rows.specs.inside.Rows.{tabulate, rows, rowAt}
 use Rattle.spec.specs.inside.Sorting.{insert, sort}
 use Rattle.spec.proofs.RowOrder.{less-tri}
 use Rattle.spec.proofs.OrderedRows.{ordered-iff}
-use Rattle.spec.specs.Listings.{columnOrders, column, arranged, listingRows}
+use Rattle.spec.specs.Listings.{columnOrder, column, arranged, listingRows}
 use Rattle.listing.specs.inside.Written.{RowsWritten}
 
--- ---- the rule of the table of column orders: each order has all three columns
+-- ---- each order has all three columns
 
--- Whether a number is in a list.
-has : ℕ → List ℕ → Bool
-has c [] = false
-has c (d ∷ ds) = eqb d c || has c ds
-
--- Whether an order has each column.
-hasColumns : List ℕ → Bool
-hasColumns cs = has 0 cs && (has 1 cs && has 2 cs)
-
--- The test over the whole table.
-orders-complete : all hasColumns columnOrders ≡ true
-unfolding all has hasColumns
-orders-complete = refl
-
--- Triples with the same columns in an order agree in each column that it has.
-has-column : (t u : Triple) (c : ℕ) (cs : List ℕ) → has c cs ≡ true → map (column t) cs ≡ map (column u) cs → column t c ≡ column u c
-unfolding has
-has-column t u c [] h e = absurd (true-not-false (sym h))
-has-column t u c (d ∷ ds) h e =
+-- Triples with the same columns in an order agree in each column that stands in it.
+same-column : (t u : Triple) (c : ℕ) (cs : List ℕ) → 0 < timesIn c cs → map (column t) cs ≡ map (column u) cs → column t c ≡ column u c
+unfolding select
+same-column t u c [] h e = absurd (omega arith)
+same-column t u c (d ∷ ds) h e =
     let a : column t d ≡ column u d = cc in
     let b : map (column t) ds ≡ map (column u) ds = cc in
-    ⊎-elim (λ q. let p : d ≡ c = eqb-true d c q in rw (← p) a) (λ q. has-column t u c ds q b) (or-cases (eqb d c) (has c ds) h)
+    by-test (eqb c d) (λ q. let p : c ≡ d = eqb-true c d q in rw p a) (λ q. same-column t u c ds (rw q at h) b)
 
 -- A column order loses nothing.
 pub arranged-injective : (k : ℕ) (t u : Triple) → k ≤ 5 → arranged k t ≡ arranged k u → t ≡ u
-unfolding arranged hasColumns
+unfolding arranged
 arranged-injective k t u l e =
-    let cs : List ℕ = getD columnOrders k [] in
-    let h : (has 0 cs && (has 1 cs && has 2 cs)) ≡ true = all-getD hasColumns columnOrders [] orders-complete k (omega arith) in
-    let g : (has 1 cs && has 2 cs) ≡ true = and-right (has 0 cs) _ h in
-    triple-eq t u (has-column t u 0 cs (and-left _ _ h) e) (has-column t u 1 cs (and-left _ _ g) e) (has-column t u 2 cs (and-right (has 1 cs) _ g) e)
+    let same : (c : ℕ) → c ≤ 2 → column t c ≡ column u c = λ c h. same-column t u c (columnOrder k) (omega (arith, column-once k c l h)) e in
+    triple-eq t u (same 0 (omega arith)) (same 1 (omega arith)) (same 2 (omega arith))
 
 -- ---- distinct rows
 
@@ -131,7 +114,7 @@ tabulate-map f g s (t ∷ ts) d h =
     ap₂ _∷_ (ap f (sym (add-zero s)) ∙ h 0 (omega arith)) (tabulate-map f g (s + 1) ts d (λ j l. ap f (omega arith) ∙ h (suc j) (omega arith)))
 
 -- The rows that are written are the table's rows in the order.
-pub written-rows : (k n : ℕ) (ws t s : List ℕ) → length (table.rows ws) ≡ n → RowsWritten (getD columnOrders k []) n ws t s → rows 3 s 0 n ≡ map (arranged k) (table.rows ws)
+pub written-rows : (k n : ℕ) (ws t s : List ℕ) → length (table.rows ws) ≡ n → RowsWritten (columnOrder k) n ws t s → rows 3 s 0 n ≡ map (arranged k) (table.rows ws)
 unfolding arranged
 written-rows k n ws t s e W =
     let d : Triple = triple 0 0 0 in

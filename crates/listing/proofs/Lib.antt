@@ -1,3 +1,4 @@
 pub mod Writing
 pub mod Arranged
+pub mod OrderColumns
 pub mod Replies

@@ -2,9 +2,9 @@
 use Prim.Native.Nat.{ℕ, _*_, _/_, _≤_, _<_}
 use mathlib.Core.Path.{_≡_, sym, ap, _∙_}
 use mathlib.Core.Bool.{Bool, true, false}
-use mathlib.Core.List.{List, []}
+use mathlib.Core.List.{List}
 use native.Mathlib.Omega.{arith}
-use lib.ListN.{length, getD, drop, replicate, length-replicate}
+use lib.ListN.{length, drop, replicate, length-replicate}
 use borrow.Author.Tests.{leb-true, le-leb, lt-leb}
 use Rattle.spec.specs.declared.Triple.{Triple}
 use Rattle.spec.specs.Refusals.{firstRefusal}
@@ -18,7 +18,7 @@ use Rattle.rows.proofs.RowWords.{drop-ext}
 use Rattle.spec.specs.declared.Reply.the-variants.{Rows, Refused}
 use Rattle.spec.specs.Outputs.{areFitting, filled, replied, give}
 use Rattle.output.proofs.Filled.{rows-filled}
-use Rattle.spec.specs.Listings.{columnOrders, listingRows, listing}
+use Rattle.spec.specs.Listings.{columnOrder, listingRows, listing}
 use Rattle.listing.specs.inside.Written.{RowsWritten, Listable}
 use Rattle.listing.proofs.Arranged.{listing-sorted, listing-length, written-rows}
 
@@ -68,7 +68,7 @@ gives-rows formed order len n ws s f o h c e = rw (f, e, le-leb order 5 o, h, �
 
 -- Rows written over a cleared output and sorted fill it.
 pub sorted-filled : {order len : ℕ} {cs ws t s u : List ℕ} → Listable ws → order ≤ 5 → count ws * 3 ≤ len → t ≡ replicate len 0 → length s ≡ len → length u ≡ length s
-    → cs ≡ getD columnOrders order [] → RowsWritten cs (count ws) ws t s → SortedRows 3 (count ws) s u → u ≡ filled len (listingRows order (rows ws))
+    → cs ≡ columnOrder order → RowsWritten cs (count ws) ws t s → SortedRows 3 (count ws) s u → u ≡ filled len (listingRows order (rows ws))
 sorted-filled {order} {len} {cs} {ws} {t} {s} {u} L o h z ls lu q W S =
     let r : sort.rows 3 u 0 (count ws) ≡ listingRows order (rows ws) =
     S .sorted ∙ ap sort (written-rows order (count ws) ws t s (length-rows ws) (rw q at W)) ∙ listing-sorted order (rows ws) o (L .ascends) in

@@ -6,6 +6,7 @@ pub mod Ascending
 pub mod Alternatives
 pub mod AnswerLaws
 pub mod Carried
+pub mod ColumnOrders
 pub mod Computed
 pub mod Entailment
 pub mod Fixed

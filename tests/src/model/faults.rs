@@ -13,6 +13,8 @@ pub enum Fault {
     LimitDepth,
     /// "Forgetting that a variable property also matches statements and rdf:type."
     SkipStatements,
+    /// Order 2 is POS: the columns rotated.
+    OrderRotated,
     /// A character below U+0080 may stand in two bytes.
     OverlongForm,
     /// An escape may give a surrogate.
@@ -60,13 +62,14 @@ pub enum Fault {
 }
 
 impl Fault {
-    /// Those that document 01 lists as the usual mistakes.
-    pub const STORE: [Fault; 5] = [
+    /// Those that document 01 lists as the usual mistakes, and one of listings.
+    pub const STORE: [Fault; 6] = [
         Fault::CountPaths,
         Fault::TypeLiterals,
         Fault::DropExplicit,
         Fault::LimitDepth,
         Fault::SkipStatements,
+        Fault::OrderRotated,
     ];
 
     /// Those of reading N-Triples.
@@ -103,6 +106,7 @@ impl Fault {
             Fault::DropExplicit => "drop-explicit",
             Fault::LimitDepth => "limit-depth",
             Fault::SkipStatements => "skip-statements",
+            Fault::OrderRotated => "order-rotated",
             Fault::OverlongForm => "overlong-form",
             Fault::SurrogateEscape => "surrogate-escape",
             Fault::BarredEscape => "barred-escape",

@@ -2,10 +2,11 @@
 
 use super::tables;
 use super::terms::*;
-use super::Model;
+use super::{Fault, Model};
 use crate::store::Table;
 
-/// "The six column orders 0 to 5 are SPO, SOP, PSO, POS, OSP, OPS".
+/// "The six column orders 0 to 5 are SPO, SOP, PSO, POS, OSP, OPS". They are spelled here, and not
+/// worked out: document 02 puts a formula in the place of the table, and "each listing is as before".
 const ORDERS: [&str; 6] = ["SPO", "SOP", "PSO", "POS", "OSP", "OPS"];
 
 /// The word of a row that a column's letter stands for.
@@ -27,7 +28,11 @@ impl Model {
             Table::Kept => tables::read_kept(words),
         };
         let rows = rows.ok_or(1u32)?;
-        let order = ORDERS.get(order as usize).ok_or(12u32)?;
+        let mut orders = ORDERS;
+        if self.fault == Some(Fault::OrderRotated) {
+            orders[2] = "POS";
+        }
+        let order = orders.get(order as usize).ok_or(12u32)?;
         let put = |row: Triple| -> Triple {
             let words: Vec<u32> = order.chars().map(|c| column(row, c)).collect();
             [words[0], words[1], words[2]]
