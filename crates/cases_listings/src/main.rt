@@ -1,5 +1,6 @@
 // Runs cases about listings: prints each reply, and every word of the output, which was all 7 before the call.
 use cases_printing::print_replied;
+use cases_shelf::STATEMENTS;
 use listing::list_facts;
 use listing::list_kept;
 use listing::list_statements;
@@ -27,9 +28,6 @@ const FACTS: [u32; 16] = [
 
 // Facts that do not ascend.
 const DESCENDING: [u32; 7] = [2, 33, 1, 34, 32, 19, 34];
-
-// The worked example's statements.
-const STATEMENTS: [u32; 16] = [5, 16, 2, 17, 17, 2, 18, 19, 3, 20, 20, 4, 17, 20, 5, 16];
 
 // Kept facts of the worked example, and room for one more.
 const KEPT: [u32; 16] = [4, 32, 1, 16, 32, 19, 33, 32, 20, 33, 33, 1, 16, 0, 0, 0];

@@ -1,45 +1,13 @@
 // Lists the three tables of the worked example in each column order: prints each reply, and every word of the output, which was all 7 before the call.
 use cases_printing::print_replied;
+use cases_shelf::FACTS;
+use cases_shelf::KEPT;
+use cases_shelf::STATEMENTS;
 use listing::list_facts;
 use listing::list_kept;
 use listing::list_statements;
 use spec::Reply;
 ghost use Prim.Native.Nat.{_≤_};
-
-// The worked example's statements.
-const STATEMENTS: [u32; 16] = [5, 16, 2, 17, 17, 2, 18, 19, 3, 20, 20, 4, 17, 20, 5, 16];
-
-// Its facts.
-const FACTS: [u32; 7] = [2, 32, 1, 16, 32, 19, 33];
-
-// Its kept facts.
-const KEPT: [u32; 25] = [
-    8,
-    32,
-    1,
-    16,
-    32,
-    1,
-    17,
-    32,
-    1,
-    18,
-    32,
-    19,
-    33,
-    32,
-    20,
-    33,
-    33,
-    1,
-    16,
-    33,
-    1,
-    17,
-    33,
-    1,
-    18,
-];
 
 // The tables, by number.
 const STATEMENT_TABLE: u32 = 0;

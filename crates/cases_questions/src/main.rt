@@ -1,42 +1,10 @@
 // Runs document 01's cases about questions, by both ways: prints each reply, and every word of the output, which was all 7
 // before the call.
 use cases_printing::print_replied;
+use cases_shelf::FACTS;
+use cases_shelf::KEPT;
+use cases_shelf::STATEMENTS;
 ghost use Prim.Native.Nat.{_≤_};
-
-// The worked example's statements, as a table.
-const STATEMENTS: [u32; 16] = [5, 16, 2, 17, 17, 2, 18, 19, 3, 20, 20, 4, 17, 20, 5, 16];
-
-// Its facts.
-const FACTS: [u32; 7] = [2, 32, 1, 16, 32, 19, 33];
-
-// Its kept facts.
-const KEPT: [u32; 25] = [
-    8,
-    32,
-    1,
-    16,
-    32,
-    1,
-    17,
-    32,
-    1,
-    18,
-    32,
-    19,
-    33,
-    32,
-    20,
-    33,
-    33,
-    1,
-    16,
-    33,
-    1,
-    17,
-    33,
-    1,
-    18,
-];
 
 // A fact about a literal.
 const LITERAL_FACTS: [u32; 4] = [1, 32, 20, 0x80000001];
