@@ -1,5 +1,5 @@
-//! Our library by itself where one thing has half of the facts, where one object is that of half of the facts, where one thing has very
-//! many properties, and where all facts share classes, objects and properties two by two.
+//! Our library by itself where one thing has half of the facts, where one object is that of half of the facts, where one thing or one object
+//! has very many properties, and where all facts share classes, objects and properties two by two.
 
 use crate::alone::{asked, by_size, Asked};
 use crate::contest::Outcome;
@@ -59,6 +59,16 @@ fn many_properties(n: usize) -> Asked {
     asked(&STATEMENTS, &facts, questions)
 }
 
+/// A question about an object with a property for each eight facts, where the properties have the object too.
+fn many_properties_of_object(n: usize) -> Asked {
+    let [x, y, z] = [0, 1, 2].map(variable);
+    let questions = vec![("x shares y, and z is related to y by x", question(&[[x, SHARING, y], [z, x, y]], &[x, z]))];
+    let m = n as u32 / 8;
+    let mut facts = workload::facts(n - 2 * m as usize, 200, GROWING, 7);
+    facts.extend((0..m).flat_map(|i| [[OWN + i, SHARING, HUB], [THING + i, OWN + i, HUB]]));
+    asked(&STATEMENTS, &facts, questions)
+}
+
 /// A property of facts whose objects two things share, and one of facts whose objects are properties of two facts.
 const SHARING: u32 = 40;
 const NAMING: u32 = 41;
@@ -80,16 +90,18 @@ fn in_pairs(n: usize) -> Asked {
     asked(&STATEMENTS, &(0..m).flat_map(made).collect::<Vec<Triple>>(), questions)
 }
 
-/// All four, on stores of several sizes.
+/// All five, on stores of several sizes.
 pub fn hubs(scale: &Scale) -> Outcome<String> {
     let mut out = String::new();
     let of_object = "One object is that of half of the facts";
     let in_twos = "Two facts share each class, each object and each property";
     let of_properties = "One thing has a property for each eight facts";
+    let to_properties = "One object has a property for each eight facts";
     let stores = [
         ("One thing has half of the facts", one_thing as fn(usize) -> Asked),
         (of_object, one_object),
         (of_properties, many_properties),
+        (to_properties, many_properties_of_object),
         (in_twos, in_pairs),
     ];
     for (title, of) in stores {

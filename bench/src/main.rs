@@ -96,7 +96,7 @@ fn alone(scale: &Scale) -> Outcome<Report> {
     let statements = measure::statements();
     Ok(Report::of(vec![
         ("Our library alone: questions by size", alone::questions_by_size(scale, &statements, GROWING)?),
-        ("Our library alone: one thing with half of the facts, one object of half of the facts, one thing with many properties, and facts that share two by two", hub::hubs(scale)?),
+        ("Our library alone: one thing with half of the facts, one object of half of the facts, one thing and one object with many properties, and facts that share two by two", hub::hubs(scale)?),
         ("Our library alone: question 1", alone::first_questions(scale, &statements, GROWING)),
         ("Our library alone: updates by size", alone::updates_by_size(scale, &statements, GROWING)),
         ("Our library alone: listings", alone::listings(scale, &statements, GROWING)),
