@@ -1,5 +1,1 @@
-pub mod EntriesRead
-pub mod Terms
-pub mod Texts
-pub mod Steps
-pub mod Asking
+pub mod AllEntries

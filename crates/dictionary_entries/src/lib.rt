@@ -3,7 +3,7 @@ use dictionary_bytes::HEADER;
 use dictionary_bytes::LENGTH_BYTES;
 use dictionary_bytes::TERM_BYTES;
 use ntriples_text::text_length;
-use ntriples_text::write_text;
+use ntriples_text_written::write_text;
 ghost use mathlib.Core.Path.{_≡_};
 ghost use mathlib.Core.List.{List, [], _∷_, _++_};
 ghost use Prim.Native.Nat.{_+_, _≤_, _<_};

@@ -4,7 +4,7 @@ use dictionary_bytes::has_text;
 use dictionary_bytes::hash_from;
 use dictionary_bytes::length_at;
 use dictionary_bytes::slot_of;
-use ntriples_text::is_text;
+use ntriples_text_same::is_text;
 ghost use mathlib.Core.Path.{_≡_};
 ghost use Prim.Native.Nat.{ℕ, _+_, _≤_};
 ghost use lib.ListN.{length, take, drop};

@@ -59,13 +59,13 @@ kinds-other : (k : ℕ) (e : Entry) → (kindOf (e .text) ≡ k → ⊥) → tex
 unfolding textsOfKind select
 kinds-other k e h = rw (ne-eqb (kindOf (e .text)) k h)
 
-next-append : (k : ℕ) (es fs : List Entry) → nextNumber k (es ++ fs) ≡ nextNumber k es + textsOfKind k fs
+pub next-append : (k : ℕ) (es fs : List Entry) → nextNumber k (es ++ fs) ≡ nextNumber k es + textsOfKind k fs
 next-append k es fs = omega (arith, next-number k (es ++ fs), next-number k es, kinds-append k es fs)
 
-next-own : (k : ℕ) (es : List Entry) (e : Entry) → kindOf (e .text) ≡ k → nextNumber k (es ++ (e ∷ [])) ≡ nextNumber k es + 1
+pub next-own : (k : ℕ) (es : List Entry) (e : Entry) → kindOf (e .text) ≡ k → nextNumber k (es ++ (e ∷ [])) ≡ nextNumber k es + 1
 next-own k es e q = omega (arith, next-append k es (e ∷ []), rw q at (kinds-one e))
 
-next-other : (k : ℕ) (es : List Entry) (e : Entry) → (kindOf (e .text) ≡ k → ⊥) → nextNumber k (es ++ (e ∷ [])) ≡ nextNumber k es
+pub next-other : (k : ℕ) (es : List Entry) (e : Entry) → (kindOf (e .text) ≡ k → ⊥) → nextNumber k (es ++ (e ∷ [])) ≡ nextNumber k es
 next-other k es e h = omega (arith, next-append k es (e ∷ []), kinds-other k e h)
 
 -- ---- enough numbers

@@ -22,7 +22,7 @@ use Rattle.ntriples_terminals.specs.inside.Ends.{nowhere, behindRead, Ended}
 use Rattle.ntriples_lines.proofs.Lines.{Term, no-term, term-found, object-object}
 use Rattle.ntriples_document.proofs.Counting.{CharsOf}
 use Rattle.ntriples_text.specs.inside.Tokens.{IsToken}
-use Rattle.ntriples_text.proofs.Vocabulary.{place-none}
+use Rattle.ntriples_text_kind.proofs.Vocabulary.{place-none}
 use Rattle.dictionary_bytes.proofs.Same.{lengths-differ}
 
 -- ---- whether a text is canonical

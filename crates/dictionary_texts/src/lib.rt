@@ -1,10 +1,10 @@
 // The texts of a dictionary's entries: whether a text is canonical, its kind, and whether it is one of the vocabulary.
 use ntriples_bytes::is_utf8;
-use ntriples_lines::terms::object_end;
+use ntriples_ends::object_end;
 use ntriples_terminals::Found;
-use ntriples_text::is_text;
-use ntriples_text::kind_of;
-use ntriples_text::vocabulary_of;
+use ntriples_text_kind::kind_of;
+use ntriples_text_kind::vocabulary_of;
+use ntriples_text_same::is_text;
 ghost use mathlib.Core.Path.{_≡_};
 ghost use mathlib.Core.Bool.{true, _&&_};
 ghost use lib.Dec.{eqb};

@@ -1,4 +1,1 @@
-pub mod Writing
-pub mod Arranged
-pub mod OrderColumns
 pub mod Replies

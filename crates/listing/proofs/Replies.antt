@@ -1,26 +1,21 @@
 -- The reply of a listing: what each way through it leaves is what the definition says. Assumes nothing.
 use Prim.Native.Nat.{ℕ, _*_, _/_, _≤_, _<_}
-use mathlib.Core.Path.{_≡_, sym, ap, _∙_}
+use mathlib.Core.Path.{_≡_, sym, _∙_}
 use mathlib.Core.Bool.{Bool, true, false}
 use mathlib.Core.List.{List}
 use native.Mathlib.Omega.{arith}
-use lib.ListN.{length, drop, replicate, length-replicate}
+use lib.ListN.{length, replicate}
 use borrow.Author.Tests.{leb-true, le-leb, lt-leb}
 use Rattle.spec.specs.declared.Triple.{Triple}
 use Rattle.spec.specs.Refusals.{firstRefusal}
 use Rattle.spec.specs.Tables.{count, rows}
 use Rattle.spec.specs.inside.Laid.{WellFormed}
 use Rattle.spec.proofs.TableRows.{length-rows}
-use Rattle.spec.specs.inside.Sorting.{sort}
-use Rattle.rows.specs.inside.Rows as sort
-use Rattle.rows.specs.inside.Effects.{SortedRows}
-use Rattle.rows.proofs.RowWords.{drop-ext}
 use Rattle.spec.specs.declared.Reply.the-variants.{Rows, Refused}
 use Rattle.spec.specs.Outputs.{areFitting, filled, replied, give}
-use Rattle.output.proofs.Filled.{rows-filled}
-use Rattle.spec.specs.Listings.{columnOrder, listingRows, listing}
-use Rattle.listing.specs.inside.Written.{RowsWritten, Listable}
-use Rattle.listing.proofs.Arranged.{listing-sorted, listing-length, written-rows}
+use Rattle.spec.specs.Listings.{listingRows, listing}
+use Rattle.listing_rows.specs.inside.Asked.{Listable}
+use Rattle.listing_rows.proofs.Arranged.{listing-length}
 
 -- The rows of a well-formed table can be listed.
 pub listable : {allowed : Triple → Bool} {most : ℕ} {ws : List ℕ} → WellFormed allowed most ws → Listable ws
@@ -65,13 +60,3 @@ pub gives-rows : (formed : Bool) (order len n : ℕ) (ws s : List ℕ) → forme
     → length (listingRows order (rows ws)) ≡ n → s ≡ filled len (listingRows order (rows ws)) → replied (Rows n) s ≡ listing formed order ws len
 unfolding listing firstRefusal give
 gives-rows formed order len n ws s f o h c e = rw (f, e, le-leb order 5 o, h, ← c)
-
--- Rows written over a cleared output and sorted fill it.
-pub sorted-filled : {order len : ℕ} {cs ws t s u : List ℕ} → Listable ws → order ≤ 5 → count ws * 3 ≤ len → t ≡ replicate len 0 → length s ≡ len → length u ≡ length s
-    → cs ≡ columnOrder order → RowsWritten cs (count ws) ws t s → SortedRows 3 (count ws) s u → u ≡ filled len (listingRows order (rows ws))
-sorted-filled {order} {len} {cs} {ws} {t} {s} {u} L o h z ls lu q W S =
-    let r : sort.rows 3 u 0 (count ws) ≡ listingRows order (rows ws) =
-    S .sorted ∙ ap sort (written-rows order (count ws) ws t s (length-rows ws) (rw q at W)) ∙ listing-sorted order (rows ws) o (L .ascends) in
-    let d : drop (count ws * 3) u ≡ drop (count ws * 3) (replicate len 0) =
-    S .after ∙ drop-ext (count ws * 3) t s (ls ∙ sym (ap length z ∙ length-replicate {A = ℕ} len 0)) (W .after) ∙ ap (drop (count ws * 3)) z in
-    rows-filled 3 (count ws) len u (listingRows order (rows ws)) (lu ∙ ls) h r d

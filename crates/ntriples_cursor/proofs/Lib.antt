@@ -4,7 +4,6 @@ pub mod Escaped
 pub mod Terms
 pub mod Following
 pub mod Stepping
-pub mod Own
 pub mod Placing
 pub mod Comparing
 pub mod Literals

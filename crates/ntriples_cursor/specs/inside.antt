@@ -1,4 +1,3 @@
 pub mod Readers
 pub mod Coming
 pub mod Letters
-pub mod Own

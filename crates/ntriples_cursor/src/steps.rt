@@ -19,7 +19,6 @@ ghost use lib.ListN.{length, take, drop};
 ghost use Rattle.spec_ntriples.specs.Texts.{lowerChar, isSameText};
 ghost use Rattle.ntriples_bytes.specs.inside.Places.{At};
 ghost use Rattle.ntriples_cursor.specs.inside.Coming.{Typed, Follows, ComingIn, Coming, SomeComing, SomeTyped, SomeFollows, Stepped, IriStepped, typeTail};
-ghost use Rattle.ntriples_cursor.specs.inside.Own.{isBut, isOwn};
 
 const QUOTE: u32 = 0x22;
 
@@ -28,27 +27,6 @@ const GREATER: u32 = 0x3E;
 const AT_SIGN: u32 = 0x40;
 
 const UNDERSCORE: u32 = 0x5F;
-
-// Whether a byte inside an IRI or a string stands for itself: a character of ASCII that neither closes it nor begins an escape.
-pub fn is_own(mode: Mode, b: u8) -> bool
-    ensures { λ r. ⌜ r ≡ isOwn mode b ⌝ }
-{
-    match mode {
-        Mode::Iri => is_but(b'>', b),
-        Mode::Quoted => is_but(b'"', b),
-        Mode::Term => false,
-        Mode::Label => false,
-        Mode::Suffix => false,
-        Mode::Tag => false,
-    }
-}
-
-// Whether a byte is a character of ASCII, and neither a mark nor a backslash.
-fn is_but(mark: u8, b: u8) -> bool
-    ensures { λ r. ⌜ r ≡ isBut mark b ⌝ }
-{
-    (b < 0x80) & ((b != mark) & (b != b'\\'))
-}
 
 // Whether a piece stands first in the bytes left from an index on.
 pub fn is_piece(p: Piece, text: &[u8], at: usize, left: usize) -> bool

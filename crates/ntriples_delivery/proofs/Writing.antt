@@ -167,8 +167,12 @@ section-length ts = omega (arith, entries-length ts)
 
 -- ---- the whole
 
+-- Zeros of a length that stayed.
+pub zeros-kept : (m d : List ℕ) → m ≡ replicate (length d) 0 → length m ≡ length d → m ≡ replicate (length m) 0
+zeros-kept m d e l = e ∙ ap (λ (n : ℕ). replicate n 0) (sym l)
+
 -- Bytes stored among zeros.
-sets-zeros : (a b : ℕ) (vs : List ℕ) → sets (replicate (a + (length vs + b)) 0) a vs ≡ replicate a 0 ++ (vs ++ replicate b 0)
+pub sets-zeros : (a b : ℕ) (vs : List ℕ) → sets (replicate (a + (length vs + b)) 0) a vs ≡ replicate a 0 ++ (vs ++ replicate b 0)
 sets-zeros a b vs =
     let z : List ℕ = replicate (a + (length vs + b)) 0 in
     let n : length z ≡ a + (length vs + b) = length-replicate {A = ℕ} (a + (length vs + b)) 0 in

@@ -1,3 +1,1 @@
-pub mod Heads
-pub mod Ends
 pub mod Lines

@@ -1,8 +1,8 @@
 -- Laws of lines, read into places. Assumes nothing.
 use Prim.Native.Nat.{ℕ, _≤_}
 use Prim.Native.Char.{code}
-use mathlib.Core.Path.{_≡_, refl, sym, ap, _∙_}
-use mathlib.Core.Bool.{Bool, true, false, _&&_, _||_, cond}
+use mathlib.Core.Path.{_≡_, refl, _∙_}
+use mathlib.Core.Bool.{true, false, cond}
 use mathlib.Core.List.{List, [], _∷_}
 use native.Mathlib.Omega.{arith}
 use lib.ListN.{length}
@@ -13,16 +13,15 @@ use Rattle.spec_ntriples.specs.computed.Terminals.{headIs, skip}
 use Rattle.spec_ntriples.specs.Texts.{Text, TextTriple}
 use Rattle.spec_ntriples.specs.computed.Lines.{Read, nothing, read, readIri, readSubject, readObject, Line, wrong, empty, full, isRest, endOf, afterObject, afterProperty, afterSubject, readLine}
 use Rattle.ntriples_bytes.specs.declared.Mark.{Mark}
-use Rattle.ntriples_bytes.specs.inside.Places.{At, Utf8From, charsAt, Marks, HasText}
+use Rattle.ntriples_bytes.specs.inside.Places.{At, charsAt, Marks, HasText}
 use Rattle.ntriples_bytes.proofs.Decoding.{at-start, chars-are, chars-stand, chars-end, chars-marked}
 use Rattle.ntriples_bytes.proofs.Marking.{by-test}
-use Rattle.ntriples_terminals.specs.inside.Ends.{Behind, nowhere, behind, behindRead, Ended}
+use Rattle.ntriples_terminals.specs.inside.Ends.{nowhere, behind, behindRead, Ended}
 use Rattle.ntriples_lines.specs.declared.Token.{Token}
-use Rattle.ntriples_lines.specs.declared.Tokens.{Tokens}
 use Rattle.ntriples_lines.specs.declared.Line as code-line
 use Rattle.ntriples_lines.specs.declared.Line.the-variants.{Wrong, Empty, Full}
 use Rattle.ntriples_lines.specs.inside.Reading.{isEnded, IsFull, IsLine}
-use Rattle.ntriples_lines.proofs.Heads.{HeadIs}
+use Rattle.ntriples_ends.proofs.Heads.{HeadIs}
 
 -- ---- the ends of lines
 

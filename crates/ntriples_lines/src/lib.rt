@@ -1,13 +1,11 @@
 // A line of N-Triples in bytes of UTF-8: whether it is wrong, empty or has a triple, and where the triple's terms stand.
-pub mod terms; // terms.rt: where terms end
-
 use ntriples_bytes::char_at;
+use ntriples_ends::object_end;
+use ntriples_ends::subject_end;
 use ntriples_terminals::Found;
 use ntriples_terminals::iri_end;
 use ntriples_terminals::mark_end;
 use ntriples_terminals::skip;
-use terms::object_end;
-use terms::subject_end;
 ghost use mathlib.Core.Path.{_≡_};
 ghost use mathlib.Core.Bool.{true};
 ghost use mathlib.Core.List.{List};

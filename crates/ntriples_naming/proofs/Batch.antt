@@ -11,7 +11,7 @@ use Rattle.spec_ntriples.specs.Texts.{Text, TextTriple}
 use Rattle.spec_ntriples.specs.Dictionary.{Entry}
 use Rattle.ntriples_lines.specs.declared.Tokens.{Tokens}
 use Rattle.ntriples_batch.specs.inside.Batches.{noTriple, HaveTexts}
-use Rattle.ntriples_terms.specs.inside.Words.{isNamed}
+use Rattle.ntriples_words.specs.inside.Named.{isNamed}
 use Rattle.ntriples_terms.proofs.Found.{Named, named-words}
 use Rattle.ntriples_naming.specs.declared.Last.{Last}
 use Rattle.ntriples_naming.specs.declared.Progress.{Progress}

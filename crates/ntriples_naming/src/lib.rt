@@ -6,7 +6,7 @@ use ntriples_batch::tokens_at;
 use ntriples_document::line_end;
 use ntriples_lines::Token;
 use ntriples_lines::Tokens;
-use ntriples_terms::is_named;
+use ntriples_words::is_named;
 use table::row_from;
 ghost use mathlib.Core.Path.{_≡_};
 ghost use mathlib.Core.List.{List};

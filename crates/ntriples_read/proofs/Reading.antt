@@ -186,6 +186,3 @@ module _ (file : List ℕ) (n : ℕ) (bs : List ℕ) (f : Filled) (delivery : Li
             ∙ sym (accepted-is bs file (length delivery) (10 + 12 * n) accepted)
 
 -- ---- the delivery's bytes
-
-pub zeros-kept : (m d : List ℕ) → m ≡ replicate (length d) 0 → length m ≡ length d → m ≡ replicate (length m) 0
-zeros-kept m d e l = e ∙ ap (λ (n : ℕ). replicate n 0) (sym l)

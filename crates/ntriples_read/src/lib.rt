@@ -1,8 +1,8 @@
 // N-Triples read with a dictionary into a delivery.
 use dictionary_bytes::Filled;
-use dictionary_check::Checked;
 use dictionary_check::check_dictionary;
 use dictionary_entries::take_back;
+use dictionary_step::Checked;
 use ntriples_batches::MOST_LINES;
 use ntriples_batches::name_file;
 use ntriples_delivery::clear;

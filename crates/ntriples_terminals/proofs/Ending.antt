@@ -1,25 +1,23 @@
 -- Laws of where IRIs and strings end. Assumes nothing.
-use Prim.Native.Nat.{ℕ, zero, suc, _+_, _≤_, _<_}
+use Prim.Native.Nat.{ℕ, _+_, _≤_, _<_}
 use Prim.Native.Char.{code}
-use mathlib.Core.Path.{_≡_, refl, sym, ap, _∙_}
-use mathlib.Core.Bool.{Bool, true, false, _&&_, _||_, not, cond}
-use mathlib.Core.List.{List, [], _∷_}
-use native.Mathlib.Omega.{arith}
-use lib.ListN.{length, getD}
-use lib.Dec.{eqb, leb, ltb}
-use borrow.Author.Tests.{lt-ltb, le-ltb, eq-eqb, ne-eqb}
+use mathlib.Core.Path.{_≡_, refl, _∙_}
+use mathlib.Core.Bool.{Bool, true, false, _&&_, _||_, not}
+use mathlib.Core.List.{List}
+use lib.ListN.{length}
+use lib.Dec.{eqb}
+use borrow.Author.Tests.{eq-eqb, ne-eqb}
 use Rattle.spec_ntriples.specs.Characters.{codes, isOneOf, isLetter, isLetterOrDigit}
-use Rattle.spec_ntriples.specs.computed.Terminals.{Got, none, got, push, outside, iriStep, stringStep, scan, skip}
-use Rattle.spec_ntriples.specs.Texts.{text, iriText, isScheme, isAbsolute}
-use Rattle.spec_ntriples.specs.computed.Lines.{Read, nothing, read, iriOf, readIri}
+use Rattle.spec_ntriples.specs.computed.Terminals.{Got, none, got, push, outside, iriStep, scan, skip}
+use Rattle.spec_ntriples.specs.Texts.{isScheme, isAbsolute}
+use Rattle.spec_ntriples.specs.computed.Lines.{iriOf, readIri}
 use Rattle.ntriples_bytes.specs.declared.Mark.{Mark}
-use Rattle.ntriples_bytes.specs.inside.Places.{At, Utf8From, charsAt, Marks}
-use Rattle.ntriples_bytes.proofs.Decoding.{chars-end, chars-stand, chars-marked, from-marked}
+use Rattle.ntriples_bytes.specs.inside.Places.{charsAt, Marks}
+use Rattle.ntriples_bytes.proofs.Decoding.{chars-end, chars-marked}
 use Rattle.ntriples_bytes.proofs.Marking.{by-test}
 use Rattle.ntriples_chars.proofs.Testing.{neither, either}
 use Rattle.ntriples_pieces.specs.inside.Pieces.{stepOf, IsPiece}
 use Rattle.ntriples_terminals.specs.inside.Ends.{Behind, nowhere, behind, behindWhere, behindGot, behindRead, Ended, IsEnd}
-use Rattle.ntriples_pieces.specs.declared.Piece.{Piece}
 use Rattle.ntriples_pieces.specs.declared.Piece.the-variants.{Broken, Ends, Gives}
 use Rattle.ntriples_terminals.specs.declared.Found.{Found}
 use Rattle.ntriples_terminals.specs.declared.Found.the-variants.{Nothing, End}

@@ -11,7 +11,8 @@ use Rattle.spec.specs.Terms.{triple}
 use Rattle.spec.proofs.Ascending.{and-left, and-right}
 use Rattle.spec_ntriples.specs.Texts.{TextTriple}
 use Rattle.spec_ntriples.specs.Dictionary.{Entry, termIn}
-use Rattle.ntriples_terms.specs.inside.Words.{isNamed, foundWord, foundRow}
+use Rattle.ntriples_words.specs.inside.Named.{isNamed}
+use Rattle.ntriples_terms.specs.inside.Words.{foundWord, foundRow}
 
 module _ (es : List Entry) (t : List ℕ) (w : ℕ) where
   pub found-kept : (w ≡ 0 → ⊥) → w ≡ foundWord es t w

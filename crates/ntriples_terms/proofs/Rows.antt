@@ -25,9 +25,6 @@ use Rattle.ntriples_terms.specs.inside.Words.{tripleBy, IsTripleAt, AreT
 abbrev pub words : Triple → List ℕ
 words t = t .subject ∷ t .property ∷ t .object ∷ []
 
-pub row-put : (ws : List ℕ) (at a b c : ℕ) → set (set (set ws at a) (at + 1) b) (at + 2) c ≡ sets ws at (a ∷ b ∷ c ∷ [])
-row-put ws at a b c = let e : at + 2 ≡ suc (suc at) = omega arith in rw (add-one at, e)
-
 module _ (ws : List ℕ) (at : ℕ) (t : Triple) (h : at + 3 ≤ length ws) where
   abbrev after : List ℕ
   after = sets ws at (words t)

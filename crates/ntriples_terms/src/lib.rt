@@ -4,14 +4,13 @@ use ntriples_batch::tokens_at;
 use ntriples_document::line_end;
 use ntriples_lines::Token;
 use ntriples_lines::Tokens;
-use ntriples_text::vocabulary_of;
+use ntriples_text_kind::vocabulary_of;
+use ntriples_words::is_named;
+use ntriples_words::put_row;
 use spec::Triple;
 use table::row_from;
 ghost use mathlib.Core.Path.{_≡_};
-ghost use mathlib.Core.List.{List, [], _∷_};
-ghost use Prim.Native.Nat.{ℕ, _+_, _*_, _≤_, _<_};
-ghost use lib.ListN.{length};
-ghost use lib.Seq.{sets};
+ghost use mathlib.Core.List.{List};
 ghost use Rattle.spec_ntriples.specs.Texts.{Text, TextTriple};
 ghost use Rattle.spec_ntriples.specs.Dictionary.{Entry, vocabularyOf};
 ghost use Rattle.ntriples_bytes.specs.inside.Places.{HasText};
@@ -19,25 +18,7 @@ ghost use Rattle.ntriples_text.specs.inside.Tokens.{IsToken};
 ghost use Rattle.ntriples_batch.specs.inside.Batches.{LineAt, HaveTexts};
 ghost use Rattle.dictionary_index.specs.inside.Index.{LeadWithin};
 ghost use Rattle.dictionary_names.specs.inside.IndexOf.{IndexOf};
-ghost use Rattle.ntriples_terms.specs.inside.Words.{isNamed, tripleBy, foundWord, foundRow, IsTripleAt, AreTokens, LinesAt, CanBeNamed, RowsBy};
-
-// Writes a triple as row i.
-pub fn put_row(terms: &mut [u32], i: usize, t: Triple)
-    requires { ⌜ i * 3 + 3 ≤ length (now terms) ⌝ }
-    ensures { λ _. ⌜ now (terms .exit) ≡ sets (now (terms .entry)) (i * 3) (t .subject ∷ t .property ∷ t .object ∷ []) ⌝ }
-{
-    let at = i * 3;
-    terms[at] = t.subject;
-    terms[at + 1] = t.property;
-    terms[at + 2] = t.object;
-}
-
-// Whether no word of a row is 0.
-pub fn is_named(row: Triple) -> bool
-    ensures { λ r. ⌜ r ≡ isNamed row ⌝ }
-{
-    (0 < row.subject) & ((0 < row.property) & (0 < row.object))
-}
+ghost use Rattle.ntriples_terms.specs.inside.Words.{tripleBy, foundWord, foundRow, IsTripleAt, AreTokens, LinesAt, CanBeNamed, RowsBy};
 
 // The vocabulary's terms for the texts of a line, 0 for each that is none.
 fn vocabulary_in(line: &[u8], k: Tokens) -> Triple

@@ -1,4 +1,2 @@
-pub mod Comparing
 pub mod Passing
 pub mod Writing
-pub mod Vocabulary

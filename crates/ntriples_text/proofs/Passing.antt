@@ -1,23 +1,22 @@
 -- Laws of the passage through a term's text, piece by piece. Assumes nothing.
-use Prim.Native.Nat.{ℕ, zero, suc, _+_, _-_, _≤_, _<_}
+use Prim.Native.Nat.{ℕ, _+_, _-_, _≤_, _<_}
 use mathlib.Core.Path.{_≡_, refl, sym, ap, _∙_}
-use mathlib.Core.Bool.{Bool, true, false, _&&_}
+use mathlib.Core.Bool.{true}
 use mathlib.Core.List.{List, [], _∷_, _++_, append-assoc, append-nil}
 use native.Mathlib.Omega.{arith}
-use lib.ListN.{length, getD, take, drop, length-append}
+use lib.ListN.{length, getD, take, length-append}
 use lib.Seq.{sets, length-sets, length-take-le}
-use Rattle.spec_ntriples.specs.Texts.{Text, isSameText}
+use Rattle.spec_ntriples.specs.Texts.{Text}
 use Rattle.ntriples_bytes.specs.inside.Places.{HasText}
 use Rattle.dictionary_bytes.specs.inside.Hashes.{hashFrom}
 use Rattle.dictionary_bytes.proofs.Hashing.{hash-append}
 use Rattle.ntriples_cursor.specs.declared.Mode.the-variants.{Term}
 use Rattle.ntriples_cursor.specs.declared.Cursor.{Cursor}
 use Rattle.ntriples_cursor.specs.declared.Piece.{Piece}
-use Rattle.ntriples_cursor.specs.inside.Coming.{Coming, SomeComing, Splits, Stepped}
-use Rattle.ntriples_cursor.specs.inside.Own.{isOwn, ownPiece}
-use Rattle.ntriples_cursor.proofs.Own.{own-stepped}
+use Rattle.ntriples_cursor.specs.inside.Coming.{SomeComing, Stepped}
+use Rattle.ntriples_own.specs.inside.Own.{isOwn, ownPiece}
+use Rattle.ntriples_own.proofs.Own.{own-stepped}
 use Rattle.ntriples_cursor.proofs.Placing.{coming-placed}
-use Rattle.ntriples_cursor.proofs.Comparing.{pieces-more}
 use Rattle.ntriples_text.specs.inside.Tokens.{Left}
 use Rattle.ntriples_text.proofs.Writing.{sets-append}
 

@@ -10,7 +10,7 @@ use lib.ListN.{length, getD, take, drop, replicate, length-replicate, getD-repli
 use lib.Seq.{ext-getD, length-take-le}
 use Rattle.rows.specs.inside.Rows.{rows}
 use Rattle.spec.specs.Rows.{flat}
-use Rattle.rows.specs.inside.Effects.{WordsZeroed}
+use Rattle.rows_zero.specs.inside.Effects.{WordsZeroed}
 use Rattle.rows.proofs.HeldWords.{flat-rows}
 use Rattle.spec.specs.Outputs.{areFitting, filled}
 

@@ -1,21 +1,19 @@
 // What the program `read_ntriples` prints: the delivery of a file of N-Triples, or why there is none.
 use ntriples_read::read_ntriples;
+use report_rooms::empty_dictionary;
 use report_text::write_labelled;
 use spec_ntriples::ByteReply;
 ghost use mathlib.Core.Path.{_≡_};
 ghost use Prim.Native.Nat.{_+_, _≤_};
-ghost use lib.ListN.{length, replicate};
+ghost use lib.ListN.{length};
 ghost use Rattle.spec.specs.Messages.{mostBytes};
 ghost use Rattle.report_reading.specs.Printing.{mostInput, printed, printedLength, printedFor};
 
 // The most bytes of a file,
 const MOST_INPUT: usize = 1048576;
 
-// room for one byte more,
+// and room for one byte more.
 const INPUT_ROOM: usize = MOST_INPUT + 1;
-
-// and for the longest delivery.
-const OUTPUT_ROOM: usize = 65536;
 
 // How many bytes are printed: on standard output, or on standard error.
 pub enum Printed {
@@ -28,20 +26,6 @@ pub fn input_buffer() -> [u8; INPUT_ROOM]
     ensures { λ r. ⌜ 1 + mostInput ≡ length r ⌝ }
 {
     [0u8; INPUT_ROOM]
-}
-
-// Room for what is printed.
-pub fn output_buffer() -> [u8; OUTPUT_ROOM]
-    ensures { λ r. ⌜ mostBytes ≡ length r ⌝ }
-{
-    [0u8; OUTPUT_ROOM]
-}
-
-// A dictionary without entries.
-fn empty_dictionary() -> [u8; 1048576]
-    ensures { λ r. ⌜ r ≡ replicate 1048576 0 ⌝ }
-{
-    [0u8; 1048576]
 }
 
 // Reads a file of N-Triples with an empty dictionary, and writes what is printed.

@@ -3,4 +3,3 @@ pub mod SortLaws
 pub mod RowWords
 pub mod HeldWords
 pub mod PermutedLaws
-pub mod Zeroed

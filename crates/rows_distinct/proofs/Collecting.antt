@@ -12,7 +12,7 @@ use Rattle.spec.specs.Rows.{less, insertOnce, ordered}
 use Rattle.spec.specs.inside.Sorting.{AscendingRows as Ascending}
 use Rattle.rows.specs.inside.Rows.{rowAt, rows, tabulate}
 use Rattle.rows.specs.inside.Effects.{HoldsRows}
-use Rattle.rows_sort.specs.inside.Effects.{Sorted}
+use Rattle.rows_merge.specs.inside.Effects.{Sorted}
 use Rattle.spec.proofs.RowOrder.{never, less-tri}
 use Rattle.spec.proofs.OrderedRows.{insertOnce-ascends, insertOnce-cases, ordered-iff, ordered-ascends}
 use Rattle.rows.proofs.SortLaws.{ascending-sorted}
@@ -23,7 +23,7 @@ use Rattle.spec.specs.Outputs.{areFitting}
 use Rattle.output.proofs.Filled.{getD-zeros}
 use Rattle.rows_distinct.specs.declared.Collected.{Collected}
 use Rattle.rows_distinct.specs.inside.Collected.{Exceeds, Collects}
-use Rattle.rows_distinct.specs.inside.Effects.{Found, RowWritten}
+use Rattle.rows_single.specs.inside.Effects.{Found, RowWritten}
 
 -- The struct of its three fields.
 abbrev pub counted : ℕ → ℕ → Bool → Collected

@@ -1,4 +1,2 @@
-pub mod Search
-pub mod Writing
 pub mod Collecting
 pub mod Gathering

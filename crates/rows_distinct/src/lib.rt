@@ -1,76 +1,25 @@
 // Rows collected in a lent output.
 use output::clear;
+use rows_single::is_among;
+use rows_single::is_same;
+use rows_single::write_row;
 use rows_sort::merge_distinct;
 use spec::Reply;
 ghost use mathlib.Core.Path.{_≡_};
-ghost use mathlib.Core.Bool.{true};
+ghost use mathlib.Core.Bool.{true, false};
 ghost use mathlib.Core.List.{List, [], _∷_, List·Memᴰ};
 ghost use Prim.Native.Nat.{ℕ, _+_, _*_, _<_, _≤_};
 ghost use lib.ListN.{length, replicate};
-ghost use Rattle.spec.specs.Rows.{less};
 ghost use Rattle.rows.specs.inside.Rows as sorted-rows;
 ghost use Rattle.spec.specs.Outputs.{replied};
 ghost use Rattle.rows_distinct.specs.inside.Collected.{Collects, gathered};
-ghost use Rattle.rows_distinct.specs.inside.Effects.{Within, Found, RowWritten};
+ghost use Rattle.rows_distinct.specs.inside.Effects.{Within};
 
 // How many sorted rows stand in front, how many added ones behind them, and whether more distinct rows were put than fit.
 pub struct Collected {
     pub sorted: usize,
     pub added: usize,
     pub exceeded: bool,
-}
-
-// Whether the m words from p on of one slice are below the m words from q on of another.
-fn less_words(t: &[u32], p: usize, u: &[u32], q: usize, m: usize) -> bool
-    requires { ⌜ (p + m ≤ length (now t)) × (q + m ≤ length (now u)) ⌝ }
-    ensures { λ r. ⌜ r ≡ less (sorted-rows.row m p (now (t .entry))) (sorted-rows.row m q (now (u .entry))) ⌝ }
-{
-    let mut k = 0;
-    while k < m {
-        let x = t[p + k];
-        let y = u[q + k];
-        if x != y {
-            return x < y;
-        }
-        k += 1;
-    }
-    false
-}
-
-// Whether the m words from p on are the first m words of a row.
-fn is_same(t: &[u32], p: usize, row: &[u32], m: usize) -> bool
-    requires { ⌜ (p + m ≤ length (now t)) × (m ≤ length (now row)) ⌝ }
-    ensures { λ r. ⌜ (r ≡ true → sorted-rows.row m p (now (t .entry)) ≡ sorted-rows.row m 0 (now (row .entry))) ⌝ }
-{
-    let mut k = 0;
-    while k < m {
-        if t[p + k] != row[k] {
-            return false;
-        }
-        k += 1;
-    }
-    true
-}
-
-// Whether a row is among the first n rows, which ascend: a binary search for the first row that is not below it.
-fn is_among(out: &[u32], m: usize, n: usize, row: &[u32]) -> bool
-    requires { ⌜ (n * m ≤ length (now out)) × (m ≤ length (now row)) ⌝ }
-    ensures { λ r. ⌜ Found m n (now (out .entry)) (sorted-rows.row m 0 (now (row .entry))) r ⌝ }
-{
-    let mut lo = 0;
-    let mut hi = n;
-    while lo < hi {
-        let mid = lo + (hi - lo) / 2;
-        if less_words(out, mid * m, row, 0, m) {
-            lo = mid + 1;
-            continue;
-        }
-        hi = mid;
-    }
-    if lo == n {
-        return false;
-    }
-    !less_words(row, 0, out, lo * m, m)
 }
 
 // Whether a row is the last one added.
@@ -83,19 +32,6 @@ fn is_last(out: &[u32], m: usize, row: &[u32], c: Collected) -> bool
     }
     let last = c.sorted + c.added - 1;
     is_same(out, last * m, row, m)
-}
-
-// Writes a row as row n.
-fn write_row(out: &mut [u32], m: usize, n: usize, row: &[u32])
-    requires { ⌜ (n * m + m ≤ length (now out)) × (m ≤ length (now row)) ⌝ }
-    ensures { λ _. ⌜ RowWritten m n (sorted-rows.row m 0 (now (row .entry))) (now (out .entry)) (now (out .exit)) ⌝ }
-{
-    let at = n * m;
-    let mut k = 0;
-    while k < m {
-        out[at + k] = row[k];
-        k += 1;
-    }
 }
 
 // Adds a row behind the others, where there is room for one more.
@@ -154,6 +90,42 @@ fn is_spare(c: Collected, free: usize) -> bool
     c.added < free - 1
 }
 
+// Puts a row that is neither the last one added nor among the sorted rows, where the rows are settled: one that is there is not added, and one that has no room is one too many.
+fn put_settled(out: &mut [u32], m: usize, row: &[u32], s: Collected) -> Collected
+    requires { ⌜ (0 < m) × (m ≤ length (now row)) × Within m (now out) s ⌝ }
+    requires { ⌜ (s .added ≡ 0) × (s .exceeded ≡ false) ⌝ }
+    ensures within { λ r. ⌜ Within m (now (out .exit)) r ⌝ }
+    ensures collects { λ r. ⌜ ((R : List (List ℕ)) → Collects m R (now (out .entry)) s → Collects m (sorted-rows.row m 0 (now (row .entry)) ∷ R) (now (out .exit)) r) ⌝ }
+{
+    if is_among(out, m, s.sorted, row) {
+        return s;
+    }
+    let room = out.len() / m;
+    if room - (s.sorted + s.added) == 0 {
+        return Collected {
+            sorted: s.sorted,
+            added: s.added,
+            exceeded: true,
+        };
+    }
+    add(out, m, row, s)
+}
+
+// Puts a row that is neither the last one added nor among the sorted rows: it is added, and before that the rows are settled where few more have room.
+fn put_new(out: &mut [u32], m: usize, row: &[u32], c: Collected) -> Collected
+    requires { ⌜ (0 < m) × (m ≤ length (now row)) × Within m (now out) c ⌝ }
+    requires { ⌜ c .exceeded ≡ false ⌝ }
+    ensures within { λ r. ⌜ Within m (now (out .exit)) r ⌝ }
+    ensures collects { λ r. ⌜ ((R : List (List ℕ)) → Collects m R (now (out .entry)) c → Collects m (sorted-rows.row m 0 (now (row .entry)) ∷ R) (now (out .exit)) r) ⌝ }
+{
+    let room = out.len() / m;
+    if is_spare(c, room - (c.sorted + c.added)) {
+        return add(out, m, row, c);
+    }
+    let s = settle(out, m, c);
+    put_settled(out, m, row, s)
+}
+
 // Puts the row of the first m words of a slice: nothing happens where it is the last one added or among the sorted rows; else it is added. The rows are settled before that where few more have room. A row that is not among them then, and has no room, is one too many.
 pub fn put(out: &mut [u32], m: usize, row: &[u32], c: Collected) -> Collected
     requires { ⌜ (0 < m) × (m ≤ length (now row)) × Within m (now out) c ⌝ }
@@ -169,22 +141,7 @@ pub fn put(out: &mut [u32], m: usize, row: &[u32], c: Collected) -> Collected
     if is_among(out, m, c.sorted, row) {
         return c;
     }
-    let room = out.len() / m;
-    if is_spare(c, room - (c.sorted + c.added)) {
-        return add(out, m, row, c);
-    }
-    let s = settle(out, m, c);
-    if is_among(out, m, s.sorted, row) {
-        return s;
-    }
-    if room - (s.sorted + s.added) == 0 {
-        return Collected {
-            sorted: s.sorted,
-            added: s.added,
-            exceeded: true,
-        };
-    }
-    add(out, m, row, s)
+    put_new(out, m, row, c)
 }
 
 // Gives the rows that were put, ascending, each once, or refuses by 8 where they do not fit.

@@ -1,2 +1,2 @@
 pub mod DistinctLaws
-pub mod MergeLaws
+pub mod MergedLaws

@@ -1,5 +1,4 @@
-pub mod Ranges
-pub mod Gathering
+pub mod Columns
 pub mod Plain
 pub mod Properties
 pub mod Subjects

@@ -19,12 +19,13 @@ use Rattle.saturate_merge.specs.inside.Streams.{objects, often}
 use Rattle.saturate_merge.proofs.Output.{put-append}
 use Rattle.saturate_merge.proofs.Between.{between-none, between-skip}
 use Rattle.saturate_merge.proofs.Whole.{between-join}
-use Rattle.saturate_subject.specs.inside.Sums.{sumFrom}
-use Rattle.saturate_subject.specs.inside.Blocks.{sameAt, ledAt}
+use Rattle.saturate_blocks.specs.inside.Sums.{sumFrom}
+use Rattle.saturate_blocks.specs.inside.Blocks.{sameAt, ledAt}
 use Rattle.saturate_counts.specs.inside.Prepared.{Keys, Facts}
-use Rattle.saturate_subject.specs.inside.Rows.{ones, Split, Of, ColumnRows, PropertyRows, Uncounted}
-use Rattle.saturate_subject.proofs.Ranges.{from-zero, from-part}
-use Rattle.saturate_subject.proofs.Gathering.{led-zero}
+use Rattle.saturate_blocks.specs.inside.Plain.{ones, Split}
+use Rattle.saturate_subject.specs.inside.Rows.{Of, ColumnRows, PropertyRows, Uncounted}
+use Rattle.saturate_blocks.proofs.Ranges.{from-zero, from-part}
+use Rattle.saturate_blocks.proofs.Gathering.{led-zero}
 use Rattle.saturate_subject.proofs.Plain.{same-property, plain-part, not-before}
 
 -- ---- columns

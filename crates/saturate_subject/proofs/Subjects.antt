@@ -30,11 +30,12 @@ use Rattle.saturate_counts.specs.inside.Prepared.{Keys, Prepared, Facts}
 use Rattle.saturate_counts.specs.inside.Supported.{classSum, Supported, Small, Range, CountsOf}
 use Rattle.saturate_counts.proofs.NodeBits.{node-absent}
 use Rattle.saturate_counts.proofs.Adding.{own-property}
-use Rattle.saturate_subject.specs.inside.Sums.{sumFrom}
-use Rattle.saturate_subject.specs.inside.Blocks.{sameAt, ledAt}
-use Rattle.saturate_subject.specs.inside.Rows.{Split, PropertyRows, Uncounted}
-use Rattle.saturate_subject.proofs.Ranges.{from-ext, from-zero, from-part, to-part}
-use Rattle.saturate_subject.proofs.Gathering.{rows-rising, led-zero}
+use Rattle.saturate_blocks.specs.inside.Sums.{sumFrom}
+use Rattle.saturate_blocks.specs.inside.Blocks.{sameAt, ledAt}
+use Rattle.saturate_blocks.specs.inside.Plain.{Split}
+use Rattle.saturate_subject.specs.inside.Rows.{PropertyRows, Uncounted}
+use Rattle.saturate_blocks.proofs.Ranges.{from-ext, from-zero, from-part, to-part}
+use Rattle.saturate_blocks.proofs.Gathering.{rows-rising, led-zero}
 use Rattle.saturate_subject.proofs.Plain.{same-property, one-subject, not-before}
 use Rattle.saturate_subject.proofs.Properties.{column-of, block-often}
 

@@ -9,8 +9,8 @@ use native.Mathlib.Decide.{decLt}
 use lib.ListN.{length, set, take, drop, replicate, length-append, length-drop, drop-of-length-le}
 use lib.Seq.{take-at}
 use borrow.Author.Tests.{le-leb, lt-leb}
-use Rattle.rows.specs.inside.Effects.{WordsZeroed}
-use Rattle.rows.proofs.Zeroed.{zeroed-is}
+use Rattle.rows_zero.specs.inside.Effects.{WordsZeroed}
+use Rattle.rows_zero.proofs.Zeroed.{zeroed-is}
 use Rattle.spec.specs.Tables.{flatten, layout}
 use Rattle.spec.specs.Lists.{padded}
 use Rattle.spec.proofs.TableRows.{length-flatten}

@@ -1,6 +1,6 @@
 // The kept facts written in two passes over the subjects: the first counts their rows, and where they fit, the second writes them.
-use rows::zero_supports;
-use rows::zero_words;
+use rows_zero::zero_supports;
+use rows_zero::zero_words;
 use saturate_run::put_rows;
 use saturate_schema::MOST_COLUMNS;
 use saturate_schema::Sizes;

@@ -8,8 +8,8 @@ use lib.Seq.{drop-at, length-take-le, ext-getD}
 use Rattle.spec.specs.declared.Triple.{Triple}
 use Rattle.spec.specs.Tables.{rowAt}
 use Rattle.spec.specs.inside.Comparison.{triple-eq}
-use Rattle.rows.specs.inside.Effects.{WordsZeroed}
-use Rattle.rows.proofs.Zeroed.{zeroed-is}
+use Rattle.rows_zero.specs.inside.Effects.{WordsZeroed}
+use Rattle.rows_zero.proofs.Zeroed.{zeroed-is}
 use Rattle.update_kept.specs.inside.Entries.{entries, Room}
 use Rattle.update_kept.proofs.Entries.{noEntry, length-entries, getD-entries}
 use Rattle.update_lower.specs.inside.Lowering.{Cleared}

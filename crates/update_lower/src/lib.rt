@@ -1,6 +1,6 @@
 // Supports of kept facts lowered in place, a row at 0 going (document 01, "Tables").
-use rows::zero_supports;
-use rows::zero_words;
+use rows_zero::zero_supports;
+use rows_zero::zero_words;
 use table::row_from;
 use table_change::put_entry;
 use table_find::Ordering;

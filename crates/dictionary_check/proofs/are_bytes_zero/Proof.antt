@@ -8,8 +8,6 @@ use Rattle.spec.proofs.TableAll.{zeros-end}
 use Rattle.table_zeros.proofs.Folds.{fold-end, zeros-fold}
 use Rattle.dictionary_check.proofs.are_bytes_zero.Statement.{statement}
 use Rattle.dictionary_check.proofs.are_bytes_zero.Tie as tie
-use Rattle.dictionary_check.proofs.are_bytes_zero.Reads as reads
-use Rattle.dictionary_check.proofs.are_bytes_zero.Lts as lts
 
 abbrev Inv-loop : tie.InvT-loop
 Inv-loop bytes from ok₀ i₀ ok i = areZero (drop from bytes) ≡ (ok && areZero (drop i bytes))

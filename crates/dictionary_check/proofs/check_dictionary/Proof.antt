@@ -1,10 +1,6 @@
 use borrow.Author.Needs.{needs}
 use Rattle.dictionary_check.proofs.check_dictionary.Statement.{statement}
 use Rattle.dictionary_check.proofs.check_dictionary.Tie as tie
-use Rattle.dictionary_check.proofs.check_dictionary.Reads as reads
-use Rattle.dictionary_check.proofs.check_dictionary.Lts as lts
-use Rattle.dictionary_check.proofs.settle.Reads as settle-reads
-use Rattle.dictionary_check.proofs.walk.Reads as walk-reads
 
 -- src/lib.rt:164:11
 walk-requires : tie.Need-walk-requires

@@ -1,14 +1,11 @@
 use mathlib.Core.Path.{sym, _∙_}
 use native.Mathlib.Omega.{arith}
 use borrow.Author.Tests.{not-true, not-false}
-use Rattle.dictionary_check.proofs.Steps.{no-zeros, all-entries, text-repeats, is-dictionary, is-filled}
+use Rattle.dictionary_step.proofs.Steps.{no-zeros}
+use Rattle.dictionary_check.proofs.AllEntries.{all-entries, text-repeats, is-dictionary, is-filled}
 use borrow.Author.Needs.{needs}
 use Rattle.dictionary_check.proofs.settle.Statement.{statement}
 use Rattle.dictionary_check.proofs.settle.Tie as tie
-use Rattle.dictionary_check.proofs.settle.Reads as reads
-use Rattle.dictionary_check.proofs.settle.Lts as lts
-use Rattle.dictionary_check.proofs.are_bytes_zero.Reads as are-bytes-zero-reads
-use Rattle.dictionary_distinct.proofs.are_distinct.Reads as are-distinct-reads
 
 -- src/lib.rt:151:9
 are-bytes-zero-requires : tie.Need-are-bytes-zero-requires

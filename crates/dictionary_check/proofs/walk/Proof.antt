@@ -1,15 +1,11 @@
 use borrow.Author.Needs.{needs}
 use Prim.Native.Nat.{_-_}
 use lib.ListN.{length}
-use Rattle.dictionary_check.specs.inside.Filling.{Filling}
-use Rattle.dictionary_check.proofs.Asking.{walk-less}
-use Rattle.dictionary_check.proofs.Steps.{filling-none}
+use Rattle.dictionary_step.specs.inside.Filling.{Filling}
+use Rattle.dictionary_step.proofs.Asking.{walk-less}
+use Rattle.dictionary_step.proofs.Steps.{filling-none}
 use Rattle.dictionary_check.proofs.walk.Statement.{statement}
 use Rattle.dictionary_check.proofs.walk.Tie as tie
-use Rattle.dictionary_check.proofs.walk.Reads as reads
-use Rattle.dictionary_check.proofs.walk.Lts as lts
-use Rattle.dictionary_check.proofs.is_entry.Reads as is-entry-reads
-use Rattle.dictionary_check.proofs.next_entry.Reads as next-entry-reads
 
 abbrev Inv-loop : tie.InvT-loop
 Inv-loop dictionary f₀ f = Filling dictionary f

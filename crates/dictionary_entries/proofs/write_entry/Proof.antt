@@ -8,7 +8,7 @@ use Rattle.dictionary_entries.proofs.write_entry.Reads as reads
 use Rattle.dictionary_entries.proofs.write_entry.Lts as lts
 use Rattle.dictionary_entries.proofs.write_number.Reads as write-number-reads
 use Rattle.ntriples_text.proofs.text_length.Reads as text-length-reads
-use Rattle.ntriples_text.proofs.write_text.Reads as write-text-reads
+use Rattle.ntriples_text_written.proofs.write_text.Reads as write-text-reads
 
 -- src/lib.rt:38:9
 text-length-requires : tie.Need-text-length-requires

@@ -17,7 +17,7 @@ use Rattle.dictionary_index.proofs.has_token.Tie as tie
 use Rattle.dictionary_index.proofs.has_token.Reads as reads
 use Rattle.dictionary_index.proofs.has_token.Lts as lts
 use Rattle.dictionary_bytes.proofs.length_at.Reads as length-at-reads
-use Rattle.ntriples_text.proofs.is_text.Reads as is-text-reads
+use Rattle.ntriples_text_same.proofs.is_text.Reads as is-text-reads
 
 -- src/lib.rt:100:9
 length-at-requires : tie.Need-length-at-requires

@@ -16,7 +16,7 @@ use Rattle.dictionary_entries.proofs.write_entry.Reads as write-entry-reads
 use Rattle.dictionary_numbers.proofs.filled_on.Reads as filled-on-reads
 use Rattle.dictionary_names.proofs.has_room.Reads as has-room-reads
 use Rattle.dictionary_numbers.proofs.number_of.Reads as number-of-reads
-use Rattle.ntriples_text.proofs.kind_of.Reads as kind-of-reads
+use Rattle.ntriples_text_kind.proofs.kind_of.Reads as kind-of-reads
 use Rattle.ntriples_text.proofs.text_length.Reads as text-length-reads
 
 -- src/lib.rt:123:9

@@ -2,7 +2,7 @@ use mathlib.Core.Path.{sym, _∙_}
 use borrow.Author.Tests.{not-true, not-false}
 use Rattle.spec_ntriples.specs.computed.Decoded.{decode}
 use Rattle.ntriples_document.proofs.Counting.{chars-of, utf8-whole}
-use Rattle.ntriples_lines.proofs.Ends.{not-there, there}
+use Rattle.ntriples_ends.proofs.Ends.{not-there, there}
 use Rattle.dictionary_texts.proofs.Reading.{broken-text, no-text, term-read, more-text, whole-text}
 use borrow.Author.Needs.{needs}
 use Rattle.dictionary_texts.proofs.is_canonical.Statement.{statement}
@@ -10,8 +10,8 @@ use Rattle.dictionary_texts.proofs.is_canonical.Tie as tie
 use Rattle.dictionary_texts.proofs.is_canonical.Reads as reads
 use Rattle.dictionary_texts.proofs.is_canonical.Lts as lts
 use Rattle.ntriples_bytes.proofs.is_utf8.Reads as is-utf8-reads
-use Rattle.ntriples_lines.proofs.terms.object_end.Reads as object-end-reads
-use Rattle.ntriples_text.proofs.is_text.Reads as is-text-reads
+use Rattle.ntriples_ends.proofs.object_end.Reads as object-end-reads
+use Rattle.ntriples_text_same.proofs.is_text.Reads as is-text-reads
 
 -- src/lib.rt:17:9
 is-utf8-requires : tie.Need-is-utf8-requires

@@ -3,7 +3,7 @@ use Rattle.dictionary_texts.proofs.is_no_vocabulary.Statement.{statemen
 use Rattle.dictionary_texts.proofs.is_no_vocabulary.Tie as tie
 use Rattle.dictionary_texts.proofs.is_no_vocabulary.Reads as reads
 use Rattle.dictionary_texts.proofs.is_no_vocabulary.Lts as lts
-use Rattle.ntriples_text.proofs.vocabulary_of.Reads as vocabulary-of-reads
+use Rattle.ntriples_text_kind.proofs.vocabulary_of.Reads as vocabulary-of-reads
 
 -- src/lib.rt:42:9
 returns : tie.Need-returns

@@ -3,7 +3,7 @@ use Rattle.dictionary_texts.proofs.text_kind.Statement.{statement}
 use Rattle.dictionary_texts.proofs.text_kind.Tie as tie
 use Rattle.dictionary_texts.proofs.text_kind.Reads as reads
 use Rattle.dictionary_texts.proofs.text_kind.Lts as lts
-use Rattle.ntriples_text.proofs.kind_of.Reads as kind-of-reads
+use Rattle.ntriples_text_kind.proofs.kind_of.Reads as kind-of-reads
 
 -- src/lib.rt:44:5
 kind-of-requires : tie.Need-kind-of-requires

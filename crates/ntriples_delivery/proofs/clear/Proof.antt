@@ -3,8 +3,8 @@ use native.Mathlib.Omega.{arith}
 use mathlib.Core.Path.{_≡_, refl}
 use Prim.Native.Nat.{_-_, _≤_}
 use lib.ListN.{length, length-set}
-use Rattle.rows.specs.inside.Effects.{WordsZeroed}
-use Rattle.rows.proofs.RowWords.{zero-none, zero-more}
+use Rattle.rows_zero.specs.inside.Effects.{WordsZeroed}
+use Rattle.rows_zero.proofs.ZeroLoop.{zero-none, zero-more}
 use Rattle.output.proofs.Filled.{all-zero}
 use Rattle.ntriples_delivery.proofs.clear.Statement.{statement}
 use Rattle.ntriples_delivery.proofs.clear.Tie as tie

@@ -1,23 +1,14 @@
-use native.Mathlib.Omega.{arith}
-use mathlib.Core.Path.{_≡_, refl, sym, _∙_, ap}
+use mathlib.Core.Path.{_∙_, ap}
 use Prim.Native.Char.{code}
 use lib.Dec.{eqb}
-use Rattle.ntriples_bytes.specs.inside.Places.{charsAt}
-use Rattle.ntriples_bytes.proofs.Decoding.{chars-are, some-at}
-use Rattle.ntriples_terminals.specs.inside.Ends.{behindHead, behindRead}
-use Rattle.ntriples_terminals.proofs.Ending.{end-same}
-use Rattle.ntriples_lines.proofs.Ends.{there, not-there, missing, found, behind-utf8}
+use Rattle.ntriples_bytes.proofs.Decoding.{chars-are}
+use Rattle.ntriples_ends.proofs.Ends.{missing, found, behind-utf8}
 use Rattle.ntriples_lines.specs.inside.Reading.{isEnded}
 use Rattle.spec_ntriples.specs.computed.Lines.{isRest}
 use Rattle.ntriples_lines.proofs.Lines.{ended-none, ended-some}
 use borrow.Author.Needs.{needs}
 use Rattle.ntriples_lines.proofs.is_ended.Statement.{statement}
 use Rattle.ntriples_lines.proofs.is_ended.Tie as tie
-use Rattle.ntriples_lines.proofs.is_ended.Reads as reads
-use Rattle.ntriples_lines.proofs.is_ended.Lts as lts
-use Rattle.ntriples_lines.proofs.is_rest.Reads as is-rest-reads
-use Rattle.ntriples_terminals.proofs.mark_end.Reads as mark-end-reads
-use Rattle.ntriples_terminals.proofs.skip.Reads as skip-reads
 
 -- src/lib.rt:58:26
 skip-requires : tie.Need-skip-requires

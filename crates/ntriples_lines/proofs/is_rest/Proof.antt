@@ -1,19 +1,7 @@
-use native.Mathlib.Omega.{arith}
-use mathlib.Core.Path.{_≡_, refl, sym, _∙_, ap}
-use Prim.Native.Char.{code}
-use lib.Dec.{eqb}
-use Rattle.ntriples_bytes.specs.inside.Places.{charsAt}
-use Rattle.ntriples_bytes.proofs.Decoding.{chars-are, some-at}
-use Rattle.ntriples_terminals.specs.inside.Ends.{behindHead, behindRead}
-use Rattle.ntriples_terminals.proofs.Ending.{end-same}
-use Rattle.ntriples_lines.proofs.Ends.{there, not-there, missing, found, behind-utf8}
 use Rattle.ntriples_lines.proofs.Lines.{rest-end, rest-some}
 use borrow.Author.Needs.{needs}
 use Rattle.ntriples_lines.proofs.is_rest.Statement.{statement}
 use Rattle.ntriples_lines.proofs.is_rest.Tie as tie
-use Rattle.ntriples_lines.proofs.is_rest.Reads as reads
-use Rattle.ntriples_lines.proofs.is_rest.Lts as lts
-use Rattle.ntriples_bytes.proofs.char_at.Reads as char-at-reads
 
 -- src/lib.rt:48:9
 returns : tie.Need-returns

@@ -1,23 +1,11 @@
-use native.Mathlib.Omega.{arith}
-use mathlib.Core.Path.{_≡_, refl, sym, _∙_, ap}
-use Prim.Native.Char.{code}
-use lib.Dec.{eqb}
-use Rattle.ntriples_bytes.specs.inside.Places.{charsAt}
-use Rattle.ntriples_bytes.proofs.Decoding.{chars-are, some-at}
-use Rattle.ntriples_terminals.specs.inside.Ends.{behindHead, behindRead}
-use Rattle.ntriples_terminals.proofs.Ending.{end-same}
-use Rattle.ntriples_lines.proofs.Ends.{there, not-there, missing, found, behind-utf8}
-use Rattle.ntriples_lines.proofs.Lines.{Term, no-term, term-found, object-object, iri-object, subject-object, no-object, not-ended, all-full, no-property, after-property, line-same, line-empty, line-wrong, line-subject, at-front}
-use Rattle.spec_ntriples.specs.computed.Lines.{readObject, readIri, readSubject, isRest}
+use mathlib.Core.Path.{sym, _∙_, ap}
+use Rattle.ntriples_bytes.proofs.Decoding.{chars-are}
+use Rattle.ntriples_ends.proofs.Ends.{there, not-there, found}
+use Rattle.ntriples_lines.proofs.Lines.{no-term, term-found, subject-object, line-same, line-empty, line-wrong, line-subject, at-front}
+use Rattle.spec_ntriples.specs.computed.Lines.{readSubject, isRest}
 use borrow.Author.Needs.{needs}
 use Rattle.ntriples_lines.proofs.read_line.Statement.{statement}
 use Rattle.ntriples_lines.proofs.read_line.Tie as tie
-use Rattle.ntriples_lines.proofs.read_line.Reads as reads
-use Rattle.ntriples_lines.proofs.read_line.Lts as lts
-use Rattle.ntriples_lines.proofs.after_subject.Reads as after-subject-reads
-use Rattle.ntriples_lines.proofs.is_rest.Reads as is-rest-reads
-use Rattle.ntriples_lines.proofs.terms.subject_end.Reads as subject-end-reads
-use Rattle.ntriples_terminals.proofs.skip.Reads as skip-reads
 
 -- src/lib.rt:103:9
 skip-requires : tie.Need-skip-requires

@@ -14,7 +14,7 @@ use Rattle.ntriples_naming.proofs.name_at.Lts as lts
 use Rattle.ntriples_batch.proofs.tokens_at.Reads as tokens-at-reads
 use Rattle.ntriples_document.proofs.line_end.Reads as line-end-reads
 use Rattle.ntriples_naming.proofs.name_line.Reads as name-line-reads
-use Rattle.ntriples_terms.proofs.is_named.Reads as is-named-reads
+use Rattle.ntriples_words.proofs.is_named.Reads as is-named-reads
 use Rattle.table.proofs.row_from.Reads as row-from-reads
 
 -- src/lib.rt:139:17

@@ -3,7 +3,8 @@ use Prim.Native.Nat.{ℕ}
 use lib.ListN.{length}
 use Rattle.spec_ntriples.specs.computed.Lines.{document}
 use Rattle.spec_ntriples.specs.Reading.{readNTriples}
-use Rattle.ntriples_read.proofs.Reading.{refused-1, refused-13, counted-lines, zeros-kept}
+use Rattle.ntriples_read.proofs.Reading.{refused-1, refused-13, counted-lines}
+use Rattle.ntriples_delivery.proofs.Writing.{zeros-kept}
 use borrow.Author.Needs.{needs}
 use Rattle.ntriples_read.proofs.read_ntriples.Statement.{statement}
 use Rattle.ntriples_read.proofs.read_ntriples.Tie as tie

@@ -1,19 +1,9 @@
-use native.Mathlib.Omega.{arith}
-use mathlib.Core.Path.{_≡_, refl, sym, _∙_, ap}
-use Rattle.ntriples_bytes.specs.inside.Places.{At, Utf8From, charsAt}
-use lib.ListN.{length}
-use Prim.Native.Nat.{_-_, _≤_}
-use Rattle.ntriples_bytes.proofs.Decoding.{from-marked, chars-stand}
-use Rattle.ntriples_terminals.proofs.Ending.{inScheme, inAbsolute, end-same, scheme-broken, scheme-cut, scheme-end, scheme-colon, scheme-on, scheme-off, absolute-broken, absolute-cut, absolute-end, absolute-on, absolute-off}
-use borrow.Author.Tests.{not-true, not-false}
+use mathlib.Core.Path.{sym, _∙_}
+use Prim.Native.Nat.{_-_}
+use Rattle.ntriples_terminals.proofs.Ending.{end-same, scheme-end, absolute-broken, absolute-cut, absolute-end, absolute-on, absolute-off}
 use borrow.Author.Needs.{needs}
 use Rattle.ntriples_terminals.proofs.absolute_end.Statement.{statement}
 use Rattle.ntriples_terminals.proofs.absolute_end.Tie as tie
-use Rattle.ntriples_terminals.proofs.absolute_end.Reads as reads
-use Rattle.ntriples_terminals.proofs.absolute_end.Lts as lts
-use Rattle.ntriples_chars.proofs.is_letter.Reads as is-letter-reads
-use Rattle.ntriples_pieces.proofs.piece_at.Reads as piece-at-reads
-use Rattle.ntriples_terminals.proofs.scheme_end.Reads as scheme-end-reads
 
 -- src/lib.rt:121:9
 returns : tie.Need-returns

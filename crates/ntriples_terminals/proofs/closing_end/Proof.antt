@@ -1,19 +1,14 @@
 use borrow.Author.Needs.{needs}
 use native.Mathlib.Omega.{arith}
-use mathlib.Core.Path.{_≡_, refl, sym, _∙_, ap}
-use Rattle.ntriples_bytes.specs.inside.Places.{At, Utf8From, charsAt}
+use mathlib.Core.Path.{_≡_, refl, sym, _∙_}
+use Rattle.ntriples_bytes.specs.inside.Places.{Utf8From}
 use lib.ListN.{length}
-use Prim.Native.Nat.{_-_, _≤_}
-use Rattle.ntriples_bytes.proofs.Decoding.{from-marked, chars-stand}
+use Prim.Native.Nat.{_-_}
 use Rattle.ntriples_pieces.proofs.Reading.{plain-piece}
 use Rattle.ntriples_terminals.proofs.Ending.{closes, closes-broken, closes-here, closes-later, closes-end, end-same}
-use Rattle.ntriples_terminals.specs.declared.Found.the-variants.{Nothing, End}
+use Rattle.ntriples_terminals.specs.declared.Found.the-variants.{End}
 use Rattle.ntriples_terminals.proofs.closing_end.Statement.{statement}
 use Rattle.ntriples_terminals.proofs.closing_end.Tie as tie
-use Rattle.ntriples_terminals.proofs.closing_end.Reads as reads
-use Rattle.ntriples_terminals.proofs.closing_end.Lts as lts
-use Rattle.ntriples_pieces.proofs.is_plain.Reads as is-plain-reads
-use Rattle.ntriples_pieces.proofs.piece_at.Reads as piece-at-reads
 
 abbrev Inv-loop : tie.InvT-loop
 Inv-loop line iri from at₀ at = Utf8From line at × (closes iri line from ≡ closes iri line at)

@@ -1,17 +1,9 @@
-use native.Mathlib.Omega.{arith}
-use mathlib.Core.Path.{_≡_, refl, sym, _∙_, ap}
-use Rattle.ntriples_bytes.specs.inside.Places.{At, Utf8From, charsAt}
-use lib.ListN.{length}
-use Prim.Native.Nat.{_-_, _≤_}
-use Rattle.ntriples_bytes.proofs.Decoding.{from-marked, chars-stand}
+use Prim.Native.Nat.{_-_}
+use Rattle.ntriples_bytes.proofs.Decoding.{from-marked}
 use Rattle.ntriples_terminals.proofs.Ending.{end-same, iri-end, iri-none, iri-some}
 use borrow.Author.Needs.{needs}
 use Rattle.ntriples_terminals.proofs.iri_end.Statement.{statement}
 use Rattle.ntriples_terminals.proofs.iri_end.Tie as tie
-use Rattle.ntriples_terminals.proofs.iri_end.Reads as reads
-use Rattle.ntriples_terminals.proofs.iri_end.Lts as lts
-use Rattle.ntriples_bytes.proofs.char_at.Reads as char-at-reads
-use Rattle.ntriples_terminals.proofs.absolute_end.Reads as absolute-end-reads
 
 -- src/lib.rt:142:9
 returns : tie.Need-returns

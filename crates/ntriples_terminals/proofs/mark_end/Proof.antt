@@ -1,20 +1,10 @@
-use native.Mathlib.Omega.{arith}
-use mathlib.Core.Path.{_≡_, refl, sym, _∙_, ap}
-use Rattle.ntriples_bytes.specs.inside.Places.{At, Utf8From, charsAt}
-use lib.ListN.{length}
-use Prim.Native.Nat.{_-_, _≤_}
-use Rattle.ntriples_bytes.proofs.Decoding.{from-marked, chars-stand}
-use Rattle.ntriples_terminals.proofs.Naming.{behind-none, behind-some, behind-other}
-use mathlib.Core.Bool.{_||_}
-use Rattle.spec_ntriples.specs.Characters.{isPnCharsU, isDigit}
+use Prim.Native.Nat.{_-_}
+use Rattle.ntriples_terminals.proofs.Firsts.{behind-none, behind-some, behind-other}
 use lib.Dec.{eqb}
 use borrow.Author.Tests.{eq-eqb, ne-eqb}
 use borrow.Author.Needs.{needs}
 use Rattle.ntriples_terminals.proofs.mark_end.Statement.{statement}
 use Rattle.ntriples_terminals.proofs.mark_end.Tie as tie
-use Rattle.ntriples_terminals.proofs.mark_end.Reads as reads
-use Rattle.ntriples_terminals.proofs.mark_end.Lts as lts
-use Rattle.ntriples_bytes.proofs.char_at.Reads as char-at-reads
 
 -- src/lib.rt:60:9
 returns : tie.Need-returns

@@ -1,19 +1,13 @@
 use borrow.Author.Needs.{needs}
 use native.Mathlib.Omega.{arith}
-use mathlib.Core.Path.{_≡_, refl, sym, _∙_, ap}
-use Rattle.ntriples_bytes.specs.inside.Places.{At, Utf8From, charsAt}
+use mathlib.Core.Path.{_≡_, sym, _∙_}
+use Rattle.ntriples_bytes.specs.inside.Places.{Utf8From}
 use lib.ListN.{length}
-use Prim.Native.Nat.{_-_, _≤_}
-use Rattle.ntriples_bytes.proofs.Decoding.{from-marked, chars-stand}
-use Rattle.ntriples_terminals.proofs.Ending.{inScheme, inAbsolute, end-same, scheme-broken, scheme-cut, scheme-end, scheme-colon, scheme-on, scheme-off, absolute-broken, absolute-cut, absolute-end, absolute-on, absolute-off}
+use Prim.Native.Nat.{_-_}
+use Rattle.ntriples_terminals.proofs.Ending.{inScheme, end-same, scheme-broken, scheme-cut, scheme-end, scheme-colon, scheme-on, scheme-off}
 use borrow.Author.Tests.{not-true, not-false}
 use Rattle.ntriples_terminals.proofs.scheme_end.Statement.{statement}
 use Rattle.ntriples_terminals.proofs.scheme_end.Tie as tie
-use Rattle.ntriples_terminals.proofs.scheme_end.Reads as reads
-use Rattle.ntriples_terminals.proofs.scheme_end.Lts as lts
-use Rattle.ntriples_chars.proofs.is_scheme_char.Reads as is-scheme-char-reads
-use Rattle.ntriples_terminals.proofs.closing_end.Reads as closing-end-reads
-use Rattle.ntriples_pieces.proofs.piece_at.Reads as piece-at-reads
 
 abbrev Inv-loop : tie.InvT-loop
 Inv-loop line from at₀ at = Utf8From line at × (inScheme line from ≡ inScheme line at)

@@ -1,17 +1,14 @@
 use borrow.Author.Needs.{needs}
 use native.Mathlib.Omega.{arith}
-use mathlib.Core.Path.{_≡_, refl, sym, _∙_, ap}
-use Rattle.ntriples_bytes.specs.inside.Places.{At, Utf8From, charsAt}
+use mathlib.Core.Path.{_≡_, refl, _∙_}
+use Rattle.ntriples_bytes.specs.inside.Places.{Utf8From, charsAt}
 use lib.ListN.{length}
-use Prim.Native.Nat.{_-_, _≤_}
+use Prim.Native.Nat.{_-_}
 use Rattle.ntriples_bytes.proofs.Decoding.{from-marked, chars-stand}
 use Rattle.ntriples_terminals.proofs.Ending.{skip-end, skip-none, skip-one}
 use Rattle.spec_ntriples.specs.computed.Terminals.{skip}
 use Rattle.ntriples_terminals.proofs.skip.Statement.{statement}
 use Rattle.ntriples_terminals.proofs.skip.Tie as tie
-use Rattle.ntriples_terminals.proofs.skip.Reads as reads
-use Rattle.ntriples_terminals.proofs.skip.Lts as lts
-use Rattle.ntriples_bytes.proofs.char_at.Reads as char-at-reads
 
 abbrev Inv-loop : tie.InvT-loop
 Inv-loop line from at₀ at = Utf8From line at × (skip (charsAt line from) ≡ skip (charsAt line at))

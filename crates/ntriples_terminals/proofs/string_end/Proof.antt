@@ -1,12 +1,6 @@
-use native.Mathlib.Omega.{arith}
-use mathlib.Core.Path.{_≡_, refl, sym, _∙_, ap}
 use Rattle.ntriples_pieces.specs.inside.Pieces.{stepOf}
-use borrow.Author.Needs.{needs}
 use Rattle.ntriples_terminals.proofs.string_end.Statement.{statement}
 use Rattle.ntriples_terminals.proofs.string_end.Tie as tie
-use Rattle.ntriples_terminals.proofs.string_end.Reads as reads
-use Rattle.ntriples_terminals.proofs.string_end.Lts as lts
-use Rattle.ntriples_terminals.proofs.closing_end.Reads as closing-end-reads
 
 -- src/lib.rt:84:5
 closing-end-requires : tie.Need-closing-end-requires

@@ -1,9 +1,8 @@
 -- Where what is read from the front of characters ends. Definitions only.
 use Prim.Native.Nat.{ℕ}
 use mathlib.Core.Path.{_≡_}
-use mathlib.Core.Bool.{Bool, true, false, cond}
+use mathlib.Core.Bool.{Bool, cond}
 use mathlib.Core.List.{List, [], _∷_}
-use Rattle.spec_ntriples.specs.Characters.{isLetter, isLetterOrDigit}
 use Rattle.spec_ntriples.specs.computed.Terminals.{Got, none, got}
 use Rattle.spec_ntriples.specs.computed.Lines.{Read, nothing, read}
 use Rattle.ntriples_bytes.specs.inside.Places.{Utf8From, charsAt}
@@ -44,16 +43,3 @@ pub record Ended (bs : List ℕ) (b : Behind) (end : ℕ) : Type 0 where
 abbrev pub IsEnd : List ℕ → Behind → Found → Type 0
 IsEnd bs b Nothing = b ≡ nowhere
 IsEnd bs b (End end) = Ended bs b end
-
--- ---- inside labels and tags
-
--- What is behind a label of which some is read, where the last that surely belongs to it is before some characters.
-unfoldable pub behindLabel : List ℕ → Got → Behind
-behindLabel last none = nowhere
-behindLabel last (got [] rest) = behind last
-behindLabel last (got (c ∷ cs) rest) = behind rest
-
--- What goes on a tag: letters at first, and then also digits.
-unfoldable pub goesOn : Bool → ℕ → Bool
-goesOn true = λ c. isLetter c
-goesOn false = λ c. isLetterOrDigit c

@@ -11,7 +11,7 @@ use Rattle.ntriples_terms.proofs.find_at.Lts as lts
 use Rattle.ntriples_batch.proofs.tokens_at.Reads as tokens-at-reads
 use Rattle.ntriples_document.proofs.line_end.Reads as line-end-reads
 use Rattle.ntriples_terms.proofs.find_in.Reads as find-in-reads
-use Rattle.ntriples_terms.proofs.is_named.Reads as is-named-reads
+use Rattle.ntriples_words.proofs.is_named.Reads as is-named-reads
 
 -- src/lib.rt:133:8
 is-named-requires : tie.Need-is-named-requires

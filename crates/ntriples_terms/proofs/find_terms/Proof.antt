@@ -15,7 +15,7 @@ use Rattle.ntriples_terms.proofs.find_terms.Tie as tie
 use Rattle.ntriples_terms.proofs.find_terms.Reads as reads
 use Rattle.ntriples_terms.proofs.find_terms.Lts as lts
 use Rattle.ntriples_terms.proofs.find_at.Reads as find-at-reads
-use Rattle.ntriples_terms.proofs.put_row.Reads as put-row-reads
+use Rattle.ntriples_words.proofs.put_row.Reads as put-row-reads
 use Rattle.table.proofs.row_from.Reads as row-from-reads
 
 abbrev Inv-loop : tie.InvT-loop

@@ -13,7 +13,7 @@ use Rattle.ntriples_terms.proofs.name_vocabulary.Statement.{statement}
 use Rattle.ntriples_terms.proofs.name_vocabulary.Tie as tie
 use Rattle.ntriples_terms.proofs.name_vocabulary.Reads as reads
 use Rattle.ntriples_terms.proofs.name_vocabulary.Lts as lts
-use Rattle.ntriples_terms.proofs.put_row.Reads as put-row-reads
+use Rattle.ntriples_words.proofs.put_row.Reads as put-row-reads
 use Rattle.ntriples_terms.proofs.vocabulary_at.Reads as vocabulary-at-reads
 
 abbrev Inv-loop : tie.InvT-loop

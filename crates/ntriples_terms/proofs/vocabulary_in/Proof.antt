@@ -5,7 +5,7 @@ use Rattle.ntriples_terms.proofs.vocabulary_in.Statement.{statement}
 use Rattle.ntriples_terms.proofs.vocabulary_in.Tie as tie
 use Rattle.ntriples_terms.proofs.vocabulary_in.Reads as reads
 use Rattle.ntriples_terms.proofs.vocabulary_in.Lts as lts
-use Rattle.ntriples_text.proofs.vocabulary_of.Reads as vocabulary-of-reads
+use Rattle.ntriples_text_kind.proofs.vocabulary_of.Reads as vocabulary-of-reads
 
 -- src/lib.rt:49:18
 vocabulary-of-requires : tie.Need-vocabulary-of-requires

@@ -1,10 +1,10 @@
 -- Words for the texts of lines. Definitions only.
 use Prim.Native.Nat.{ℕ, _*_, _≤_, _<_}
 use mathlib.Core.Path.{_≡_}
-use mathlib.Core.Bool.{Bool, _&&_, cond}
+use mathlib.Core.Bool.{cond}
 use mathlib.Core.List.{List}
 use lib.ListN.{length, getD}
-use lib.Dec.{eqb, ltb}
+use lib.Dec.{eqb}
 use Rattle.spec.specs.declared.Triple.{Triple}
 use Rattle.spec.specs.Terms.{triple}
 use Rattle.spec.specs.Tables.{tripleFrom}
@@ -14,10 +14,6 @@ use Rattle.ntriples_lines.specs.declared.Tokens.{Tokens}
 use Rattle.ntriples_batch.specs.inside.Batches.{LineAt, noTriple, HaveTexts}
 
 -- ---- words
-
--- Whether no word of a row is 0.
-unfoldable pub isNamed : Triple → Bool
-isNamed r = ltb 0 (r .subject) && (ltb 0 (r .property) && ltb 0 (r .object))
 
 -- The row of a line whose texts have the words that a function gives.
 unfoldable pub tripleBy : (List ℕ → ℕ) → TextTriple → Triple

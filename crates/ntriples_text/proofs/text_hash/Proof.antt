@@ -9,12 +9,6 @@ use Rattle.dictionary_bytes.specs.inside.Hashes.{hashFrom, hash}
 use Rattle.ntriples_text.proofs.Passing.{left-first, left-some, left-none, left-more, left-own, hash-more}
 use Rattle.ntriples_text.proofs.text_hash.Statement.{statement}
 use Rattle.ntriples_text.proofs.text_hash.Tie as tie
-use Rattle.ntriples_text.proofs.text_hash.Reads as reads
-use Rattle.ntriples_text.proofs.text_hash.Lts as lts
-use Rattle.dictionary_bytes.proofs.hash_on.Reads as hash-on-reads
-use Rattle.ntriples_cursor.proofs.steps.is_own.Reads as is-own-reads
-use Rattle.ntriples_cursor.proofs.steps.next_piece.Reads as next-piece-reads
-use Rattle.ntriples_text.proofs.hash_piece.Reads as hash-piece-reads
 
 abbrev Inv-loop : tie.InvT-loop
 Inv-loop line from end c₀ h₀ c h = (h < 4294967296) × ((t : Text) → HasText line from end t → Left line end c (λ l. hashFrom h l ≡ hash (t .bytes)))

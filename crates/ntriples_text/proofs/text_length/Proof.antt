@@ -9,10 +9,6 @@ use Rattle.ntriples_text.specs.inside.Tokens.{Left}
 use Rattle.ntriples_text.proofs.Passing.{left-first, left-some, left-within, left-none, left-more, left-own, length-more}
 use Rattle.ntriples_text.proofs.text_length.Statement.{statement}
 use Rattle.ntriples_text.proofs.text_length.Tie as tie
-use Rattle.ntriples_text.proofs.text_length.Reads as reads
-use Rattle.ntriples_text.proofs.text_length.Lts as lts
-use Rattle.ntriples_cursor.proofs.steps.is_own.Reads as is-own-reads
-use Rattle.ntriples_cursor.proofs.steps.next_piece.Reads as next-piece-reads
 
 abbrev Inv-loop : tie.InvT-loop
 Inv-loop line from end c₀ n₀ c n = (from + n ≤ c .place) × ((t : Text) → HasText line from end t → Left line end c (λ l. n + length l ≡ length (t .bytes)))

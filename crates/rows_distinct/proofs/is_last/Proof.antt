@@ -6,7 +6,7 @@ use native.Mathlib.Omega.{arith}
 use borrow.Author.Needs.{needs}
 use Rattle.spec.proofs.RowOrder.{never}
 use Rattle.rows.proofs.RowWords.{row-within}
-use Rattle.rows_distinct.proofs.Search.{last-member}
+use Rattle.rows_single.proofs.Search.{last-member}
 use Rattle.rows_distinct.proofs.is_last.Statement.{statement}
 use Rattle.rows_distinct.proofs.is_last.Tie as tie
 

@@ -1,30 +1,17 @@
 -- The rows of one subject, as the facts of that subject and the counts of the columns give them. st are the words of the m statements;
 -- keys the terms of the ns columns, the first nc of them classes; d the square of domains; f the words of the facts. Definitions only.
 use mathlib.Core.Path.{_≡_}
-use mathlib.Core.List.{List, [], _∷_}
-use Prim.Native.Nat.{ℕ, zero, suc, _+_, _-_, _≤_, _<_}
+use mathlib.Core.List.{List}
+use Prim.Native.Nat.{ℕ, _+_, _-_, _≤_, _<_}
 use lib.ListN.{getD}
 use Rattle.spec.specs.Terms.{triple}
-use Rattle.spec.specs.Tables.{rowAt}
 use Rattle.spec.specs.Saturation.{Kept}
 use Rattle.spec.specs.inside.Counts.{lookup}
 use Rattle.saturate_merge.specs.inside.Streams.{often, objects}
 use Rattle.saturate_schema.specs.inside.Nodes.{propertyNode}
 use Rattle.saturate_schema.specs.inside.Compiled.{subjectAt, propertyAt, nodeBit}
-use Rattle.saturate_subject.specs.inside.Sums.{sumFrom}
-use Rattle.saturate_subject.specs.inside.Blocks.{sameAt, ledAt}
-
--- n facts from fact a on, each with the support 1.
-unfoldable pub ones : List ℕ → ℕ → ℕ → Kept
-ones f a zero = []
-ones f a (suc n) = (rowAt f a, 1) ∷ ones f (a + 1) n
-
--- The facts q .. z are those of the facts q .. e whose property is below w.
-pub record Split (f : List ℕ) (q z e w : ℕ) : Type 0 where
-  pub low : q ≤ z
-  pub high : z ≤ e
-  pub before : (y : ℕ) → q ≤ y → y < z → propertyAt f y < w
-  pub after : (y : ℕ) → z ≤ y → y < e → w ≤ propertyAt f y
+use Rattle.saturate_blocks.specs.inside.Sums.{sumFrom}
+use Rattle.saturate_blocks.specs.inside.Blocks.{sameAt, ledAt}
 
 -- The facts i .. e are of the subject x.
 abbrev pub Of : List ℕ → ℕ → ℕ → ℕ → Type 0

@@ -1,0 +1,4 @@
+pub mod Writing
+pub mod OrderColumns
+pub mod Arranged
+pub mod Filling

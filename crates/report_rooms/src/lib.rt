@@ -1,0 +1,21 @@
+// The rooms of the program `read_ntriples`: for what it prints, and for its dictionary, which has no entry.
+ghost use mathlib.Core.Path.{_≡_};
+ghost use lib.ListN.{length, replicate};
+ghost use Rattle.spec.specs.Messages.{mostBytes};
+
+// The bytes of the longest delivery.
+const OUTPUT_ROOM: usize = 65536;
+
+// Room for what is printed.
+pub fn output_buffer() -> [u8; OUTPUT_ROOM]
+    ensures { λ r. ⌜ mostBytes ≡ length r ⌝ }
+{
+    [0u8; OUTPUT_ROOM]
+}
+
+// A dictionary without entries.
+pub fn empty_dictionary() -> [u8; 1048576]
+    ensures { λ r. ⌜ r ≡ replicate 1048576 0 ⌝ }
+{
+    [0u8; 1048576]
+}
