@@ -19,7 +19,7 @@ use Rattle.spec_ntriples.proofs.Decoding.{decode-encode}
 use Rattle.spec_ntriples.proofs.LineRead.{line-read, line-empty}
 
 -- Whether a character ends a line.
-abbrev isEol : ℕ → Bool
+abbrev pub isEol : ℕ → Bool
 isEol c = isOneOf (codes "\r\n") c
 
 -- ---- characters are cut into lines
@@ -47,16 +47,16 @@ cut (c ∷ cs) =
 
 -- ---- what is read is said
 
-refused-not : {C : Type 0} {ts : List TextTriple} → refused ≡ triples ts → C
+pub refused-not : {C : Type 0} {ts : List TextTriple} → refused ≡ triples ts → C
 refused-not e = let z : _≡_ {A = ℕ} 0 1 = cc in absurd (omega arith)
 
 -- A triple in front of others.
-record First (t : TextTriple) (d : Document) (ts : List TextTriple) : Type 0 where
-  later : List TextTriple
-  behind : d ≡ triples later
-  same : ts ≡ t ∷ later
+pub record First (t : TextTriple) (d : Document) (ts : List TextTriple) : Type 0 where
+  pub later : List TextTriple
+  pub behind : d ≡ triples later
+  pub same : ts ≡ t ∷ later
 
-first : (t : TextTriple) (d : Document) (ts : List TextTriple) → withTriple t d ≡ triples ts → First t d ts
+pub first : (t : TextTriple) (d : Document) (ts : List TextTriple) → withTriple t d ≡ triples ts → First t d ts
 unfolding withTriple
 first t refused ts e = refused-not e
 first t (triples us) ts e = record { later = us; behind = refl; same = cc }
@@ -100,7 +100,7 @@ unfolding lines all addToLine
 one-line [] h = refl
 one-line (c ∷ l) h = rw (not-eol c l h, one-line l (and-right (not (isEol c)) _ h))
 
-line-more : (l : List ℕ) (c : ℕ) (r : List ℕ) → isOneLine l ≡ true → isEol c ≡ true → lines (l ++ (c ∷ r)) ≡ l ∷ lines r
+pub line-more : (l : List ℕ) (c : ℕ) (r : List ℕ) → isOneLine l ≡ true → isEol c ≡ true → lines (l ++ (c ∷ r)) ≡ l ∷ lines r
 unfolding lines all addToLine
 line-more [] c r h k = rw k
 line-more (d ∷ l) c r h k = rw (not-eol d l h, line-more l c r (and-right (not (isEol d)) _ h) k)

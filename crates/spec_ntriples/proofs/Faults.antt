@@ -40,7 +40,7 @@ string-meant u m =
     (string-resolves (i .front) (i .first))
 
 -- A subject or an object means something, or has a fault.
-subject-meant : (u : List ℕ) → Matches subject u → ((t : Text) × Means u t) ⊎ FaultyIri u
+pub subject-meant : (u : List ℕ) → Matches subject u → ((t : Text) × Means u t) ⊎ FaultyIri u
 subject-meant u m =
     ⊎-elim
     (λ i. ⊎-elim (λ r. inl (text 0 (iriText (r .0)), Means.iri (r .0) (r .1) refl)) (λ f. inr f) (iri-meant u i))
@@ -70,7 +70,7 @@ literal-meant u m =
     (λ f. inr (Faulty.string (m .front) (m .back) (m .spelled) f))
     (string-meant (m .front) (m .first))
 
-object-meant : (u : List ℕ) → Matches object u → ((t : Text) × Means u t) ⊎ Faulty u
+pub object-meant : (u : List ℕ) → Matches object u → ((t : Text) × Means u t) ⊎ Faulty u
 object-meant u m =
     ⊎-elim
     (λ i. ⊎-elim (λ r. inl (text 0 (iriText (r .0)), Means.iri (r .0) (r .1) refl)) (λ f. inr (Faulty.iri f)) (iri-meant u i))

@@ -56,19 +56,19 @@ pub length-map : {A B : Type 0} (f : A → B) (xs : List A) → length (map f xs
 length-map f [] = refl
 length-map f (x ∷ xs) = ap suc (length-map f xs)
 
-and-no : (a b : Bool) → b ≡ false → (a && b) ≡ false
+pub and-no : (a b : Bool) → b ≡ false → (a && b) ≡ false
 and-no true b h = h
 and-no false b h = refl
 
 -- ---- replies
 
-length-not : {C : Type 0} {m n : ℕ} → Length m ≡ Refused n → C
+pub length-not : {C : Type 0} {m n : ℕ} → Length m ≡ Refused n → C
 length-not e = let z : _≡_ {A = ℕ} 0 1 = cc in absurd (omega arith)
 
-refused-number : (m n : ℕ) → Refused m ≡ Refused n → m ≡ n
+pub refused-number : (m n : ℕ) → Refused m ≡ Refused n → m ≡ n
 refused-number m n e = cc
 
-length-number : (m n : ℕ) → Length m ≡ Length n → m ≡ n
+pub length-number : (m n : ℕ) → Length m ≡ Length n → m ≡ n
 length-number m n e = cc
 
 -- ---- each outcome

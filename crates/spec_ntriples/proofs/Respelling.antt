@@ -54,7 +54,7 @@ all-single test c h = rw h
 -- ---- all characters of a match, and matches with each character changed
 
 -- Whether an expression has characters that pass a test alone.
-abbrev Within : (ℕ → Bool) → Expression → Type 0
+abbrev pub Within : (ℕ → Bool) → Expression → Type 0
 Within test (set p) = (c : ℕ) → p c ≡ true → test c ≡ true
 Within test (exactly t) = all test t ≡ true
 Within test (a then b) = Within test a × Within test b
@@ -66,7 +66,7 @@ unfolding all
 repeated-within test P h u (Repeated.end e) = rw e
 repeated-within test P h u (Repeated.more s t e m n) = rw e (all-append test s t (h s m) (repeated-within test P h t n))
 
-within-all : (test : ℕ → Bool) (e : Expression) → Within test e → (u : List ℕ) → Matches e u → all test u ≡ true
+pub within-all : (test : ℕ → Bool) (e : Expression) → Within test e → (u : List ℕ) → Matches e u → all test u ≡ true
 unfolding all
 within-all test (set p) h u m = rw (m .spelled, h (m .char) (m .allowed))
 within-all test (exactly t) h u m = rw m h
@@ -131,18 +131,18 @@ ascii-other : (c : ℕ) → isLetterOrDigit c ≡ true → ltb c 0x80 ≡ true
 ascii-other c h = ⊎-elim (λ p. ascii-letter c p) (λ p. lt-ltb c 0x80 (omega (arith, within 48 57 c p .1))) (or-cases (isLetter c) (isDigit c) h)
 
 -- A tag in lower case is a tag, of ASCII.
-tag-lower : (u : List ℕ) → Matches LANGTAG u → Matches LANGTAG (map lowerChar u)
+pub tag-lower : (u : List ℕ) → Matches LANGTAG u → Matches LANGTAG (map lowerChar u)
 unfolding codes lowerChar
 tag-lower u m = kept lowerChar LANGTAG (refl, ((lower-letter, lower-letter), (refl, (lower-other, lower-other)))) u m
 
-tag-ascii : (u : List ℕ) → Matches LANGTAG u → all (λ c. ltb c 0x80) u ≡ true
+pub tag-ascii : (u : List ℕ) → Matches LANGTAG u → all (λ c. ltb c 0x80) u ≡ true
 unfolding codes all
 tag-ascii u m = within-all (λ c. ltb c 0x80) LANGTAG (refl, ((ascii-letter, ascii-letter), (refl, (ascii-other, ascii-other)))) u m
 
 -- ---- IRIs
 
 -- The characters of an IRI are scalar values that IRIREF allows.
-iri-chars : (u cs : List ℕ) → all isScalar u ≡ true → Resolves IriPiece u cs → (all isIriChar cs ≡ true) × (all isScalar cs ≡ true)
+pub iri-chars : (u cs : List ℕ) → all isScalar u ≡ true → Resolves IriPiece u cs → (all isIriChar cs ≡ true) × (all isScalar cs ≡ true)
 unfolding all
 iri-chars u cs h (Resolves.end e) = (refl, refl)
 iri-chars u cs h (Resolves.more {cs = ds} p s c e m r) =
@@ -156,7 +156,7 @@ iri-chars u cs h (Resolves.more {cs = ds} p s c e m r) =
     allowed (IriPiece.by-uchar U a) k = (a, U .scalar)
 
 -- Such characters stand for themselves.
-iri-themselves : (cs : List ℕ) → all isIriChar cs ≡ true → Resolves IriPiece cs cs
+pub iri-themselves : (cs : List ℕ) → all isIriChar cs ≡ true → Resolves IriPiece cs cs
 unfolding all
 iri-themselves [] h = Resolves.end refl
 iri-themselves (c ∷ cs) h =
@@ -184,10 +184,10 @@ respell-iri u cs h I =
 -- ---- strings
 
 -- The canonical spelling of a string's characters.
-respellChar : ℕ → List ℕ
+unfoldable pub respellChar : ℕ → List ℕ
 respellChar c = cond (eqb c 0x22) (codes "\\\"") (cond (eqb c 0x5C) (codes "\\\\") (cond (eqb c 0x0A) (codes "\\n") (cond (eqb c 0x0D) (codes "\\r") (c ∷ []))))
 
-respell : List ℕ → List ℕ
+unfoldable pub respell : List ℕ → List ℕ
 respell [] = []
 respell (c ∷ cs) = respellChar c ++ respell cs
 
@@ -236,7 +236,7 @@ piece-scalar p c (StringPiece.by-echar E) k =
     rw t at (echar-scalar (m .second .char) (m .second .allowed))
 piece-scalar p c (StringPiece.by-uchar U) k = U .scalar
 
-string-chars : (u cs : List ℕ) → all isScalar u ≡ true → Resolves StringPiece u cs → all isScalar cs ≡ true
+pub string-chars : (u cs : List ℕ) → all isScalar u ≡ true → Resolves StringPiece u cs → all isScalar cs ≡ true
 unfolding all
 string-chars u cs h (Resolves.end e) = refl
 string-chars u cs h (Resolves.more {cs = ds} p s c e m r) =
@@ -248,13 +248,13 @@ unfolding respell
 respelled [] = Resolves.end refl
 respelled (c ∷ cs) = Resolves.more (respellChar c) (respell cs) c refl (respelled-piece c) (respelled cs)
 
-respell-scalar : (cs : List ℕ) → all isScalar cs ≡ true → all isScalar (respell cs) ≡ true
+pub respell-scalar : (cs : List ℕ) → all isScalar cs ≡ true → all isScalar (respell cs) ≡ true
 unfolding respell all
 respell-scalar [] h = refl
 respell-scalar (c ∷ cs) h =
     all-append isScalar (respellChar c) (respell cs) (respelled-scalar c (and-left _ (all isScalar cs) h)) (respell-scalar cs (and-right (isScalar c) _ h))
 
-respell-bytes : (cs : List ℕ) → canonicalChars cs ≡ utf8 (respell cs)
+pub respell-bytes : (cs : List ℕ) → canonicalChars cs ≡ utf8 (respell cs)
 unfolding respell canonicalChars utf8
 respell-bytes [] = refl
 respell-bytes (c ∷ cs) = rw (respelled-bytes c, respell-bytes cs) (sym (encode-append (respellChar c) (respell cs)))
@@ -272,7 +272,7 @@ respell-string u cs h Q =
 
 -- ---- terms
 
-ascii-scalar : (cs : List ℕ) → all (λ c. ltb c 0x80) cs ≡ true → all isScalar cs ≡ true
+pub ascii-scalar : (cs : List ℕ) → all (λ c. ltb c 0x80) cs ≡ true → all isScalar cs ≡ true
 unfolding all isScalar
 ascii-scalar [] h = refl
 ascii-scalar (c ∷ cs) h =

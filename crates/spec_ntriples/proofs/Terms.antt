@@ -92,7 +92,7 @@ means-object u t (Means.typed string cs w w' type ds s Q m n I e) =
 -- ---- IRIs
 
 -- Nothing is not something.
-nothing-not : {C : Type 0} {t : Text} {rest : List ℕ} → nothing ≡ read t rest → C
+pub nothing-not : {C : Type 0} {t : Text} {rest : List ℕ} → nothing ≡ read t rest → C
 nothing-not e = let z : _≡_ {A = ℕ} 0 1 = cc in absurd (omega arith)
 
 -- An IRI, and what stands behind it.
@@ -349,7 +349,7 @@ unfolding codes
 literal-begins u string cs x e Q = rw (e, Q .spelled)
 
 -- A subject is no literal.
-subject-not : {C : Type 0} (u string cs x : List ℕ) → Matches subject u → u ≡ string ++ x → Quoted string cs → C
+pub subject-not : {C : Type 0} (u string cs x : List ℕ) → Matches subject u → u ≡ string ++ x → Quoted string cs → C
 subject-not u string cs x m e Q =
     let q = literal-begins u string cs x e Q in
     ⊎-elim (λ i. let p = iri-begins u i in absurd (omega (arith, p, q))) (λ b. let p = blank-begins u b in absurd (omega (arith, p, q))) m

@@ -54,8 +54,8 @@ differs xs e f n s i q F p =
     let m : F .number < firstNumber (kindOf (e .text)) + textsOfKind (kindOf (e .text)) xs = rw k at (F .next) in
     omega (arith, s, i, q, p, k, m, F .is)
 
--- The next term behind numbered entries is none of theirs.
-entry-text : (xs ys : List Entry) (e : Entry) → areNumbered [] (xs ++ (e ∷ ys)) ≡ true → Enough (xs ++ (e ∷ ys)) → textIn (xs ++ (e ∷ ys)) (e .term) ≡ e .text
+-- The next term behind numbered entries is none of theirs: the text of an entry's term is the entry's.
+pub entry-text : (xs ys : List Entry) (e : Entry) → areNumbered [] (xs ++ (e ∷ ys)) ≡ true → Enough (xs ++ (e ∷ ys)) → textIn (xs ++ (e ∷ ys)) (e .term) ≡ e .text
 unfolding areNumbered
 entry-text xs ys e h E =
     let s : (areNumbered [] xs && areNumbered xs (e ∷ ys)) ≡ true = sym (numbered-split [] xs (e ∷ ys)) ∙ h in
@@ -92,7 +92,7 @@ place-least t (u ∷ us) =
     by-test (isSameText t u) (λ p. rw p (omega arith))
     (λ p. by-test (eqb (placeOf t us) 0) (λ q. rw (p, q) (omega arith)) (λ q. rw (p, q) (omega (arith, place-least t us))))
 
-vocabulary-kind : (n : ℕ) → n < 5 → kindOf (getD vocabularyTexts n []) ≡ 0
+pub vocabulary-kind : (n : ℕ) → n < 5 → kindOf (getD vocabularyTexts n []) ≡ 0
 unfolding kindOf codes
 vocabulary-kind zero h = refl
 vocabulary-kind (suc zero) h = refl

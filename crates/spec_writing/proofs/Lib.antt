@@ -1,0 +1,9 @@
+pub mod TextTerms
+pub mod CanonicalTerms
+pub mod CanonicalTexts
+pub mod CanonicalDocuments
+pub mod CanonicalUnique
+pub mod WrittenRows
+pub mod WritingRefused
+pub mod RoundTrip
+pub mod WorkedWriting
