@@ -1,0 +1,4 @@
+pub mod Steps
+pub mod Closed
+pub mod Allowed
+pub mod WorkedClosure

@@ -1,0 +1,3 @@
+pub mod Closure
+pub mod computed
+pub mod inside
