@@ -27,7 +27,7 @@ fn are_rows(t: &[u32], n: usize, statements: bool) -> bool
 }
 
 // Whether the words are a well-formed table of statements, or of facts, with at most so many rows. One pass over the words.
-fn is_table(t: &[u32], statements: bool, most: usize) -> bool
+pub fn is_table(t: &[u32], statements: bool, most: usize) -> bool
     ensures { λ r. ⌜ r ≡ isTable (allowedIn statements) most (now (t .entry)) ⌝ }
 {
     if t.len() == 0 {

@@ -1,0 +1,4 @@
+pub mod Tables
+pub mod Carrying
+pub mod Carried
+pub mod WorkedCarrying

@@ -1,0 +1,2 @@
+pub mod CarryingOver
+pub mod CarryingPromises
