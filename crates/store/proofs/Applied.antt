@@ -34,7 +34,7 @@ use Rattle.store.proofs.Fitting.{Fitting}
 -- ---- supports
 
 -- No support is above a bound of all.
-lookup-bound : (k : Kept) (b : ℕ) → ((n : ℕ) → List·Memᴰ n (keptSupports k) → n ≤ b) → (u : Triple) → lookup k u ≤ b
+pub lookup-bound : (k : Kept) (b : ℕ) → ((n : ℕ) → List·Memᴰ n (keptSupports k) → n ≤ b) → (u : Triple) → lookup k u ≤ b
 unfolding lookup
 lookup-bound [] b h u = omega arith
 lookup-bound (e ∷ k) b h u = same-elim (λ (n : ℕ). n ≤ b) u (e .0) (λ _. h (e .1) (List·Memᴰ·head refl)) (λ _. lookup-bound k b (λ n m. h n (List·Memᴰ·tail m)) u)

@@ -1,0 +1,10 @@
+pub mod Times
+pub mod Members
+pub mod Carrying
+pub mod Tallied
+pub mod Held
+pub mod Added
+pub mod Withdrawn
+pub mod Between
+pub mod Growing
+pub mod Instances
