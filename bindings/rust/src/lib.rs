@@ -23,7 +23,7 @@
 //! ```
 //!
 //! Products that come as N-Triples are read by [`read_ntriples`] into a delivery, which
-//! [`Store::deliver`] takes.
+//! [`Store::deliver`] takes; what a store holds is written as N-Triples by [`Store::write_ntriples`].
 //!
 //! A call needs up to some 0.8 MB of stack: a thread that makes calls should have 2 MB, as Rust
 //! gives by default.

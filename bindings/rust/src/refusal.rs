@@ -6,7 +6,7 @@ use std::fmt;
 /// The refusals of document 01, "Questions at the door", and of document 02, by their numbers. A
 /// refused update or delivery changes no table; a refused question, alternatives call or listing
 /// leaves its whole output zero; a refused reading changes no byte of the dictionary and leaves the
-/// delivery zero.
+/// delivery zero; a refused writing leaves its whole output zero.
 #[derive(Clone, Copy, PartialEq, Eq, Debug)]
 pub enum Refusal {
     /// The tables, or a dictionary, are not well formed. No call leaves such; a caller who writes
@@ -24,7 +24,7 @@ pub enum Refusal {
     Question = 6,
     /// A head variable stands in no atom.
     Head = 7,
-    /// The rows do not all fit the output.
+    /// The rows, or their lines, do not all fit the output.
     OutputFull = 8,
     /// A delivery is not whole, does not end at its last byte, or is too long.
     Delivery = 9,
@@ -41,11 +41,13 @@ pub enum Refusal {
     DictionaryFull = 14,
     /// The delivery does not fit its bytes, or would be too long.
     DeliveryFull = 15,
+    /// A term of the rows that are to be written has no text.
+    NoText = 16,
 }
 
 impl Refusal {
     /// All of them, by number.
-    pub const ALL: [Refusal; 15] = [
+    pub const ALL: [Refusal; 16] = [
         Refusal::Malformed,
         Refusal::NoTriple,
         Refusal::Sides,
@@ -61,6 +63,7 @@ impl Refusal {
         Refusal::Line,
         Refusal::DictionaryFull,
         Refusal::DeliveryFull,
+        Refusal::NoText,
     ];
 
     /// Its number in the documents.
@@ -85,7 +88,7 @@ impl Refusal {
             Refusal::KeptFull => "the kept facts would not fit",
             Refusal::Question => "the question or atom is not laid out right",
             Refusal::Head => "a head variable stands in no atom",
-            Refusal::OutputFull => "the rows do not fit the output",
+            Refusal::OutputFull => "the rows or their lines do not fit the output",
             Refusal::Delivery => "the delivery is not whole or too long",
             Refusal::Section => "an entry stands in the wrong section",
             Refusal::DeliveryNumber => {
@@ -95,6 +98,7 @@ impl Refusal {
             Refusal::Line => "a line of the file is not N-Triples",
             Refusal::DictionaryFull => "the new texts do not fit the dictionary",
             Refusal::DeliveryFull => "the triples do not fit the delivery",
+            Refusal::NoText => "a term has no text",
         }
     }
 }

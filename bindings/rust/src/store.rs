@@ -300,6 +300,53 @@ where
         accepted(number)?;
         Ok(rows(output, count, WIDTH))
     }
+
+    /// Writes a table as canonical N-Triples, a line for each row in order, with the texts of a
+    /// dictionary: the lines, behind which the bytes of the output are zero. Kept facts are written
+    /// without their supports.
+    ///
+    /// ```
+    /// let file = b"<p:cola><http://www.w3.org/1999/02/22-rdf-syntax-ns#type>\t<p:Drink>. # a fact";
+    /// let mut dictionary = [0; 64];
+    /// let mut delivery = [0; 32];
+    /// let length = families::read_ntriples(file, &mut dictionary, &mut delivery)?;
+    /// let mut store = families::Store::empty(families::Capacities { statements: 8, facts: 8, kept: 8 });
+    /// store.deliver(&delivery[..length])?;
+    /// let mut output = [0; 128];
+    /// assert_eq!(
+    ///     store.write_ntriples(families::Table::Kept, &dictionary, &mut output)?,
+    ///     b"<p:cola> <http://www.w3.org/1999/02/22-rdf-syntax-ns#type> <p:Drink> .\n"
+    /// );
+    /// # Ok::<(), families::Refusal>(())
+    /// ```
+    pub fn write_ntriples<'a>(
+        &self,
+        table: Table,
+        dictionary: &[u8],
+        output: &'a mut [u8],
+    ) -> Result<&'a [u8], Refusal> {
+        let function: sys::Write = match table {
+            Table::Statements => sys::families_write_statements,
+            Table::Facts => sys::families_write_facts,
+            Table::Kept => sys::families_write_kept,
+        };
+        let words = self.table(table);
+        let mut length = 0;
+        // SAFETY: the pointers and lengths are those of slices, the output's borrowed for writing.
+        let number = unsafe {
+            function(
+                words.as_ptr(),
+                words.len(),
+                dictionary.as_ptr(),
+                dictionary.len(),
+                output.as_mut_ptr(),
+                output.len(),
+                &mut length,
+            )
+        };
+        accepted(number)?;
+        Ok(&output[..length as usize])
+    }
 }
 
 /// The refusal that a number means, where it is not 0.

@@ -40,6 +40,11 @@ pub type Ask = unsafe extern "C" fn(
 /// A listing of one of the three tables of rows: the table, the order, the output and the count.
 pub type List = unsafe extern "C" fn(*const u32, usize, u32, *mut u32, usize, *mut u64) -> u32;
 
+/// A writing of one of the three tables of rows: the table, the dictionary, the output and the
+/// length.
+pub type Write =
+    unsafe extern "C" fn(*const u32, usize, *const u8, usize, *mut u8, usize, *mut u64) -> u32;
+
 extern "C" {
     /// Adds a triple: 0 applied, [`IDLE`], or the number that refused.
     pub fn families_add(
@@ -164,6 +169,40 @@ extern "C" {
         dictionary_len: usize,
         delivery: *mut u8,
         delivery_len: usize,
+        length: *mut u64,
+    ) -> u32;
+
+    /// Writes the statements as canonical N-Triples, with the texts of a dictionary: 0, or the number
+    /// that refused. The length is that of the lines, 0 where they were refused.
+    pub fn families_write_statements(
+        table: *const u32,
+        table_len: usize,
+        dictionary: *const u8,
+        dictionary_len: usize,
+        text: *mut u8,
+        text_len: usize,
+        length: *mut u64,
+    ) -> u32;
+
+    /// Writes the facts likewise.
+    pub fn families_write_facts(
+        table: *const u32,
+        table_len: usize,
+        dictionary: *const u8,
+        dictionary_len: usize,
+        text: *mut u8,
+        text_len: usize,
+        length: *mut u64,
+    ) -> u32;
+
+    /// Writes the kept facts likewise.
+    pub fn families_write_kept(
+        table: *const u32,
+        table_len: usize,
+        dictionary: *const u8,
+        dictionary_len: usize,
+        text: *mut u8,
+        text_len: usize,
         length: *mut u64,
     ) -> u32;
 }

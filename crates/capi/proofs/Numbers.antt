@@ -13,6 +13,8 @@ use Rattle.spec.specs.Exported.{updated, numberedOutcome, received, resultWords
 use Rattle.spec_ntriples.specs.declared.ByteReply.{ByteReply}
 use Rattle.spec_ntriples.specs.Reading.{ReadFile, readFile}
 use Rattle.spec_ntriples.specs.Exported.{byteReplyNumber, byteReplyLength, fileRead, numberedReading}
+use Rattle.spec_writing.specs.Writing.{Written, written}
+use Rattle.spec_writing.specs.Exported.{linesWritten, numberedWriting}
 
 -- An update's number and tables are those of its outcome.
 pub update-numbered : (a : Answer) (n : ℕ) (T : Tables) (o : Answer × Tables) → n ≡ answerNumber a → outcome a T ≡ o → updated n T ≡ numberedOutcome o
@@ -29,3 +31,7 @@ delivery-numbered d n ws T o e f h = rw (e, f) (ap numberedDelivery h)
 -- A reading's number, length and bytes are those of what was read.
 pub reading-numbered : (p : ByteReply) (n l : ℕ) (d m : List ℕ) (o : ReadFile) → n ≡ byteReplyNumber p → l ≡ byteReplyLength p → readFile p d m ≡ o → fileRead n l d m ≡ numberedReading o
 reading-numbered p n l d m o e f h = rw (e, f) (ap numberedReading h)
+
+-- A writing's number, length and bytes are those of what was written.
+pub writing-numbered : (p : ByteReply) (n l : ℕ) (bs : List ℕ) (o : Written) → n ≡ byteReplyNumber p → l ≡ byteReplyLength p → written p bs ≡ o → linesWritten n l bs ≡ numberedWriting o
+writing-numbered p n l bs o e f h = rw (e, f) (ap numberedWriting h)

@@ -52,11 +52,11 @@ pub record Keeping (bs : List ℕ) (f : Filled) (places : List ℕ) (at : ℕ) :
   pub rest : List Entry
   pub split : entries bs ≡ front ++ rest
   pub place : at ≡ length (bytesOfEntries front)
-  pub long : length places ≡ 24576
+  pub long : length places ≡ 49152
   pub kept : (xs ys : List Entry) (e : Entry) → entries bs ≡ xs ++ (e ∷ ys) → length xs < length front → IsKept f (e .term) → getD places (slotFor f (e .term)) 0 ≡ length (bytesOfEntries xs)
 
 -- No entry is walked.
-pub keeping-none : (bs : List ℕ) (f : Filled) (places : List ℕ) → length places ≡ 24576 → Keeping bs f places 0
+pub keeping-none : (bs : List ℕ) (f : Filled) (places : List ℕ) → length places ≡ 49152 → Keeping bs f places 0
 unfolding bytesOfEntries
 keeping-none bs f places l = record { front = []; rest = entries bs; split = refl; place = refl; long = l; kept = λ xs ys e s h k. absurd (omega arith) }
 

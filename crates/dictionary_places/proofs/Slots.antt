@@ -1,4 +1,4 @@
--- Laws of the slots for terms: they are below 24,576, and each leads to one term. Assumes nothing.
+-- Laws of the slots for terms: they are below 16,384, and each leads to one term. Assumes nothing.
 use Prim.Native.Nat.{ℕ, zero, suc, _+_, _-_, _*_, _/_, _≤_, _<_}
 use mathlib.Core.Path.{_≡_, refl, ap}
 use native.Mathlib.Nat.{div-lt-iff-lt-mul, div-add-mod', mul-mod-left, mul-div-cancel}
@@ -25,19 +25,19 @@ unfolding strideOf
 stride-some f k = omega arith
 
 -- The places of a kind suffice for its terms.
-suffices : (j n : ℕ) → j < n → j / ((n - 1) / 8192 + 1) < 8192
-suffices j n h = div-lt-iff-lt-mul {k = (n - 1) / 8192 + 1} {x = j} {y = 8192} (omega arith) .1 (omega arith)
+suffices : (j n : ℕ) → j < n → j / ((n - 1) / 16384 + 1) < 16384
+suffices j n h = div-lt-iff-lt-mul {k = (n - 1) / 16384 + 1} {x = j} {y = 16384} (omega arith) .1 (omega arith)
 
-pub slot-of-kind : (f : Filled) (w : ℕ) → HasNumber f w → rankOf w / strideOf f (kind w) < 8192
+pub slot-of-kind : (f : Filled) (w : ℕ) → HasNumber f w → rankOf w / strideOf f (kind w) < 16384
 unfolding rankOf strideOf
 slot-of-kind f w H = suffices (number w - firstNumber (kind w)) (numberOf f (kind w) - firstNumber (kind w)) (omega (arith, H .first, H .taken))
 
-pub slot-within : (f : Filled) (w : ℕ) → HasNumber f w → slotFor f w < 24576
+pub slot-within : (f : Filled) (w : ℕ) → HasNumber f w → slotFor f w < 49152
 unfolding slotFor
 slot-within f w H = omega (arith, slot-of-kind f w H, H .least)
 
 -- The slot for a term, by its rank and its kind's stride.
-pub slot-by : (f : Filled) (w r s : ℕ) → HasNumber f w → r ≡ rankOf w → s ≡ strideOf f (kind w) → (kind w * 8192 + r / s ≡ slotFor f w) × (kind w * 8192 + r / s < 24576)
+pub slot-by : (f : Filled) (w r s : ℕ) → HasNumber f w → r ≡ rankOf w → s ≡ strideOf f (kind w) → (kind w * 16384 + r / s ≡ slotFor f w) × (kind w * 16384 + r / s < 49152)
 unfolding slotFor
 slot-by f w r s H a b = let q : r / s ≡ rankOf w / strideOf f (kind w) = rw (a, b) in (omega arith, omega (arith, slot-of-kind f w H, H .least))
 

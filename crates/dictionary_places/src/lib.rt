@@ -1,4 +1,4 @@
-// The entries of a dictionary by their terms. For each kind the byte indexes of 8,192 entries at most are kept, one for every so many, and the
+// The entries of a dictionary by their terms. For each kind the byte indexes of 16,384 entries at most are kept, one for every so many, and the
 // entry of a term is found by a walk from the last kept one of its kind that is not behind it.
 use dictionary_bytes::Filled;
 use dictionary_bytes::HEADER;
@@ -20,9 +20,9 @@ ghost use Rattle.dictionary_numbers.specs.inside.Numbers.{numberOf};
 ghost use Rattle.dictionary_places.specs.inside.Places.{rankOf, strideOf, slotFor, HasNumber, withPlace, ArePlaces};
 
 // How many places are kept for each kind, and for all three.
-pub const PLACES: usize = 8192;
+pub const PLACES: usize = 16384;
 
-pub const ALL_PLACES: usize = 24576;
+pub const ALL_PLACES: usize = 49152;
 
 // The kind behind the last that entries have.
 const NO_KIND: u32 = 3;
@@ -34,7 +34,7 @@ const FIRST_OTHER: u32 = 1;
 
 // Room for the places.
 pub fn no_places() -> [usize; ALL_PLACES]
-    ensures { λ r. ⌜ length r ≡ 24576 ⌝ }
+    ensures { λ r. ⌜ length r ≡ 49152 ⌝ }
 {
     [0usize; ALL_PLACES]
 }
@@ -83,7 +83,7 @@ fn stride_of(f: Filled, kind: u32) -> usize
 // The slot for a term: it has the place of the last entry of its kind with one that is not behind the term's.
 fn slot_for(f: Filled, term: u32) -> usize
     requires { ⌜ HasNumber f term ⌝ }
-    ensures { λ r. ⌜ (r ≡ slotFor f term) × (r < 24576) ⌝ }
+    ensures { λ r. ⌜ (r ≡ slotFor f term) × (r < 49152) ⌝ }
 {
     let kind = term / NUMBERS;
     kind as usize * PLACES + rank_of(term) / stride_of(f, kind)
@@ -92,7 +92,7 @@ fn slot_for(f: Filled, term: u32) -> usize
 // Keeps the byte index of the entry of a term, where a place is kept for it.
 fn keep_place(f: Filled, places: &mut [usize], term: u32, at: usize)
     requires { ⌜ HasNumber f term ⌝ }
-    requires { ⌜ length (now places) ≡ 24576 ⌝ }
+    requires { ⌜ length (now places) ≡ 49152 ⌝ }
     ensures { λ r. ⌜ now (places .exit) ≡ withPlace f (now (places .entry)) term at ⌝ }
 {
     if rank_of(term) % stride_of(f, term / NUMBERS) == 0 {
@@ -105,7 +105,7 @@ fn keep_place(f: Filled, places: &mut [usize], term: u32, at: usize)
 pub fn index_places(dictionary: &[u8], f: Filled, places: &mut [usize])
     requires { ⌜ isDictionary (now dictionary) ≡ true ⌝ }
     requires { ⌜ FilledBy (now dictionary) f (entries (now dictionary)) ⌝ }
-    requires { ⌜ length (now places) ≡ 24576 ⌝ }
+    requires { ⌜ length (now places) ≡ 49152 ⌝ }
     ensures { λ r. ⌜ ArePlaces (now (dictionary .entry)) f (now (places .exit)) ⌝ }
 {
     let mut at = 0;

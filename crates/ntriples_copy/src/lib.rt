@@ -1,7 +1,7 @@
-// Texts copied into lent bytes: from other bytes, and those of the vocabulary.
+// Lent bytes written: texts copied from other bytes, those of the vocabulary, and zeros behind them.
 ghost use mathlib.Core.Path.{_≡_};
-ghost use Prim.Native.Nat.{_+_, _≤_};
-ghost use lib.ListN.{length, take, drop};
+ghost use Prim.Native.Nat.{_+_, _-_, _≤_};
+ghost use lib.ListN.{length, take, drop, replicate};
 ghost use lib.Seq.{sets};
 ghost use Rattle.ntriples_copy.specs.inside.Vocabulary.{vocabularyText};
 
@@ -63,4 +63,16 @@ pub fn write_vocabulary(term: u32, out: &mut [u8], at: usize)
     }
     let range = b"<http://www.w3.org/2000/01/rdf-schema#range>";
     copy_bytes(range, 0, 44, out, at);
+}
+
+// Sets the bytes from an index on to zero.
+pub fn clear_from(out: &mut [u8], at: usize)
+    requires { ⌜ at ≤ length (now out) ⌝ }
+    ensures { λ _. ⌜ now (out .exit) ≡ sets (now (out .entry)) at (replicate (length (now (out .entry)) - at) 0) ⌝ }
+{
+    let mut i = at;
+    while i < out.len() {
+        out[i] = 0;
+        i += 1;
+    }
 }

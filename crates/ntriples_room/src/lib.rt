@@ -1,24 +1,33 @@
-// What is asked of rows before they are written with a dictionary's texts: that each of their terms has one, and that the lines fit.
+// What is asked of rows that are written with a dictionary's texts: before, that each of their terms has one; and as bytes are put, that they fit.
 use dictionary_bytes::Filled;
+use dictionary_bytes::HEADER;
 use dictionary_bytes::length_at;
 use dictionary_places::has_entry;
-use dictionary_places::place_of;
+use ntriples_copy::copy_bytes;
 use ntriples_copy::vocabulary_length;
+use ntriples_copy::write_vocabulary;
 use terms::Term;
 ghost use mathlib.Core.Path.{_≡_};
 ghost use mathlib.Core.Bool.{true};
-ghost use mathlib.Core.List.{List};
-ghost use Prim.Native.Nat.{ℕ, _≤_};
+ghost use mathlib.Core.List.{List, _++_};
+ghost use Prim.Native.Nat.{ℕ, _+_, _≤_};
 ghost use lib.ListN.{length};
-ghost use lib.Dec.{leb};
 ghost use Rattle.spec.specs.Lists.{all};
 ghost use Rattle.spec.specs.Tables.{rows};
 ghost use Rattle.spec.specs.inside.Laid.{Laid};
+ghost use Rattle.spec_ntriples.specs.Characters.{codes};
 ghost use Rattle.spec_ntriples.specs.Dictionary.{entries, isDictionary};
-ghost use Rattle.spec_ntriples.specs.Sights.{textOf};
-ghost use Rattle.spec_writing.specs.Writing.{hasText, hasTexts, rowsBytes};
-ghost use Rattle.dictionary_bytes.specs.inside.Entries.{FilledBy};
-ghost use Rattle.dictionary_places.specs.inside.Places.{ArePlaces};
+ghost use Rattle.spec_writing.specs.Writing.{hasText, hasTexts};
+ghost use Rattle.dictionary_bytes.specs.inside.Entries.{lengthAt, textAt, FilledBy};
+ghost use Rattle.ntriples_copy.specs.inside.Vocabulary.{vocabularyText};
+ghost use Rattle.ntriples_room.specs.inside.Put.{Put};
+
+// The characters of a line besides its texts.
+const SPACE: u8 = 32;
+
+const DOT: u8 = 46;
+
+const LINE_FEED: u8 = 10;
 
 // The bytes that end a line behind its last space: a dot and byte 10.
 const END_BYTES: usize = 2;
@@ -50,47 +59,45 @@ pub fn have_texts(table: &[u32], f: Filled) -> bool
     true
 }
 
-// The length of a term's text.
-fn text_size(dictionary: &[u8], f: Filled, places: &[usize], term: u32) -> usize
-    requires { ⌜ ArePlaces (now dictionary) f (now places) ⌝ }
-    requires { ⌜ hasText (entries (now dictionary)) term ≡ true ⌝ }
-    ensures { λ r. ⌜ r ≡ length (textOf (entries (now (dictionary .entry))) term) ⌝ }
+// Puts the text of the entry at a place and a space from an index on: the index behind them, or 0 where they do not fit.
+pub fn put_entry(dictionary: &[u8], place: usize, out: &mut [u8], at: usize) -> usize
+    requires { ⌜ place + 12 + lengthAt (now dictionary) place ≤ length (now dictionary) ⌝ }
+    requires { ⌜ at ≤ length (now out) ⌝ }
+    ensures { λ r. ⌜ Put (now (out .entry)) (now (out .exit)) at (textAt (now (dictionary .entry)) place ++ codes " ") r ⌝ }
 {
-    let t = Term { word: term };
-    if t.is_vocabulary() {
-        return vocabulary_length(term);
+    let n = length_at(dictionary, place);
+    if out.len() - at <= n {
+        return 0;
     }
-    length_at(dictionary, place_of(dictionary, f, places, term))
+    copy_bytes(dictionary, place + HEADER, n, out, at);
+    out[at + n] = SPACE;
+    at + n + 1
 }
 
-// Question 8: whether the lines of a table's rows fit so many bytes. The sum of their lengths may pass all numbers, so that each is taken from the room
-// that is left.
-pub fn are_lines_fitting(
-    table: &[u32],
-    dictionary: &[u8],
-    f: Filled,
-    places: &[usize],
-    room: usize,
-) -> bool
-    requires { ⌜ Laid (now table) ⌝ }
-    requires { ⌜ ArePlaces (now dictionary) f (now places) ⌝ }
-    requires { ⌜ all (hasTexts (entries (now dictionary))) (rows (now table)) ≡ true ⌝ }
-    ensures { λ r. ⌜ r ≡ leb (length (rowsBytes (entries (now (dictionary .entry))) (rows (now (table .entry))))) room ⌝ }
+// Puts the text of a vocabulary URI and a space from an index on: the index behind them, or 0 where they do not fit.
+pub fn put_vocabulary(term: u32, out: &mut [u8], at: usize) -> usize
+    requires { ⌜ (1 ≤ term) × (term ≤ 5) ⌝ }
+    requires { ⌜ at ≤ length (now out) ⌝ }
+    ensures { λ r. ⌜ Put (now (out .entry)) (now (out .exit)) at (vocabularyText term ++ codes " ") r ⌝ }
 {
-    let n = table[0] as usize;
-    if room / END_BYTES < n {
-        return false;
+    let size = vocabulary_length(term);
+    if out.len() - at <= size {
+        return 0;
     }
-    let end = n * 3 + 1;
-    let mut left = room - n * END_BYTES;
-    let mut i = 1;
-    while i < end {
-        let size = text_size(dictionary, f, places, table[i]);
-        if left <= size {
-            return false;
-        }
-        left = left - size - 1;
-        i += 1;
+    write_vocabulary(term, out, at);
+    out[at + size] = SPACE;
+    at + size + 1
+}
+
+// Puts a dot and byte 10 from an index on, which end a line: the index behind them, or 0 where they do not fit.
+pub fn put_end(out: &mut [u8], at: usize) -> usize
+    requires { ⌜ at ≤ length (now out) ⌝ }
+    ensures { λ r. ⌜ Put (now (out .entry)) (now (out .exit)) at (codes ".\n") r ⌝ }
+{
+    if out.len() - at < END_BYTES {
+        return 0;
     }
-    true
+    out[at] = DOT;
+    out[at + 1] = LINE_FEED;
+    at + END_BYTES
 }

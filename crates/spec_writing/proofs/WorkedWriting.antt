@@ -19,6 +19,7 @@ use Rattle.spec_ntriples.specs.inside.Compute.{compute}
 use Rattle.spec_writing.specs.Writing.{lineBytes, documentBytes, rowTexts, rowsBytes, hasText, hasTexts, written, giveBytes, writeRows, writeStatements, writeFacts, writeKept}
 use Rattle.spec_writing.specs.CanonicalForm.{canonicalForm}
 use Rattle.spec_writing.specs.WritingPromises.{factsAddition, ReadsBack}
+use Rattle.spec_writing.specs.Exported.{linesWritten, numberedWriting}
 use Rattle.spec_writing.proofs.RoundTrip.{facts-read-back}
 
 -- Where `worked` unfolds, writing computes on closed terms.
@@ -77,6 +78,15 @@ kept-written = refl
 pub no-room : writeFacts facts drinks 103 ≡ written (Refused 8) (replicate 103 0)
 unfolding worked
 no-room = refl
+
+-- What the exported functions give for these: the number, the length, and every byte of the output.
+pub facts-numbered : numberedWriting (writeFacts facts drinks 110) ≡ linesWritten 0 104 (factLines ++ replicate 6 0)
+unfolding worked
+facts-numbered = refl
+
+pub no-room-numbered : numberedWriting (writeFacts facts drinks 103) ≡ linesWritten 8 0 (replicate 103 0)
+unfolding worked
+no-room-numbered = refl
 
 -- A statement, with a blank node.
 pub statement-written : writeStatements (1 ∷ 17 ∷ 2 ∷ 0x40000001 ∷ []) drinks 72 ≡ written (Length 70) (codes "<p:Drink> <http://www.w3.org/2000/01/rdf-schema#subClassOf> _:goods .\n" ++ replicate 2 0)

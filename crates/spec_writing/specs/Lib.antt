@@ -1,3 +1,4 @@
 pub mod Writing
 pub mod CanonicalForm
 pub mod WritingPromises
+pub mod Exported

@@ -21,13 +21,13 @@ pub record HasNumber (f : Filled) (w : ℕ) : Type 0 where
 unfoldable pub rankOf : ℕ → ℕ
 rankOf w = number w - firstNumber (kind w)
 
--- For how many entries of a kind one of its 8,192 places is kept: its entries are as many as numbers are taken.
+-- For how many entries of a kind one of its 16,384 places is kept: its entries are as many as numbers are taken.
 unfoldable pub strideOf : Filled → ℕ → ℕ
-strideOf f k = (numberOf f k - firstNumber k - 1) / 8192 + 1
+strideOf f k = (numberOf f k - firstNumber k - 1) / 16384 + 1
 
--- The slot for a term, in the 8,192 of its kind: they are for the terms whose ranks are multiples of the stride, and for those behind each.
+-- The slot for a term, in the 16,384 of its kind: they are for the terms whose ranks are multiples of the stride, and for those behind each.
 unfoldable pub slotFor : Filled → ℕ → ℕ
-slotFor f w = kind w * 8192 + rankOf w / strideOf f (kind w)
+slotFor f w = kind w * 16384 + rankOf w / strideOf f (kind w)
 
 -- A place is kept for a term: its rank is such a multiple.
 abbrev pub IsKept : Filled → ℕ → Type 0
@@ -41,5 +41,5 @@ withPlace f places w at = cond (eqb (rankOf w % strideOf f (kind w)) 0) (set pla
 pub record ArePlaces (bs : List ℕ) (f : Filled) (places : List ℕ) : Type 0 where
   pub right : isDictionary bs ≡ true
   pub filled : FilledBy bs f (entries bs)
-  pub long : length places ≡ 24576
+  pub long : length places ≡ 49152
   pub lead : (xs ys : List Entry) (e : Entry) → entries bs ≡ xs ++ (e ∷ ys) → IsKept f (e .term) → getD places (slotFor f (e .term)) 0 ≡ length (bytesOfEntries xs)
