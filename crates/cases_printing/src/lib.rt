@@ -57,11 +57,17 @@ fn print_word(word: u32) {
 
 // Prints the reply of a reading, and below it the bytes of the dictionary and of the delivery. Nothing is promised but that it ends.
 pub fn print_read(reply: ByteReply, dictionary: &[u8], delivery: &[u8]) {
-    print_byte_reply(reply);
-    io::write_all(1, b"\n  dictionary");
-    print_bytes(dictionary);
+    print_filled(reply, b"dictionary", dictionary);
     io::write_all(1, b"  delivery");
     print_bytes(delivery);
+}
+
+// Prints a reply, and below it the bytes that have this name.
+pub fn print_filled(reply: ByteReply, name: &[u8], bytes: &[u8]) {
+    print_byte_reply(reply);
+    io::write_all(1, b"\n  ");
+    io::write_all(1, name);
+    print_bytes(bytes);
 }
 
 // Prints the number of bytes written, or the number that refused, and no line end.

@@ -7,7 +7,7 @@ use report_reading::Printed;
 fn main() {
     let mut input = report_reading::input_buffer();
     let n = io::read_full(STDIN_FILENO, &mut input);
-    let mut out = report_rooms::output_buffer();
+    let mut out = report_rooms::delivery_buffer();
     match report_reading::respond(&input[..n], &mut out) {
         Printed::Output(end) => {
             io::write_all(STDOUT_FILENO, &out[..end]);

@@ -29,7 +29,7 @@ too-long-printed file h A = printed-text A ∙ sym (rw (lt-leb (length file) mos
 -- A file that was read.
 module _ (file : List ℕ) (r : ByteReply) {d₀ d m : List ℕ} {len : ℕ} (short : length file ≤ mostInput) (zeros : d₀ ≡ emptyDictionary)
     (whole : len ≡ mostBytes) (is : readFile r d m ≡ readNTriples d₀ file len) where
-  is-read : readFile r d m ≡ readNTriples emptyDictionary file mostBytes
+  pub is-read : readFile r d m ≡ readNTriples emptyDictionary file mostBytes
   is-read = is ∙ ap (λ (bs : List ℕ). readNTriples bs file len) zeros ∙ ap (readNTriples emptyDictionary file) whole
 
   printed-is : printedFor file ≡ printedReply r m

@@ -1,16 +1,16 @@
-// The rooms of the program `read_ntriples`: for what it prints, and for its dictionary, which has no entry.
+// The rooms of a program that reads N-Triples: for the delivery, and for its dictionary, which has no entry.
 ghost use mathlib.Core.Path.{_≡_};
 ghost use lib.ListN.{length, replicate};
 ghost use Rattle.spec.specs.Messages.{mostBytes};
 
 // The bytes of the longest delivery.
-const OUTPUT_ROOM: usize = 65536;
+const DELIVERY_ROOM: usize = 65536;
 
-// Room for what is printed.
-pub fn output_buffer() -> [u8; OUTPUT_ROOM]
+// Room for a delivery.
+pub fn delivery_buffer() -> [u8; DELIVERY_ROOM]
     ensures { λ r. ⌜ mostBytes ≡ length r ⌝ }
 {
-    [0u8; OUTPUT_ROOM]
+    [0u8; DELIVERY_ROOM]
 }
 
 // A dictionary without entries.

@@ -15,8 +15,8 @@ slice-aggregate-read-full c = search needs
 read-full-requires : tie.Need-read-full-requires
 read-full-requires c κs = search needs
 
-output-buffer-requires : tie.Need-output-buffer-requires
-output-buffer-requires c κs = search needs
+delivery-buffer-requires : tie.Need-delivery-buffer-requires
+delivery-buffer-requires c κs = search needs
 
 array-share-prefix-input : tie.Need-array-share-prefix-input
 array-share-prefix-input c = search needs
@@ -34,10 +34,10 @@ enum-known-end : tie.Need-enum-known-end
 enum-known-end c = search needs
 
 array-share-prefix-out : tie.Need-array-share-prefix-out
-array-share-prefix-out c = omega (arith, rw (c .before .end .given .1) at (c .before .before .before .before .respond .ensures .1), c .before .before .before .before .respond .kept .1 .0, c .before .before .before .before .before .before .before .output-buffer .ensures)
+array-share-prefix-out c = omega (arith, rw (c .before .end .given .1) at (c .before .before .before .before .respond .ensures .1), c .before .before .before .before .respond .kept .1 .0, c .before .before .before .before .before .before .before .delivery-buffer .ensures)
 
 slice-aggregate-write-all : tie.Need-slice-aggregate-write-all
-slice-aggregate-write-all c = sym (length-take-le _ (c .before .before .before .before .before .respond .last .1 .0) (omega (arith, rw (c .before .before .end .given .1) at (c .before .before .before .before .before .respond .ensures .1), c .before .before .before .before .before .respond .kept .1 .0, c .before .before .before .before .before .before .before .before .output-buffer .ensures)))
+slice-aggregate-write-all c = sym (length-take-le _ (c .before .before .before .before .before .respond .last .1 .0) (omega (arith, rw (c .before .before .end .given .1) at (c .before .before .before .before .before .respond .ensures .1), c .before .before .before .before .before .respond .kept .1 .0, c .before .before .before .before .before .before .before .before .delivery-buffer .ensures)))
 
 write-all-requires : tie.Need-write-all-requires
 write-all-requires c κs = search needs
@@ -46,10 +46,10 @@ enum-known-end-2 : tie.Need-enum-known-end-2
 enum-known-end-2 c = search needs
 
 array-share-prefix-out-2 : tie.Need-array-share-prefix-out-2
-array-share-prefix-out-2 c = omega (arith, rw (c .before .end2 .given .1) at (c .before .before .before .before .respond .ensures .1), c .before .before .before .before .respond .kept .1 .0, c .before .before .before .before .before .before .before .output-buffer .ensures)
+array-share-prefix-out-2 c = omega (arith, rw (c .before .end2 .given .1) at (c .before .before .before .before .respond .ensures .1), c .before .before .before .before .respond .kept .1 .0, c .before .before .before .before .before .before .before .delivery-buffer .ensures)
 
 slice-aggregate-write-all-2 : tie.Need-slice-aggregate-write-all-2
-slice-aggregate-write-all-2 c = sym (length-take-le _ (c .before .before .before .before .before .respond .last .1 .0) (omega (arith, rw (c .before .before .end2 .given .1) at (c .before .before .before .before .before .respond .ensures .1), c .before .before .before .before .before .respond .kept .1 .0, c .before .before .before .before .before .before .before .before .output-buffer .ensures)))
+slice-aggregate-write-all-2 c = sym (length-take-le _ (c .before .before .before .before .before .respond .last .1 .0) (omega (arith, rw (c .before .before .end2 .given .1) at (c .before .before .before .before .before .respond .ensures .1), c .before .before .before .before .before .respond .kept .1 .0, c .before .before .before .before .before .before .before .before .delivery-buffer .ensures)))
 
 write-all-requires-2 : tie.Need-write-all-requires-2
 write-all-requires-2 c κs = search needs
@@ -67,7 +67,7 @@ main-spec =
     input-buffer-requires
     slice-aggregate-read-full
     read-full-requires
-    output-buffer-requires
+    delivery-buffer-requires
     array-share-prefix-input
     slice-aggregate-respond
     slice-aggregate-respond-2
