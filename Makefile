@@ -1,15 +1,19 @@
-# make run: the programs, and the worked example's delivery.  make test: everything that is proved, run and tried.  make bench: measured
-# speed.  make deps: what these install.  make crate NAME=x: one crate and its edits.
+# make run: the programs, on the worked example's delivery and on a catalogue.  make test: everything that is proved, run and tried.
+# make bench: measured speed.  make deps: what these install.  make crate NAME=x: one crate and its edits.
 SHELL := /bin/bash
 .SHELLFLAGS := -eu -o pipefail -c
-.PHONY: run test crate trial bench bench-docs library programs deps jena rapper prolog postgres valgrind cargo toolchain
+CATALOGUE := crates/kept_ntriples/catalogue.nt
+.PHONY: run test crate trial bench bench-docs library programs deps jena rapper serdi prolog postgres valgrind cargo toolchain
 
 run: programs
+	@echo "families, on the worked example's delivery (crates/families/stdin):" >&2
 	@target/bin/families <crates/families/stdin
+	@echo "kept_ntriples, on a maker's catalogue ($(CATALOGUE)):" >&2
+	@target/bin/kept_ntriples <$(CATALOGUE)
 
 # Standard error shows how far it is; all that the gate prints goes to test.log (it removes target/), and what the trial prints to
 # target/trial.log. The last line is that of the toolchain's gate, which is held back until the trial of the library has passed too.
-test: toolchain cargo jena rapper valgrind
+test: toolchain cargo jena rapper serdi valgrind
 	@tools/progress test.log rt ci
 	@$(MAKE) --no-print-directory trial
 	@tail -n 1 test.log
@@ -18,8 +22,8 @@ test: toolchain cargo jena rapper valgrind
 crate: toolchain
 	@tools/crate "$(NAME)"
 
-# The exported library beside an independent model, on stores and on files of N-Triples, beside Apache Jena, and under valgrind; and library and
-# model on N-Triples beside the readers of Jena and of raptor.
+# The exported library beside an independent model, on stores and on N-Triples read and written, beside Apache Jena, and under valgrind; and
+# library and model on N-Triples beside the readers of Jena, of raptor and of serd.
 TRIAL := CARGO_TARGET_DIR=target/tests cargo run --release --offline --quiet --manifest-path tests/Cargo.toml --
 TRIAL_LOG := target/trial.log
 
@@ -30,23 +34,24 @@ SHELF_STDOUT := bindings/rust/examples/shelf.stdout
 # What tools/programs must print.
 PROGRAMS_STDOUT := tests/cases/programs.stdout
 
-trial: library programs cargo jena rapper valgrind
+trial: library programs cargo jena rapper serdi valgrind
 	@tools/chain >$(TRIAL_LOG) || exit 1
 	@$(call try,1,beside the model,)
-	@$(call try,2,N-Triples beside the model,--part files)
-	@$(call try,3,beside Apache Jena,--part jena)
-	@$(call try,4,under valgrind,--part memory)
-	@$(call try,5,readers of N-Triples,--part readers)
+	@$(call try,2,N-Triples read beside the model,--part files)
+	@$(call try,3,N-Triples written beside the model,--part writing)
+	@$(call try,4,beside Apache Jena,--part jena)
+	@$(call try,5,under valgrind,--part memory)
+	@$(call try,6,readers of N-Triples,--part readers)
 	@echo "trial, the example of bindings/rust" >&2; $(SHELF) | diff $(SHELF_STDOUT) - || { echo "the example of bindings/rust does not print $(SHELF_STDOUT)" >&2; exit 1; }
 	@echo "trial, the programs" >&2; tools/programs | diff $(PROGRAMS_STDOUT) - || { echo "tools/programs does not print $(PROGRAMS_STDOUT)" >&2; exit 1; }
 
-try = echo "trial, part $(1) of 5, $(2): its log is $(TRIAL_LOG)" >&2; $(TRIAL) $(3) >>$(TRIAL_LOG) 2>&1 \
+try = echo "trial, part $(1) of 6, $(2): its log is $(TRIAL_LOG)" >&2; $(TRIAL) $(3) >>$(TRIAL_LOG) 2>&1 \
 	|| { tail -n 40 $(TRIAL_LOG) >&2; echo "the trial failed: $(TRIAL_LOG) has all that it printed" >&2; exit 1; }
 
 # The exported library beside the peers named, and alone: target/bench/report.md and target/bench/plot.svg. `make bench BENCH_PEERS=` runs
 # it alone; `make bench BENCH_OPTIONS=--quick` takes a small workload, `make bench BENCH_OPTIONS=--only=reading` measures one part of the
-# tables (stores, alone, reading, stack).
-BENCH_PEERS ?= prolog postgres jena rapper
+# tables (stores, alone, reading, writing, stack).
+BENCH_PEERS ?= prolog postgres jena rapper serdi
 BENCH_OPTIONS ?=
 
 bench: library cargo $(BENCH_PEERS)
@@ -60,10 +65,10 @@ library: toolchain
 	@tools/progress target/library.log rt staticlib capi
 
 programs: toolchain
-	@tools/progress target/programs.log rt check families read_ntriples
+	@tools/progress target/programs.log rt check families read_ntriples kept_ntriples
 
 # All that the other targets install: each also installs what it needs by itself.
-deps: cargo jena rapper valgrind prolog postgres
+deps: cargo jena rapper serdi valgrind prolog postgres
 
 # Apache Jena as a server on standard input and output, for comparisons (peers/jena); `java @target/jena/server` starts it. Debian's
 # package has Xerces' texts under another path than its classes, so they are laid out again in front of the class path.
@@ -83,9 +88,12 @@ $(JENA)/server: peers/jena/rdfs.rules $(wildcard peers/jena/peer/*.java)
 	@javac -Xlint:all,-path -cp $(JENA_PATH) -d $(JENA)/classes peers/jena/peer/*.java
 	@echo "-cp $(JENA_PATH) peer.Server peers/jena/rdfs.rules" >$@
 
-# Raptor's reader of N-Triples, for comparisons.
+# Raptor's and serd's readers and writers of N-Triples, for comparisons.
 rapper:
 	@command -v rapper >/dev/null || $(call install,raptor2-utils,raptor's program rapper)
+
+serdi:
+	@command -v serdi >/dev/null || $(call install,serdi,serd's program serdi)
 
 # The two other peers of the bench.
 prolog:

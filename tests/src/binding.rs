@@ -39,6 +39,12 @@ pub fn call(store: &mut Store, call: &Call) -> Outcome {
             given(output, |words| tables.list(table_of(*table), order, words))
         }
         Call::Read(file, output) => read(file, &mut store.dictionary, output),
+        Call::Write(table, output) => {
+            let (table, dictionary) = (table_of(*table), &store.dictionary);
+            written(output, |bytes| {
+                tables.write_ntriples(table, dictionary, bytes)
+            })
+        }
     }
 }
 
@@ -101,4 +107,18 @@ fn read(file: &[u8], dictionary: &mut [u8], output: &Output) -> Outcome {
     let mut delivery = output.lent_bytes();
     let reply = families::read_ntriples(file, dictionary, &mut delivery);
     Outcome::of_reading(reply.map_err(Refusal::number), delivery)
+}
+
+/// What a writing gave: the bytes of the output after it, in front the lines as given.
+fn written(
+    output: &Output,
+    call: impl for<'a> FnOnce(&'a mut [u8]) -> Result<&'a [u8], Refusal>,
+) -> Outcome {
+    let mut bytes = output.lent_bytes();
+    let reply = call(&mut bytes).map(<[u8]>::to_vec);
+    if let Ok(lines) = &reply {
+        bytes[..lines.len()].copy_from_slice(lines);
+    }
+    let length = reply.map(|lines| lines.len());
+    Outcome::of_writing(length.map_err(Refusal::number), bytes)
 }

@@ -25,6 +25,16 @@ pub const STORE: [Kind; 9] = [
 /// The call that reads a file.
 pub const READING: [Kind; 1] = [("read", &[0, 1, 13, 14, 15])];
 
+/// The calls that write a table.
+pub const WRITING: [Kind; 3] = [
+    ("write statements", &[0, 1, 8, 16]),
+    ("write facts", &[0, 1, 8, 16]),
+    ("write kept", &[0, 1, 8, 16]),
+];
+
+/// The call that reads back what was written.
+pub const READING_BACK: [Kind; 1] = [("read", &[0, 15])];
+
 /// Calls that the counts have so far.
 pub fn calls(counts: &Counts) -> u64 {
     counts.values().sum()

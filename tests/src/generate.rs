@@ -579,7 +579,7 @@ pub fn damage(random: &mut Random, store: &mut Store) {
 }
 
 /// Damages a table of rows: bits, counts, lengths, order, and words after the last row.
-fn damage_rows(random: &mut Random, words: &mut Vec<u32>) {
+pub fn damage_rows(random: &mut Random, words: &mut Vec<u32>) {
     if words.is_empty() {
         return;
     }

@@ -2,11 +2,12 @@
 
 use crate::binding;
 use crate::fence::{Fence, Memory};
+use crate::lending::Fault;
 pub use crate::model::terms::Triple;
 use crate::outcome::Outcome;
 use crate::script::{Call, Way};
 use crate::store::{Store, Table};
-use families::sys::{self, Ask, List, Update};
+use families::sys::{self, Ask, List, Update, Write};
 
 /// What results and counts hold before a call.
 const RUBBISH: u32 = 0xdead_beef;
@@ -29,48 +30,8 @@ pub struct Library {
     pub null_when_empty: bool,
     /// Whether calls are made by the binding for Rust, which lends the tables where they are.
     pub by_binding: bool,
-    /// A deliberate fault of listings and readings, where one is wanted.
+    /// A deliberate fault of listings, readings and writings, where one is wanted.
     pub fault: Option<Fault>,
-}
-
-/// Deliberate faults: a listing or a reading that is told of other memory than was lent.
-#[derive(Clone, Copy, PartialEq, Eq)]
-pub enum Fault {
-    /// The table is said to have one word more, which is read.
-    ReadPast,
-    /// The output is said to have one word more, which is written.
-    WritePast,
-    /// The output is said to have one word less, so that its last word is never written.
-    Unwritten,
-    /// The file is said to have one byte more.
-    FilePast,
-    /// The dictionary is said to have one byte more.
-    DictionaryPast,
-    /// The delivery is said to have one byte more, which is written.
-    DeliveryPast,
-}
-
-impl Fault {
-    pub const ALL: [Fault; 6] = [
-        Fault::ReadPast,
-        Fault::WritePast,
-        Fault::Unwritten,
-        Fault::FilePast,
-        Fault::DictionaryPast,
-        Fault::DeliveryPast,
-    ];
-
-    /// The name by which the command line calls a fault.
-    pub fn name(self) -> &'static str {
-        match self {
-            Fault::ReadPast => "read-past",
-            Fault::WritePast => "write-past",
-            Fault::Unwritten => "unwritten",
-            Fault::FilePast => "file-past",
-            Fault::DictionaryPast => "dictionary-past",
-            Fault::DeliveryPast => "delivery-past",
-        }
-    }
 }
 
 impl Library {
@@ -113,6 +74,15 @@ impl Library {
             }
             Call::Read(file, output) => {
                 self.read(file, &mut store.dictionary, &output.lent_bytes())
+            }
+            Call::Write(table, output) => {
+                let f: Write = match table {
+                    Table::Statements => sys::families_write_statements,
+                    Table::Facts => sys::families_write_facts,
+                    Table::Kept => sys::families_write_kept,
+                };
+                let words = store.table(*table);
+                self.write(f, words, &store.dictionary, &output.lent_bytes())
             }
         }
     }
@@ -315,6 +285,49 @@ impl Library {
             number,
             count: self.small.read::<u64>()[0],
             delivery: self.output.read().to_vec(),
+            ..Outcome::default()
+        })
+    }
+
+    fn write(
+        &mut self,
+        f: Write,
+        table: &[u32],
+        dictionary: &[u8],
+        output: &[u8],
+    ) -> Result<Outcome, String> {
+        let null = self.null_when_empty;
+        let words = Library::lend(&mut self.statements, table, null);
+        let di = Library::lend(&mut self.dictionary, dictionary, null);
+        let lines = self.lend_output(output);
+        let length = self.small.lend_output(&[RUBBISH_COUNT]);
+        let written =
+            output.len() + self.more_by(Fault::LinesPast) - self.more_by(Fault::LinesUnwritten);
+        // SAFETY: each pointer is that of a slice of the length given, apart from the others, unless
+        // a fault is planted.
+        let number = unsafe {
+            f(
+                words,
+                table.len() + self.more_by(Fault::RowsPast),
+                di,
+                dictionary.len() + self.more_by(Fault::TextsPast),
+                lines,
+                written,
+                length,
+            )
+        };
+        unchanged(&self.statements, table)?;
+        unchanged(&self.dictionary, dictionary)?;
+        whole(&[
+            &self.statements,
+            &self.dictionary,
+            &self.output,
+            &self.small,
+        ])?;
+        Ok(Outcome {
+            number,
+            count: self.small.read::<u64>()[0],
+            lines: self.output.read().to_vec(),
             ..Outcome::default()
         })
     }

@@ -1,8 +1,8 @@
-//! Tries the exported library in parts: calls on a store, and the reading of N-Triples, beside an
+//! Tries the exported library in parts: calls on a store, and N-Triples read and written, beside an
 //! independent model on random and directed cases; what holds, and questions, beside Apache Jena;
-//! samples of the calls under valgrind; and N-Triples beside the readers of Jena and of raptor.
+//! samples of the calls under valgrind; and N-Triples beside the readers of Jena, raptor and serd.
 //!
-//!     trial [--part model|files|jena|memory|readers] [--seed N] [--cases N] [--fault NAME] [--replay FILE]
+//!     trial [--part model|files|writing|jena|memory|readers] [--seed N] [--cases N] [--fault NAME] [--replay FILE]
 
 mod binding;
 mod comparison;
@@ -13,6 +13,8 @@ mod fence;
 mod files;
 mod generate;
 mod histories;
+mod kept;
+mod lending;
 mod library;
 mod limits;
 mod memory;
@@ -30,6 +32,7 @@ mod session;
 mod shorten;
 mod store;
 mod windows;
+mod writing;
 
 use fence::Memory;
 use model::{Fault, Model};
@@ -42,10 +45,11 @@ use std::path::Path;
 use std::process::exit;
 use std::time::Instant;
 
-/// The histories beside the model, the files beside the model, and the small stores beside Jena,
-/// where no number is asked for.
+/// The histories, the files and the tables beside the model, and the small stores beside Jena, where no
+/// number is asked for.
 const HISTORIES: u64 = 15_000;
 const FILES: u64 = 1_000_000;
+const TABLES: u64 = 40_000;
 const STORES: u64 = 1_000;
 
 /// The examples of document 01.
@@ -80,7 +84,19 @@ fn reading_plan() -> Plan {
     }
 }
 
-/// The part `Jena`: kept facts and questions beside Apache Jena.
+/// The part `Writing`: rows written as N-Triples.
+fn writing_plan() -> Plan {
+    Plan {
+        faults: Fault::WRITING.to_vec(),
+        directed: writing::CASES.to_vec(),
+        phases: writing::PHASES.to_vec(),
+        kinds: [&counts::WRITING[..], &counts::READING_BACK[..]].concat(),
+        cases: TABLES,
+    }
+}
+
+/// The part `Jena`: kept facts and questions, and what the program kept_ntriples prints, beside Apache
+/// Jena.
 fn jena_part(harness: &mut Harness, options: &Options) {
     let start = Instant::now();
     if options.fault.is_none() {
@@ -96,6 +112,13 @@ fn jena_part(harness: &mut Harness, options: &Options) {
     if let Err((place, failure)) = comparison::run(harness, options.seed, stores) {
         report(harness, options, &place, failure);
     }
+    match kept::run(harness, options.seed) {
+        Ok(printed) => println!("no difference of kept_ntriples from Jena: {printed}"),
+        Err(difference) => {
+            println!("DIFFERENCE: {difference}");
+            exit(1)
+        }
+    }
     let time = start.elapsed().as_secs_f64();
     let seen = harness.peer.as_ref().map(|peer| peer.seen.to_string());
     println!(
@@ -106,7 +129,7 @@ fn jena_part(harness: &mut Harness, options: &Options) {
 
 /// What valgrind runs: a planted fault, or the sample.
 fn sample_part(harness: &mut Harness, options: &Options) {
-    let mut faults = library::Fault::ALL.into_iter();
+    let mut faults = lending::Fault::ALL.into_iter();
     if let Some(fault) = faults.find(|f| options.plants(f.name())) {
         return memory::fail(fault);
     }
@@ -115,7 +138,12 @@ fn sample_part(harness: &mut Harness, options: &Options) {
         report(harness, options, &place, failure);
     }
     let time = start.elapsed().as_secs_f64();
-    let kinds = [&counts::STORE[..], &counts::READING[..]].concat();
+    let kinds = [
+        &counts::STORE[..],
+        &counts::READING[..],
+        &counts::WRITING[..],
+    ]
+    .concat();
     println!(
         "no error seen by valgrind in {} calls in {time:.0} s: {}",
         counts::calls(&harness.counts),
@@ -123,7 +151,7 @@ fn sample_part(harness: &mut Harness, options: &Options) {
     );
 }
 
-/// The part `Readers`: N-Triples beside the readers of Jena and of raptor.
+/// The part `Readers`: N-Triples beside the readers of Jena, of raptor and of serd.
 fn readers_part(options: &Options) {
     let start = Instant::now();
     let folder = beside_program("readers");
@@ -135,11 +163,19 @@ fn readers_part(options: &Options) {
             exit(1);
         }
     }
-    println!("planted faults: {0} of {0} found", files::Fault::ALL.len());
-    match readers::run(&mut desk, options.seed) {
-        Ok(read) => {
+    for fault in readers::written::FAULTS {
+        if !desk.finds_written(options.seed, fault) {
+            println!("the planted fault {} was not found", fault.name());
+            exit(1);
+        }
+    }
+    let faults = files::Fault::ALL.len() + readers::written::FAULTS.len();
+    println!("planted faults: {faults} of {faults} found");
+    let read = readers::run(&mut desk, options.seed);
+    match read.and_then(|read| Ok((read, desk.run_written(options.seed)?))) {
+        Ok((read, written)) => {
             let time = start.elapsed().as_secs_f64();
-            println!("no difference in reading N-Triples in {time:.0} s: {read}");
+            println!("no difference in N-Triples in {time:.0} s: read {read}; written {written}");
         }
         Err(difference) => {
             println!("DIFFERENCE: {difference}");
@@ -150,7 +186,8 @@ fn readers_part(options: &Options) {
 
 /// The harness of a part, with the fault that is asked for.
 fn harness(options: &Options) -> Harness {
-    let mut faults = Fault::STORE.into_iter().chain(Fault::READING);
+    let faults = Fault::STORE.into_iter().chain(Fault::READING);
+    let mut faults = faults.chain(Fault::WRITING);
     let fault = faults.find(|f| options.plants(f.name()));
     let memory = match options.part {
         Part::Sample => Memory::Heap,
@@ -196,6 +233,7 @@ fn main() {
         (None, Part::Jena) => jena_part(&mut harness, &options),
         (None, Part::Sample) => sample_part(&mut harness, &options),
         (None, Part::Files) => reading_plan().run(&mut harness, &options),
+        (None, Part::Writing) => writing_plan().run(&mut harness, &options),
         (None, _) => store_plan().run(&mut harness, &options),
     }
 }

@@ -1,8 +1,9 @@
 //! A sample of the trial under valgrind, each slice in a heap block of exactly its length.
 
+use crate::entries;
 use crate::fence::Memory;
 use crate::histories;
-use crate::library::Fault;
+use crate::lending::Fault;
 use crate::model::Model;
 use crate::plan::Case;
 use crate::random::case_seed;
@@ -10,6 +11,7 @@ use crate::reading;
 use crate::script::{Call, Command, Output};
 use crate::session::{Failure, Harness, Session};
 use crate::store::{Store, Table};
+use crate::writing;
 use std::process::{exit, Stdio};
 
 /// The exit status by which valgrind says that it saw an error.
@@ -61,14 +63,15 @@ pub fn run(seed: u64) {
     }
 }
 
-/// A listing of a table of one row, or a reading of a file of one line, with a planted fault.
+/// A listing or a writing of a table of one row, or a reading of a file of one line, with a planted
+/// fault.
 pub fn fail(fault: Fault) {
     let mut harness = Harness::new(Model::default(), Memory::Heap);
     let mut session = Session::new(&mut harness);
     for command in [
         Command::Empty([Store::words(1); 4]),
         Command::Call(Call::Add([16, 2, 17])),
-        Command::LendDictionary(vec![0; 60]),
+        Command::LendDictionary(entries::bytes(&entries::numbered(TEXTS.map(Vec::from)))),
     ] {
         session
             .run(command)
@@ -82,11 +85,15 @@ pub fn fail(fault: Fault) {
         Fault::FilePast | Fault::DictionaryPast | Fault::DeliveryPast => {
             Call::Read(LINE.to_vec(), Output { words: 22, fill: 1 })
         }
+        Fault::RowsPast | Fault::TextsPast | Fault::LinesPast | Fault::LinesUnwritten => {
+            Call::Write(Table::Statements, Output { words: 99, fill: 1 })
+        }
     });
 }
 
-/// A file of one line.
-const LINE: &[u8] = b"<p:a> <p:b> <p:c> .";
+/// The texts of the dictionary, and a file of one line.
+const TEXTS: [&[u8]; 2] = [b"<p:a>", b"<p:b>"];
+const LINE: &[u8] = b"<p:a> <p:b> <p:a> .";
 
 /// Histories of the sample: what runs one, and how many.
 const HISTORIES: [(Case, u64); 3] = [
@@ -95,14 +102,17 @@ const HISTORIES: [(Case, u64); 3] = [
     (histories::damaged, 900),
 ];
 
-/// The files of the sample, at about.
+/// The files and the tables of the sample, at about.
 const FILES: u64 = 5_000;
+const TABLES: u64 = 500;
 
 /// The cases of the sample: what runs one, and how many.
 fn cases() -> impl Iterator<Item = (Case, u64)> {
     let files = reading::PHASES.into_iter();
     let files = files.map(|(_, case, share)| (case, FILES * share / 1000));
-    HISTORIES.into_iter().chain(files)
+    let tables = writing::PHASES.into_iter();
+    let tables = tables.map(|(_, case, share)| (case, TABLES * share / 1000));
+    HISTORIES.into_iter().chain(files).chain(tables)
 }
 
 /// Runs the sample; the place and the failure of the first difference.
@@ -113,5 +123,5 @@ pub fn sample(harness: &mut Harness, seed: u64) -> Result<(), (String, Failure)>
                 .map_err(|f| (format!("sample {number}, case {i}"), f))?;
         }
     }
-    Ok(())
+    writing::past_the_places(harness).map_err(|f| ("many texts".to_string(), f))
 }

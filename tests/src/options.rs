@@ -1,7 +1,7 @@
 //! What the command line asks for.
 
 use crate::model::Fault;
-use crate::{comparison, files, library};
+use crate::{comparison, files, lending};
 use std::path::PathBuf;
 use std::process::exit;
 
@@ -10,6 +10,7 @@ use std::process::exit;
 pub enum Part {
     Model,
     Files,
+    Writing,
     Jena,
     Memory,
     Readers,
@@ -18,9 +19,10 @@ pub enum Part {
 }
 
 impl Part {
-    const ALL: [Part; 6] = [
+    const ALL: [Part; 7] = [
         Part::Model,
         Part::Files,
+        Part::Writing,
         Part::Jena,
         Part::Memory,
         Part::Readers,
@@ -32,6 +34,7 @@ impl Part {
         match self {
             Part::Model => "model",
             Part::Files => "files",
+            Part::Writing => "writing",
             Part::Jena => "jena",
             Part::Memory => "memory",
             Part::Readers => "readers",
@@ -44,10 +47,11 @@ impl Part {
         match self {
             Part::Model => Fault::STORE.map(Fault::name).to_vec(),
             Part::Files => Fault::READING.map(Fault::name).to_vec(),
+            Part::Writing => Fault::WRITING.map(Fault::name).to_vec(),
             Part::Jena => comparison::FAULTS.map(|fault| fault.0).to_vec(),
             Part::Memory => Vec::new(),
             Part::Readers => files::Fault::ALL.map(files::Fault::name).to_vec(),
-            Part::Sample => library::Fault::ALL.map(library::Fault::name).to_vec(),
+            Part::Sample => lending::Fault::ALL.map(lending::Fault::name).to_vec(),
         }
     }
 }
@@ -56,7 +60,8 @@ impl Part {
 pub struct Options {
     pub part: Part,
     pub seed: u64,
-    /// Histories of the part `Model`, files of the part `Files`, small stores of the part `Jena`.
+    /// Histories of the part `Model`, files of the part `Files`, tables of the part `Writing`, small
+    /// stores of the part `Jena`.
     pub cases: Option<u64>,
     pub fault: Option<String>,
     pub replay: Option<PathBuf>,
@@ -118,8 +123,14 @@ impl Options {
 /// Says how this program is called, and ends.
 pub fn usage() -> ! {
     eprintln!("usage: trial [--part NAME] [--seed N] [--cases N] [--fault NAME] [--replay FILE]");
-    eprintln!("parts: model, files, jena, memory, readers");
-    for part in [Part::Model, Part::Files, Part::Jena, Part::Readers] {
+    eprintln!("parts: model, files, writing, jena, memory, readers");
+    for part in [
+        Part::Model,
+        Part::Files,
+        Part::Writing,
+        Part::Jena,
+        Part::Readers,
+    ] {
         eprintln!("faults of {}: {}", part.name(), part.faults().join(", "));
     }
     exit(2)

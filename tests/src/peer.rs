@@ -3,7 +3,7 @@
 use crate::model::questions::read_question;
 use crate::model::terms::*;
 use crate::outcome::Outcome;
-use crate::store::Store;
+use crate::store::{rows_of, Store};
 use peers::{Jena, Question, Rows};
 use std::fmt;
 use std::path::Path;
@@ -86,6 +86,11 @@ impl Peer {
         Ok(())
     }
 
+    /// Lets Jena work out what holds by a file of N-Triples, and write the facts of it to another.
+    pub fn hold(&mut self, file: &Path, written: &Path) {
+        answered(self.jena.hold(file, written));
+    }
+
     /// Gives Jena a file of rules, and forgets what was told and compared before.
     pub fn use_rules(&mut self, rules: &Path) {
         answered(self.jena.use_rules(rules));
@@ -97,12 +102,6 @@ impl Peer {
 /// What Jena answered; a trial in which it did not is none.
 fn answered<T>(answer: Result<T, String>) -> T {
     answer.unwrap_or_else(|words| panic!("{words}"))
-}
-
-/// The rows of a well-formed table.
-fn rows_of(words: &[u32]) -> impl Iterator<Item = Triple> + '_ {
-    let rows = words[1..].chunks_exact(3).take(words[0] as usize);
-    rows.map(|row| [row[0], row[1], row[2]])
 }
 
 /// Compares the library's rows, which are ascending, with Jena's, as sets.

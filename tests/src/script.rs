@@ -16,9 +16,11 @@
 //!     alternatives S P O LENGTH FILL
 //!     list TABLE ORDER LENGTH FILL
 //!     read LENGTH FILL BYTES    a file read with the dictionary into a delivery of LENGTH bytes
+//!     write TABLE LENGTH FILL   a table written with the dictionary to an output of LENGTH bytes
 //!     expect NUMBER             what the last call answered; also `expect result W W W W`,
 //!                               `expect count N`, `expect output WORDS`, `expect TABLE WORDS`,
-//!                               `expect delivery BYTES`, `expect dictionary BYTES`
+//!                               `expect delivery BYTES`, `expect dictionary BYTES`,
+//!                               `expect lines BYTES`
 
 use crate::model::terms::Triple;
 use crate::random::Random;
@@ -36,6 +38,8 @@ pub enum Call {
     List(Table, u32, Output),
     /// A file, and the delivery that it is read into.
     Read(Vec<u8>, Output),
+    /// A table, and the output that it is written to.
+    Write(Table, Output),
 }
 
 /// The two ways of asking a question.
@@ -45,7 +49,7 @@ pub enum Way {
     Rewritten,
 }
 
-/// A lent output: its number of words, or of bytes for a delivery, and what makes the rubbish in it.
+/// A lent output: its number of words, or of bytes for a delivery and for lines, and what makes the rubbish in it.
 #[derive(Clone, Copy)]
 pub struct Output {
     pub words: usize,
@@ -76,6 +80,7 @@ pub enum Expected {
     Supports(Vec<u16>),
     Delivery(Vec<u8>),
     Dictionary(Vec<u8>),
+    Lines(Vec<u8>),
 }
 
 impl Output {
@@ -121,6 +126,7 @@ impl Call {
             Call::Alternatives(..) => "alternatives".into(),
             Call::List(table, ..) => format!("list {}", table.name()),
             Call::Read(..) => "read".into(),
+            Call::Write(table, _) => format!("write {}", table.name()),
         }
     }
 }
@@ -202,6 +208,7 @@ impl fmt::Display for Call {
                 write!(f, "list {} {order} {output}", table.name())
             }
             Call::Read(file, output) => write!(f, "read {output} {}", show_bytes(file)),
+            Call::Write(table, output) => write!(f, "write {} {output}", table.name()),
         }
     }
 }
@@ -236,6 +243,7 @@ impl fmt::Display for Expected {
             Expected::Supports(words) => write!(f, "supports{}", show_all(&widen(words))),
             Expected::Delivery(bytes) => write!(f, "delivery {}", show_bytes(bytes)),
             Expected::Dictionary(bytes) => write!(f, "dictionary {}", show_bytes(bytes)),
+            Expected::Lines(bytes) => write!(f, "lines {}", show_bytes(bytes)),
         }
     }
 }
@@ -328,6 +336,7 @@ fn parse_expected(texts: &[&str]) -> Option<Expected> {
         ["supports", words @ ..] => Some(Expected::Supports(parse_halves(words)?)),
         ["delivery", bytes @ ..] => Some(Expected::Delivery(parse_bytes(bytes)?)),
         ["dictionary", bytes @ ..] => Some(Expected::Dictionary(parse_bytes(bytes)?)),
+        ["lines", bytes @ ..] => Some(Expected::Lines(parse_bytes(bytes)?)),
         [number] => Some(Expected::Number(number.parse().ok()?)),
         [table, words @ ..] => Some(Expected::Table(parse_table(table)?, parse_words(words)?)),
         [] => None,
@@ -375,6 +384,9 @@ fn parse_command(texts: &[&str]) -> Option<Command> {
         ),
         ["read", bytes, fill, file @ ..] => {
             Call::Read(parse_bytes(file)?, parse_output(bytes, fill)?)
+        }
+        ["write", table, bytes, fill] => {
+            Call::Write(parse_table(table)?, parse_output(bytes, fill)?)
         }
         _ => return None,
     };

@@ -202,6 +202,7 @@ impl<'a> Session<'a> {
             Expected::Delivery(bytes) => {
                 differ_words("the delivery", &last.delivery, bytes, papers)
             }
+            Expected::Lines(bytes) => differ_words("the lines", &last.lines, bytes, papers),
             Expected::Dictionary(bytes) => {
                 differ_words("the dictionary", &self.store.dictionary, bytes, papers)
             }
@@ -240,6 +241,12 @@ impl Model {
                 let mut delivery = output.lent_bytes();
                 let reply = self.read(file, &mut store.dictionary, &mut delivery);
                 Outcome::of_reading(reply, delivery)
+            }
+            Call::Write(table, output) => {
+                let mut lines = output.lent_bytes();
+                let words = store.table(*table);
+                let reply = self.write(*table, words, &store.dictionary, &mut lines);
+                Outcome::of_writing(reply, lines)
             }
         }
     }
@@ -347,7 +354,8 @@ fn differ_outcome(found: &Outcome, expected: &Outcome, by: &str) -> Result<(), S
     differ("the count", found.count, expected.count, by)?;
     differ_words("the result", &found.result, &expected.result, by)?;
     differ_words("the output", &found.output, &expected.output, by)?;
-    differ_words("the delivery", &found.delivery, &expected.delivery, by)
+    differ_words("the delivery", &found.delivery, &expected.delivery, by)?;
+    differ_words("the lines", &found.lines, &expected.lines, by)
 }
 
 fn differ_store(found: &Store, expected: &Store, by: &str) -> Result<(), String> {

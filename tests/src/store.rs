@@ -1,5 +1,7 @@
 //! What is lent to library and model alike: the four tables, and a dictionary.
 
+use crate::model::terms::Triple;
+
 /// The words of a store, and the bytes of a dictionary.
 #[derive(Clone, Default, PartialEq)]
 pub struct Store {
@@ -65,4 +67,10 @@ impl Store {
     pub fn words(rows: usize) -> usize {
         3 * rows + 1
     }
+}
+
+/// The rows of a well-formed table.
+pub fn rows_of(words: &[u32]) -> impl Iterator<Item = Triple> + '_ {
+    let rows = words[1..].chunks_exact(3).take(words[0] as usize);
+    rows.map(|row| [row[0], row[1], row[2]])
 }

@@ -107,6 +107,14 @@ impl Jena {
         Ok(())
     }
 
+    /// Works out what holds by a file of N-Triples alone, and writes the facts of it to another, in
+    /// Jena's order.
+    pub fn hold(&mut self, file: &Path, written: &Path) -> Outcome<()> {
+        let request = format!("hold {} {}\n", file.display(), written.display());
+        self.pipe.call(&request)?;
+        Ok(())
+    }
+
     /// Reads a file of N-Triples so many times, from memory: how many of its parts it has, and how long
     /// each time takes.
     pub fn read_times(
@@ -116,6 +124,13 @@ impl Jena {
         runs: usize,
     ) -> Outcome<(usize, Vec<Duration>)> {
         let request = format!("{} {runs} {}\n", parts.command(), file.display());
+        Ok(self.pipe.call(&request)?.counted_times())
+    }
+
+    /// Reads a file of N-Triples into a graph, and writes that as N-Triples so many times, to memory: how
+    /// many bytes it writes, and how long each time takes.
+    pub fn write_times(&mut self, file: &Path, runs: usize) -> Outcome<(usize, Vec<Duration>)> {
+        let request = format!("time-write {runs} {}\n", file.display());
         Ok(self.pipe.call(&request)?.counted_times())
     }
 

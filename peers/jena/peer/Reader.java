@@ -7,6 +7,9 @@ import java.io.UncheckedIOException;
 import java.io.Writer;
 import java.nio.file.Files;
 import java.nio.file.Path;
+import java.util.ArrayList;
+import java.util.List;
+import java.util.function.Consumer;
 import org.apache.jena.graph.Node;
 import org.apache.jena.graph.Triple;
 import org.apache.jena.riot.Lang;
@@ -28,9 +31,29 @@ final class Reader extends StreamRDFBase {
 
     /** Reads a file, and writes what was read: the number of triples. */
     static long read(Path file, Path written) throws IOException {
+        InputStream input = Files.newInputStream(file);
+        return write(written, reader -> parse(input, reader));
+    }
+
+    /** Reads a file, works out what holds in a store, and writes the facts of that: the number of facts. */
+    static long hold(Store store, Path file, Path written) throws IOException {
+        List<Triple> triples = new ArrayList<>();
+        parse(Files.newInputStream(file), new StreamRDFBase() {
+            @Override
+            public void triple(Triple triple) {
+                triples.add(triple);
+            }
+        });
+        store.add(triples);
+        store.work();
+        return write(written, reader -> store.facts(reader::triple));
+    }
+
+    /** Writes the triples that a reader is given: their number. */
+    private static long write(Path written, Consumer<Reader> give) throws IOException {
         try (BufferedWriter output = Files.newBufferedWriter(written)) {
             Reader reader = new Reader(output);
-            parse(Files.newInputStream(file), reader);
+            give.accept(reader);
             return reader.count;
         }
     }

@@ -34,14 +34,16 @@ import org.apache.jena.reasoner.rulesys.Rule;
  * ask WORDS         a row of words for each answer of a question              ok COUNT
  * time N WORDS      answers a question N times, without giving its rows       ok COUNT NANOSECONDS, N of them
  * read FILE OUT     reads a file of N-Triples, and writes its triples in order  ok COUNT
+ * hold FILE OUT     likewise writes the facts that hold by a file            ok COUNT
  * time-read N FILE  reads a file of N-Triples N times, and counts its triples  ok COUNT NANOSECONDS, N of them
  * time-number N FILE  likewise, and numbers and counts its distinct terms     ok COUNT NANOSECONDS, N of them
+ * time-write N FILE  reads a file of N-Triples into a graph, and writes that N times  ok BYTES NANOSECONDS, N of them
  * ask-explicit TEXT, time-explicit N TEXT   likewise for SPARQL among the explicit triples, where w and a word stand for a node
  * </pre>
  *
  * After "work", "add" keeps what holds up to date. The nanoseconds of "add" and "withdraw" are those of the store, not of reading the
  * lines; those of "time" go from the parsed text to the last row; those of "time-read" and "time-number" from the file's bytes in memory to
- * the last triple.
+ * the last triple; those of "time-write" from the graph to the last byte in memory.
  */
 public final class Server {
     private final BufferedReader input;
@@ -114,6 +116,8 @@ public final class Server {
                 return "ok " + time(Integer.parseInt(arguments.get(0)), question(arguments.subList(1, arguments.size())));
             case "read":
                 return "ok " + Reader.read(Path.of(arguments.get(0)), Path.of(arguments.get(1)));
+            case "hold":
+                return "ok " + Reader.hold(new Store(rules), Path.of(arguments.get(0)), Path.of(arguments.get(1)));
             case "time-read": {
                 byte[] file = Files.readAllBytes(Path.of(arguments.get(1)));
                 return "ok " + times(Integer.parseInt(arguments.get(0)), () -> Numbering.triples(file));
@@ -121,6 +125,10 @@ public final class Server {
             case "time-number": {
                 byte[] file = Files.readAllBytes(Path.of(arguments.get(1)));
                 return "ok " + times(Integer.parseInt(arguments.get(0)), () -> Numbering.terms(file));
+            }
+            case "time-write": {
+                Rewriter writer = new Rewriter(Files.readAllBytes(Path.of(arguments.get(1))));
+                return "ok " + times(Integer.parseInt(arguments.get(0)), writer::write);
             }
             case "ask-explicit":
                 return "ok " + ask(new Question(arguments));

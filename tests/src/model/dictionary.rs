@@ -157,6 +157,13 @@ impl Model {
         Ok(additions.len())
     }
 
+    /// The texts that terms have with a dictionary, those of the vocabulary too; none where its bytes are
+    /// not well formed (question 1).
+    pub fn dictionary_texts(&self, dictionary: &[u8]) -> Option<HashMap<u32, Text>> {
+        let terms = Dictionary::of(*self, dictionary)?.terms.into_iter();
+        Some(terms.map(|(text, term)| (term, text)).collect())
+    }
+
     /// The triples of a file's lines, whose new texts are entered "in order of first sight"; none
     /// where no number is left.
     fn triples(&self, dictionary: &mut Dictionary, lines: Vec<Texts>) -> Option<Vec<Triple>> {

@@ -59,6 +59,32 @@ pub enum Fault {
     LengthCut,
     /// Texts behind the first 49,152 of a dictionary are not found.
     FirstSegment,
+    /// Two spaces stand behind a term of a line.
+    TwoSpaces,
+    /// No space stands before the dot of a line.
+    NoLastSpace,
+    /// A line that is written ends in CR and LF.
+    ReturnedLine,
+    /// A term is written by the text of the next.
+    NeighbourText,
+    /// A tab is written as an escape.
+    TabWritten,
+    /// The last row is written first.
+    RowsReversed,
+    /// The vocabulary has no texts but those of entries.
+    VocabularyUnknown,
+    /// 16 is not asked of the last row.
+    LastUnasked,
+    /// 8 is asked before 16.
+    FullFirst,
+    /// An output may have one byte too few.
+    ByteShort,
+    /// 16 leaves the output as it was.
+    OutputLeft,
+    /// The bytes behind the lines stay as they were.
+    RestLeft,
+    /// Texts behind the first 16,384 of a kind are not found.
+    FirstPlaces,
 }
 
 impl Fault {
@@ -98,6 +124,23 @@ impl Fault {
         Fault::FirstSegment,
     ];
 
+    /// Those of writing N-Triples.
+    pub const WRITING: [Fault; 13] = [
+        Fault::TwoSpaces,
+        Fault::NoLastSpace,
+        Fault::ReturnedLine,
+        Fault::NeighbourText,
+        Fault::TabWritten,
+        Fault::RowsReversed,
+        Fault::VocabularyUnknown,
+        Fault::LastUnasked,
+        Fault::FullFirst,
+        Fault::ByteShort,
+        Fault::OutputLeft,
+        Fault::RestLeft,
+        Fault::FirstPlaces,
+    ];
+
     /// The name by which the command line calls a fault.
     pub fn name(self) -> &'static str {
         match self {
@@ -129,6 +172,19 @@ impl Fault {
             Fault::OtherTexts => "other-texts",
             Fault::LengthCut => "length-cut",
             Fault::FirstSegment => "first-segment",
+            Fault::TwoSpaces => "two-spaces",
+            Fault::NoLastSpace => "no-last-space",
+            Fault::ReturnedLine => "returned-line",
+            Fault::NeighbourText => "neighbour-text",
+            Fault::TabWritten => "tab-written",
+            Fault::RowsReversed => "rows-reversed",
+            Fault::VocabularyUnknown => "vocabulary-unknown",
+            Fault::LastUnasked => "last-unasked",
+            Fault::FullFirst => "full-first",
+            Fault::ByteShort => "byte-short",
+            Fault::OutputLeft => "output-left",
+            Fault::RestLeft => "rest-left",
+            Fault::FirstPlaces => "first-places",
         }
     }
 }

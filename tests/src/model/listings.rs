@@ -22,12 +22,7 @@ impl Model {
     /// "A listing of a table has its rows' words put in that order and sorted ascending", unless 1
     /// or 12 refuses.
     pub fn list(&self, table: Table, words: &[u32], order: u32) -> Result<Graph, u32> {
-        let rows = match table {
-            Table::Statements => tables::read_statements(words),
-            Table::Facts => tables::read_facts(words),
-            Table::Kept => tables::read_kept(words),
-        };
-        let rows = rows.ok_or(1u32)?;
+        let rows = tables::read_rows(table, words).ok_or(1u32)?;
         let mut orders = ORDERS;
         if self.fault == Some(Fault::OrderRotated) {
             orders[2] = "POS";

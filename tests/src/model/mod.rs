@@ -1,5 +1,5 @@
-//! An independent model of the store, written from document 01 alone, and of the reading of N-Triples,
-//! written from W3C's grammar and document 02.
+//! An independent model of the store, written from document 01 alone, and of the reading and writing of
+//! N-Triples, written from W3C's grammar and document 02.
 //!
 //! Quoted sentences are those of the documents. The model is naive on purpose: sets, fixpoints and joins
 //! over everything, so that it shares no algorithm with the library.
@@ -16,6 +16,7 @@ pub mod rules;
 pub mod tables;
 pub mod terms;
 pub mod updates;
+pub mod writing;
 
 pub use faults::Fault;
 

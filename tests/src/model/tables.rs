@@ -1,7 +1,7 @@
 //! Tables as words: question 1, and how rows are written back.
 
 use super::terms::*;
-use crate::store::Store;
+use crate::store::{Store, Table};
 use std::collections::BTreeMap;
 
 // "at most 512 statements, 65,535 facts, 262,143 kept facts".
@@ -59,6 +59,15 @@ pub fn read_kept(words: &[u32]) -> Option<Graph> {
     rows(words, KEPT, is_fact)
 }
 
+/// The rows of one table that is lent alone, unless malformed.
+pub fn read_rows(table: Table, words: &[u32]) -> Option<Graph> {
+    match table {
+        Table::Statements => read_statements(words),
+        Table::Facts => read_facts(words),
+        Table::Kept => read_kept(words),
+    }
+}
+
 /// The supports: "one for each kept row in order, then zeros; each lies between 1 and the number of
 /// facts."
 fn read_supports(places: &[u16], rows: usize, facts: usize) -> Option<Vec<u32>> {
@@ -90,7 +99,7 @@ pub fn is_well_formed(content: &Content) -> bool {
 }
 
 /// Writes rows as a table: the count, the rows, "then zeros to the end".
-fn write_rows<'a>(words: &mut [u32], rows: impl Iterator<Item = &'a Triple>) {
+pub fn write_rows<'a>(words: &mut [u32], rows: impl Iterator<Item = &'a Triple>) {
     words.fill(0);
     for (i, row) in rows.enumerate() {
         words[0] += 1;

@@ -62,7 +62,7 @@ pub fn files(harness: &mut Harness, seed: u64) -> Result<(), Failure> {
 }
 
 /// Texts that no entry may have, and some that one may.
-const TEXTS: [&[u8]; 44] = [
+pub const TEXTS: [&[u8]; 44] = [
     b"<http://www.w3.org/1999/02/22-rdf-syntax-ns#type>",
     b"<http://www.w3.org/2000/01/rdf-schema#subClassOf>",
     b"<http://www.w3.org/2000/01/rdf-schema#subPropertyOf>",
@@ -181,14 +181,11 @@ fn damage_bytes(random: &mut Random, dictionary: &mut Vec<u8>, filled: usize) {
     }
 }
 
-/// A file with a dictionary that was grown and then damaged, now and then so that its entries are
-/// numbered as they should be again.
-pub fn dictionaries(harness: &mut Harness, seed: u64) -> Result<(), Failure> {
-    let mut random = Random::new(seed);
-    let source = Source::with_names(&mut random, LINES);
-    let mut entries = entries::of(&grown(&[], &files::file(&mut random, &source)));
+/// A dictionary of entries that are damaged, now and then so that they are numbered as they should be
+/// again.
+pub fn dictionary(random: &mut Random, mut entries: Vec<Entry>) -> Vec<u8> {
     for _ in 0..random.below(3) {
-        damage_entries(&mut random, &mut entries);
+        damage_entries(random, &mut entries);
     }
     if random.once_in(2) {
         entries = entries::numbered(entries.into_iter().map(|entry| entry.text));
@@ -197,8 +194,17 @@ pub fn dictionaries(harness: &mut Harness, seed: u64) -> Result<(), Failure> {
     let filled = dictionary.len();
     dictionary.resize(filled + random.pick(&[0, 1, 11, 12, 40, 400]), 0);
     if random.once_in(3) {
-        damage_bytes(&mut random, &mut dictionary, filled);
+        damage_bytes(random, &mut dictionary, filled);
     }
+    dictionary
+}
+
+/// A file with a dictionary that was grown and then damaged.
+pub fn dictionaries(harness: &mut Harness, seed: u64) -> Result<(), Failure> {
+    let mut random = Random::new(seed);
+    let source = Source::with_names(&mut random, LINES);
+    let entries = entries::of(&grown(&[], &files::file(&mut random, &source)));
+    let dictionary = dictionary(&mut random, entries);
     let file = files::file(&mut random, &source);
     let length = delivery_length(file.triples.len());
     read(

@@ -7,7 +7,7 @@ use crate::script::Command;
 use crate::session::{Failure, Harness, Session};
 
 /// The triples that a delivery has room for.
-const MOST_LINES: usize = 5_460;
+pub const MOST_LINES: usize = 5_460;
 
 /// The texts that the library's index of a dictionary leads to at most.
 const SEGMENT: usize = 49_152;

@@ -1,12 +1,12 @@
 //! N-Triples read by library and model side by side.
 
 mod characters;
-mod damage;
-mod drawn;
-mod large;
+pub mod damage;
+pub mod drawn;
+pub mod large;
 mod places;
 mod slots;
-mod traps;
+pub mod traps;
 
 use crate::plan::{Directed, Phase};
 use crate::random::Random;
@@ -55,7 +55,7 @@ pub const PHASES: [Phase; 7] = [
 
 /// A session in which slices of no byte are null pointers, or calls are made by the binding for Rust,
 /// now and then.
-fn opened<'a>(harness: &'a mut Harness, random: &mut Random) -> Result<Session<'a>, Failure> {
+pub fn opened<'a>(harness: &'a mut Harness, random: &mut Random) -> Result<Session<'a>, Failure> {
     let mut session = Session::new(harness);
     match random.below(16) {
         0 => session.run(Command::Binding(true))?,
@@ -66,7 +66,7 @@ fn opened<'a>(harness: &'a mut Harness, random: &mut Random) -> Result<Session<'
 }
 
 /// The call that reads a file into a delivery of so many bytes.
-fn call(file: &[u8], length: usize) -> Call {
+pub fn call(file: &[u8], length: usize) -> Call {
     let output = Output {
         words: length,
         fill: 3,
@@ -98,6 +98,6 @@ fn expect(
 }
 
 /// The bytes of a delivery of so many triples.
-fn delivery_length(triples: usize) -> usize {
+pub fn delivery_length(triples: usize) -> usize {
     10 + 12 * triples
 }

@@ -6,7 +6,7 @@ use crate::model::dictionary::VOCABULARY;
 use crate::script::Command;
 use crate::session::{Failure, Harness, Session};
 
-/// The slot at which the library looks for a text first, as crates/dictionary_bytes has it.
+/// The slot at which the library looks for a text first, as crates/dictionary_hash has it.
 fn slot_of(text: &str) -> u64 {
     let on = |hash: u64, byte: u8| (hash * 16_777_619 + u64::from(byte)) % (1 << 32);
     let hash = text.bytes().fold(0, on);

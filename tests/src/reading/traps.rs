@@ -89,7 +89,7 @@ pub fn run(harness: &mut Harness) -> Result<(), Failure> {
 }
 
 /// Objects as they are written, and their canonical texts.
-const TEXTS: [(&str, &str); 14] = [
+pub const CANONICAL: [(&str, &str); 14] = [
     ("<\\u0068ttp://e/A>", "<http://e/A>"),
     ("<http://e/%41/../a>", "<http://e/%41/../a>"),
     ("_:a.b", "_:a.b"),
@@ -117,7 +117,7 @@ const TEXTS: [(&str, &str); 14] = [
 
 /// Each object is entered by its canonical text.
 pub fn texts(harness: &mut Harness) -> Result<(), Failure> {
-    for (written, text) in TEXTS {
+    for (written, text) in CANONICAL {
         let file = format!("<a:> <a:> {written} .");
         let known = ["<a:>", text].map(|text| text.as_bytes().to_vec());
         let wanted = entries::bytes(&entries::numbered(known));

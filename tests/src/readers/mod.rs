@@ -1,5 +1,8 @@
 //! N-Triples read by the library and by the model, on files that are valid by construction, and
-//! beside the readers of Apache Jena and of raptor (its program rapper).
+//! beside the readers of Apache Jena and of raptor (its program rapper); and N-Triples that the library
+//! writes, read by these and by serd (its program serdi).
+
+pub mod written;
 
 use crate::entries;
 use crate::fence::Memory;
@@ -34,6 +37,13 @@ const PHASE: u64 = 24;
 /// A difference, in words.
 type Difference = String;
 
+/// A program that reads a file of N-Triples and writes its triples: its name and its arguments.
+type Program = (&'static str, &'static [&'static str]);
+
+/// Raptor's and serd's.
+const RAPPER: Program = ("rapper", &["-q", "-i", "ntriples", "-o", "ntriples"]);
+const SERDI: Program = ("serdi", &["-i", "ntriples", "-o", "ntriples"]);
+
 /// Where the files lie that the other programs read, and what they write; and the library.
 pub struct Desk {
     jena: Jena,
@@ -61,19 +71,16 @@ impl Desk {
         by_model(&written).map_err(|_| "what Jena wrote is not read".to_string())
     }
 
-    /// The triples that rapper reads, as it writes them.
-    fn by_rapper(&self) -> Result<Vec<Texts>, Difference> {
-        let mut command = Command::new("rapper");
-        command.args(["-q", "-i", "ntriples", "-o", "ntriples"]);
-        let output = command
-            .arg(&self.file)
-            .output()
-            .expect("rapper cannot be started");
+    /// The triples that a program reads, as it writes them.
+    fn by_program(&self, (name, arguments): Program) -> Result<Vec<Texts>, Difference> {
+        let mut command = Command::new(name);
+        let started = command.args(arguments).arg(&self.file).output();
+        let output = started.unwrap_or_else(|error| panic!("{name} cannot be started: {error}"));
         if !output.status.success() {
             let error = String::from_utf8_lossy(&output.stderr);
-            return Err(format!("rapper does not read the file: {error}"));
+            return Err(format!("{name} does not read the file: {error}"));
         }
-        by_model(&output.stdout).map_err(|_| "what rapper wrote is not read".to_string())
+        by_model(&output.stdout).map_err(|_| format!("what {name} wrote is not read"))
     }
 
     /// The triples that the library reads: those of its delivery, by the texts of its dictionary.
@@ -112,17 +119,22 @@ impl Desk {
         differ("Jena", &file.triples, &read)?;
         self.compare_library(&file, read)?;
         let narrow = self.lay(&mut random, Range::Raptor, fault);
-        let read = self.by_rapper()?;
+        let read = self.by_program(RAPPER)?;
         differ("rapper", &narrow.triples, &read)?;
         self.compare_library(&narrow, read)?;
         Ok(file.triples.len() + narrow.triples.len())
     }
 
-    /// Lays a file where the programs read it.
+    /// Draws a file, and lays it where the programs read it.
     fn lay(&self, random: &mut Random, range: Range, fault: Option<Fault>) -> File {
         let file = drawn(random, SHARED_LINES, range, fault);
-        std::fs::write(&self.file, &file.bytes).expect("the file cannot be written");
+        self.lay_bytes(&file.bytes);
         file
+    }
+
+    /// Lays bytes where the programs read them.
+    fn lay_bytes(&self, bytes: &[u8]) {
+        std::fs::write(&self.file, bytes).expect("the file cannot be written");
     }
 
     /// Lets the library read a file of which its triples are known.
