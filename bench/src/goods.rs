@@ -1,5 +1,7 @@
 //! Made-up goods of a grocer as N-Triples: files of triples about them, and dictionaries of their texts.
 
+use families::Triple;
+use std::collections::BTreeSet;
 use workload::Random;
 
 /// How many texts the dictionaries have.
@@ -34,8 +36,9 @@ const NUMBER: &str = "<https://schema.org/gtin13>";
 const MODIFIED: &str = "<https://schema.org/dateModified>";
 const PROPERTIES: [&str; 8] = [BRAND, RELATED, SIMILAR, PRICE, NAME, DESCRIPTION, NUMBER, MODIFIED];
 
-/// The property of classes, which has a number in every dictionary, without an entry.
+/// The property of classes, which has a number in every dictionary, without an entry, and its term.
 const TYPE: &str = "<http://www.w3.org/1999/02/22-rdf-syntax-ns#type>";
+const TYPE_TERM: u32 = 1;
 
 /// What goods are called.
 const NAMES: [&str; 6] = ["Sparkling Lemonade", "Roasted Coffee", "Rye Bread", "Peach Juice", "Mountain Cheese", "Dried Apricots"];
@@ -202,4 +205,32 @@ pub fn dictionary(n: usize) -> Vec<u8> {
     }
     bytes.extend(vec![0; ROOM]);
     bytes
+}
+
+/// So many facts about all goods of a dictionary of n texts, ascending: in turn a good's name, its number, a class, its brand and a related good.
+pub fn facts(rows: usize, n: usize) -> Vec<Triple> {
+    let mut random = Random::new(31);
+    let goods = (n - PROPERTIES.len() - CLASSES - BRANDS) / 3;
+    let [class, brand, good] = [0, CLASSES, CLASSES + BRANDS].map(|i| FIRST_IRI + (PROPERTIES.len() + i) as u32);
+    let [branded, related, named, numbered] = [BRAND, RELATED, NAME, NUMBER].map(property);
+    let mut set = BTreeSet::new();
+    for turn in 0.. {
+        if set.len() == rows {
+            break;
+        }
+        let i = (turn % goods) as u32;
+        set.insert(match turn / goods % 5 {
+            0 => [good + i, named, FIRST_LITERAL + 2 * i],
+            1 => [good + i, numbered, FIRST_LITERAL + 2 * i + 1],
+            2 => [good + i, TYPE_TERM, class + random.below(CLASSES as u32)],
+            3 => [good + i, branded, brand + random.below(BRANDS as u32)],
+            _ => [good + i, related, good + random.below(goods as u32)],
+        });
+    }
+    set.into_iter().collect()
+}
+
+/// The term of a property of goods, the first texts of a dictionary.
+fn property(text: &str) -> u32 {
+    FIRST_IRI + PROPERTIES.iter().position(|&property| property == text).expect("a property") as u32
 }

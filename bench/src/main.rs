@@ -1,7 +1,7 @@
 //! Measures the exported library beside SWI-Prolog, PostgreSQL and Apache Jena, in one run on one workload, its reader of N-Triples beside
-//! those of Jena and of raptor, and the library by itself. Writes target/bench/report.md and target/bench/plot.svg; with --docs also the
-//! tables in docs/BENCHMARKS.md and docs/benchmarks.svg. The other arguments are the peers to run (prolog, postgres, jena, rapper), --quick
-//! for a small workload that shows only that all works, and --only=PART for one part of the tables (stores, alone, reading, stack).
+//! those of Jena and of raptor, its writer beside those of Jena, of raptor and of serd, and the library by itself. Writes target/bench/report.md and target/bench/plot.svg; with --docs also the
+//! tables in docs/BENCHMARKS.md and docs/benchmarks.svg. The other arguments are the peers to run (prolog, postgres, jena, rapper, serdi), --quick
+//! for a small workload that shows only that all works, and --only=PART for one part of the tables (stores, alone, reading, writing, stack).
 
 mod alone;
 mod clock;
@@ -9,6 +9,7 @@ mod contest;
 mod goods;
 mod hub;
 mod jena;
+mod laid;
 mod measure;
 mod numbers;
 mod ours;
@@ -23,6 +24,8 @@ mod scale;
 mod stack;
 mod tables;
 mod thresholds;
+mod writers;
+mod writing;
 
 use alone::Alone;
 use clock::{milliseconds, progress};
@@ -33,9 +36,10 @@ use readers::Reader;
 use report::Report;
 use scale::Scale;
 use workload::GROWING;
+use writers::Writer;
 
 /// The peers, by name.
-const PEERS: [&str; 4] = ["prolog", "postgres", "jena", "rapper"];
+const PEERS: [&str; 5] = ["prolog", "postgres", "jena", "rapper", "serdi"];
 
 /// Starts the store of a peer, if it has one.
 fn start(peer: &str) -> Outcome<Option<Box<dyn Contestant>>> {
@@ -116,16 +120,29 @@ fn reading(scale: &Scale, peers: &[String]) -> Outcome<Report> {
     ]))
 }
 
+/// Our library's writer of N-Triples beside those of peers, and by itself.
+fn writing(scale: &Scale, peers: &[String]) -> Outcome<Report> {
+    let mut writers: Vec<Box<dyn Writer>> = Vec::new();
+    for peer in peers {
+        writers.extend(writers::start(peer)?);
+    }
+    Ok(Report::of(vec![
+        ("Writing N-Triples", writing::contest(scale, &mut writers)?),
+        ("Our library alone: writing N-Triples", writing::by_size(scale)?),
+    ]))
+}
+
 /// The stack that calls of our library take.
 fn stack(scale: &Scale) -> Outcome<Report> {
-    Ok(Report::of(vec![("Our library alone: stack", stack::calls(scale, &measure::statements()))]))
+    Ok(Report::of(vec![("Our library alone: stack", stack::calls(scale, &measure::statements())?)]))
 }
 
 /// A part of the tables, measured with the peers named.
 type Part = fn(&Scale, &[String]) -> Outcome<Report>;
 
 /// The parts of the tables, by name.
-const PARTS: [(&str, Part); 4] = [("stores", stores), ("alone", |scale, _| alone(scale)), ("reading", reading), ("stack", |scale, _| stack(scale))];
+const PARTS: [(&str, Part); 5] =
+    [("stores", stores), ("alone", |scale, _| alone(scale)), ("reading", reading), ("writing", writing), ("stack", |scale, _| stack(scale))];
 
 /// What the command line asks for.
 #[derive(Default)]

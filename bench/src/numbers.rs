@@ -28,6 +28,11 @@ pub fn times(time: Duration, unit: Duration) -> String {
     digits(ratio(time, unit), 2)
 }
 
+/// Bytes a second.
+pub fn rate(bytes: usize, time: Duration) -> String {
+    format!("{} MB/s", digits(bytes as f64 / time.as_secs_f64() / 1e6, 2))
+}
+
 /// A part of a whole.
 pub fn percent(part: Duration, whole: Duration) -> String {
     format!("{} %", digits(100.0 * ratio(part, whole), 2))

@@ -2,37 +2,16 @@
 
 use crate::clock::{least, timed};
 use crate::contest::Outcome;
+use crate::laid::Laid;
 use crate::scale::Scale;
 use peers::{rapper, Parts};
-use std::path::{Path, PathBuf};
+use std::path::Path;
 use std::time::Duration;
 
-/// A file where other programs read it, by itself and many times over, with what our library finds in it.
-pub struct Laid {
-    file: PathBuf,
-    over: PathBuf,
-    empty: PathBuf,
-    copies: usize,
-    triples: usize,
-    terms: usize,
-}
-
-impl Laid {
-    /// Lays a file out.
-    pub fn new(text: &str, copies: usize, triples: usize, terms: usize) -> Outcome<Laid> {
-        let lay = |name: &str, text: &str| {
-            let path = Path::new("target/bench").join(name);
-            std::fs::write(&path, text).map(|()| path).map_err(|error| format!("{name}: {error}"))
-        };
-        Ok(Laid {
-            file: lay("reading.nt", text)?,
-            over: lay("reading-over.nt", &text.repeat(copies))?,
-            empty: lay("reading-empty.nt", "")?,
-            copies,
-            triples,
-            terms,
-        })
-    }
+/// What our library finds in a file: its triples, and their distinct terms.
+pub struct Found {
+    pub triples: usize,
+    pub terms: usize,
 }
 
 /// A reader of N-Triples in another program.
@@ -41,7 +20,7 @@ pub trait Reader {
     fn name(&self) -> &'static str;
 
     /// Reads a file again and again: the least time of one reading. It must find what our library does.
-    fn time(&mut self, scale: &Scale, laid: &Laid) -> Outcome<Duration>;
+    fn time(&mut self, scale: &Scale, laid: &Laid, found: &Found) -> Outcome<Duration>;
 }
 
 /// Starts the readers of a peer, which may have none.
@@ -74,8 +53,8 @@ impl Reader for Jena {
         }
     }
 
-    fn time(&mut self, scale: &Scale, laid: &Laid) -> Outcome<Duration> {
-        let expected = if self.parts == Parts::Triples { laid.triples } else { laid.terms };
+    fn time(&mut self, scale: &Scale, laid: &Laid, found: &Found) -> Outcome<Duration> {
+        let expected = if self.parts == Parts::Triples { found.triples } else { found.terms };
         let mut all = Vec::new();
         while all.iter().sum::<Duration>() < scale.read_again {
             let (count, times) = self.client.read_times(self.parts, &laid.file, scale.readings)?;
@@ -107,9 +86,9 @@ impl Reader for Rapper {
         "rapper, triples counted"
     }
 
-    fn time(&mut self, scale: &Scale, laid: &Laid) -> Outcome<Duration> {
-        let all = self.run(scale.rounds, &laid.over, laid.copies * laid.triples)?;
+    fn time(&mut self, scale: &Scale, laid: &Laid, found: &Found) -> Outcome<Duration> {
+        let all = self.run(scale.rounds, &laid.over, laid.copies * found.triples)?;
         let empty = self.run(scale.rounds, &laid.empty, 0)?;
-        Ok(all.saturating_sub(empty) / laid.copies as u32)
+        Ok(laid.once(all, empty))
     }
 }

@@ -4,9 +4,10 @@
 use crate::clock::{least, progress, timed};
 use crate::contest::Outcome;
 use crate::goods::{dictionary, files, File, TEXTS};
-use crate::numbers::{digits, grouped, time};
+use crate::laid::Laid;
+use crate::numbers::{digits, grouped, rate, time};
 use crate::ours::DELIVERY_BYTES;
-use crate::readers::{Laid, Reader};
+use crate::readers::{Found, Reader};
 use crate::scale::Scale;
 use crate::tables::{head, row};
 use std::collections::HashSet;
@@ -64,11 +65,6 @@ fn ours(file: &str, dictionary: &[u8], runs: usize) -> Outcome<(Duration, Read)>
     Ok((least(times), Read::of(&delivery[..length], &lent)))
 }
 
-/// Bytes a second.
-fn rate(bytes: usize, time: Duration) -> String {
-    format!("{} MB/s", digits(bytes as f64 / time.as_secs_f64() / 1e6, 2))
-}
-
 /// What is measured of one file: with each dictionary, our time and what came of it; and the time of each other reader.
 struct Measured {
     file: File,
@@ -85,11 +81,12 @@ impl Measured {
         if ours.iter().any(|(_, read)| read.triples != file.text.lines().count() || read.terms != terms) {
             return Err(format!("our library: {}: not all triples, or other terms with another dictionary", file.name));
         }
-        let laid = Laid::new(&file.text, scale.copies, triples, terms)?;
+        let laid = Laid::new("reading", &file.text, scale.copies)?;
+        let found = Found { triples, terms };
         let mut others = Vec::new();
         for reader in readers {
             progress(&format!("{}: {}", reader.name(), file.name));
-            others.push(reader.time(scale, &laid)?);
+            others.push(reader.time(scale, &laid, &found)?);
         }
         Ok(Measured { file, ours, others })
     }

@@ -19,7 +19,9 @@ pub struct Scale {
     pub lines: Vec<usize>,
     pub readings: usize,
     pub copies: usize,
-    /// For how long Jena reads a file again and again, for the compiler inside Java.
+    /// The rows of tables that are written as N-Triples, with the texts of their dictionaries.
+    pub written: Vec<[usize; 2]>,
+    /// For how long Jena reads or writes a file again and again, for the compiler inside Java.
     pub read_again: Duration,
 }
 
@@ -36,6 +38,7 @@ impl Scale {
             lines: vec![500, 1_000, 2_500, 5_000],
             readings: 21,
             copies: 50,
+            written: vec![[1_000, 1_000], [20_000, 10_000], [262_143, 100_000]],
             read_again: Duration::from_secs(5),
         }
     }
@@ -52,6 +55,7 @@ impl Scale {
             lines: vec![50, 500],
             readings: 3,
             copies: 2,
+            written: vec![[500, 500], [2_000, 1_000]],
             read_again: Duration::from_millis(200),
         }
     }
@@ -59,5 +63,10 @@ impl Scale {
     /// The lines of the longest file of N-Triples.
     pub fn most_lines(&self) -> usize {
         *self.lines.last().expect("a length")
+    }
+
+    /// The rows of the largest table that is written.
+    pub fn most_rows(&self) -> usize {
+        self.written.last().expect("a table")[0]
     }
 }

@@ -2,10 +2,12 @@
 
 use crate::alone::saturated;
 use crate::clock::progress;
+use crate::contest::Outcome;
 use crate::goods::{dictionary, files, TEXTS};
 use crate::numbers::grouped;
 use crate::ours::DELIVERY_BYTES;
 use crate::scale::Scale;
+use crate::writing::Lent;
 use families::{read_ntriples, Order, Store, Table, Triple, Updated};
 use std::alloc::{alloc, dealloc, Layout};
 use std::ffi::c_void;
@@ -117,8 +119,19 @@ fn reading(scale: &Scale) -> usize {
     most
 }
 
+/// The stack that writing takes, the most of all tables.
+fn writing(scale: &Scale) -> Outcome<usize> {
+    let mut most = 0;
+    for &size in &scale.written {
+        let lent = Lent::new(size)?;
+        let mut output = vec![0; lent.lines.len()];
+        most = most.max(taken(|| assert!(lent.write(&mut output).is_ok())));
+    }
+    Ok(most)
+}
+
 /// The stack that each kind of call takes on the largest store.
-pub fn calls(scale: &Scale, statements: &[Triple]) -> String {
+pub fn calls(scale: &Scale, statements: &[Triple]) -> Outcome<String> {
     progress("our library: stack");
     let facts = workload::facts(*scale.sizes.last().expect("a size"), statements.len(), workload::GROWING, 7);
     let mut store = saturated(statements, &facts);
@@ -126,9 +139,10 @@ pub fn calls(scale: &Scale, statements: &[Triple]) -> String {
     measured.extend(updates(&mut store, "statement", statements[0], 0));
     measured.extend(questions(&store));
     measured.push(("a file of N-Triples read, the most of all files and dictionaries".to_string(), reading(scale)));
+    measured.push(("kept facts written as N-Triples, the most of all tables".to_string(), writing(scale)?));
     let mut out = String::from("| call | stack |\n|---|---|\n");
     for (name, bytes) in measured {
         out += &format!("| {name} | {} kB |\n", grouped(bytes.div_ceil(1000)));
     }
-    out
+    Ok(out)
 }
