@@ -31,8 +31,8 @@ fn print_carried(statements: &[u32], fact: Triple) {
         io::write_all(1, b"refused 1\n");
         return;
     }
-    let mut rows = rdfs_derive::no_rows();
-    let n = rdfs_derive::carry(statements, fact, &mut rows);
+    let mut rows = rdfs_carry::no_rows();
+    let n = rdfs_carry::carry(statements, fact, &mut rows);
     print_rows(&rows, n);
 }
 

@@ -1,4 +1,3 @@
 pub mod Same
 pub mod Numbers
-pub mod Hashing
 pub mod Entry

@@ -5,7 +5,6 @@ ghost use lib.ListN.{length, take, drop};
 ghost use Rattle.spec_ntriples.specs.Texts.{isSameText};
 ghost use Rattle.spec_ntriples.specs.Dictionary.{bytesNumber, frontTerm};
 ghost use Rattle.dictionary_bytes.specs.inside.Entries.{lengthAt, textAt};
-ghost use Rattle.dictionary_bytes.specs.inside.Hashes.{hashOn, hashFrom, slotOf};
 
 // The bytes of an entry in front of its text: its term and the text's length.
 pub const HEADER: usize = 12;
@@ -21,46 +20,6 @@ pub struct Filled {
 pub const TERM_BYTES: usize = 4;
 
 pub const LENGTH_BYTES: usize = 8;
-
-// The multiplier of the hash of a text, which has 32 bits; and the one that spreads hashes over the slots.
-const HASH_STEP: u64 = 16777619;
-
-const HASHES: u64 = 4294967296;
-
-const SPREAD: u64 = 2654435769;
-
-// The hash of a text that goes on by a byte.
-pub fn hash_on(h: u64, b: u8) -> u64
-    requires { ⌜ h < 4294967296 ⌝ }
-    ensures { λ r. ⌜ r ≡ hashOn h b ⌝ }
-    ensures { λ r. ⌜ r < 4294967296 ⌝ }
-{
-    (h * HASH_STEP + b as u64) % HASHES
-}
-
-// The hash of a text with a hash that goes on by the n bytes from an index on.
-pub fn hash_from(before: u64, bytes: &[u8], at: usize, n: usize) -> u64
-    requires { ⌜ before < 4294967296 ⌝ }
-    requires { ⌜ at + n ≤ length (now bytes) ⌝ }
-    ensures { λ r. ⌜ r ≡ hashFrom before (take n (drop at (now (bytes .entry)))) ⌝ }
-    ensures { λ r. ⌜ r < 4294967296 ⌝ }
-{
-    let mut h = before;
-    let mut i = 0;
-    while i < n {
-        h = hash_on(h, bytes[at + i]);
-        i += 1;
-    }
-    h
-}
-
-// The slot at which the search for a text with a hash begins.
-pub fn slot_of(h: u64) -> usize
-    requires { ⌜ h < 4294967296 ⌝ }
-    ensures { λ r. ⌜ r ≡ slotOf h ⌝ }
-{
-    (h * SPREAD % HASHES / 65536) as usize
-}
 
 // Whether the n bytes from one index on are those from another on.
 pub fn is_same(a: &[u8], from: usize, b: &[u8], at: usize, n: usize) -> bool

@@ -19,11 +19,11 @@ use Rattle.dictionary_bytes.proofs.Entry.{place-before}
 use Rattle.dictionary_numbers.proofs.Numbering.{counts-filled}
 use Rattle.dictionary_index.specs.inside.Index.{AreEntries}
 use Rattle.dictionary_distinct.specs.inside.Distinct.{Repeat, Distinct}
-use Rattle.dictionary_distinct.proofs.Apartness.{place-less}
+use Rattle.dictionary_repeats.proofs.Repeating.{place-less}
 use Rattle.dictionary_step.specs.inside.Filling.{Filling}
 use Rattle.dictionary_step.proofs.Steps.{not-texts, all-parts, ends}
 use Rattle.dictionary_step.proofs.Texts.{texts-right, texts-repeat}
-use Rattle.dictionary_check.specs.inside.Walked.{Walked}
+use Rattle.dictionary_walk.specs.inside.Walked.{Walked}
 
 module _ (bs : List ℕ) (f : Filled) (W : Walked bs f) where
   abbrev F : Filling bs f

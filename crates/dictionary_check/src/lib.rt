@@ -2,40 +2,12 @@
 use dictionary_bytes::Filled;
 use dictionary_distinct::are_distinct;
 use dictionary_step::Checked;
-use dictionary_step::is_entry;
-use dictionary_step::next_entry;
+use dictionary_walk::walk;
 ghost use mathlib.Core.Path.{_≡_};
 ghost use lib.ListN.{drop};
 ghost use Rattle.spec.specs.Tables.{areZero};
-ghost use Rattle.dictionary_check.specs.inside.Walked.{Walked, IsWalk, IsChecked};
-
-// The first numbers of URIs, and of blanks and literals.
-const FIRST_URI: u32 = 16;
-
-const FIRST_OTHER: u32 = 1;
-
-// Asks the entries one by one.
-fn walk(dictionary: &[u8]) -> Checked
-    ensures { λ r. ⌜ IsWalk (now (dictionary .entry)) r ⌝ }
-{
-    let mut f = Filled {
-        end: 0,
-        uris: FIRST_URI,
-        blanks: FIRST_OTHER,
-        literals: FIRST_OTHER,
-    };
-    while is_entry(dictionary, f.end) {
-        match next_entry(dictionary, f) {
-            Checked::Wrong => {
-                return Checked::Wrong;
-            }
-            Checked::Right(g) => {
-                f = g;
-            }
-        }
-    }
-    Checked::Right(f)
-}
+ghost use Rattle.dictionary_walk.specs.inside.Walked.{Walked};
+ghost use Rattle.dictionary_check.specs.inside.Checked.{IsChecked};
 
 // Whether the bytes from an index on are all zero. The loop has no exit, so that many bytes are read at once.
 fn are_bytes_zero(bytes: &[u8], from: usize) -> bool

@@ -7,7 +7,7 @@ use native.Mathlib.Omega.{arith}
 use lib.ListN.{length, getD, take, drop, set, length-set}
 use lib.Seq.{getD-set-same, getD-set-other}
 use Rattle.dictionary_bytes.specs.inside.Entries.{lengthAt, textAt, placeAt}
-use Rattle.dictionary_bytes.specs.inside.Hashes.{hashFrom, hash, slotOf, homeOf}
+use Rattle.dictionary_hash.specs.inside.Hashes.{hashFrom, hash, slotOf, homeOf}
 use Rattle.dictionary_bytes.proofs.Entry.{places-ascend, place-before}
 use Rattle.dictionary_index.specs.inside.Index.{entryOf, LeadWithin, Passed, FoundAt, FreeAt, Reached, Leads, Index, HasEntry, NoEntry, Searched, EnteredAt, AreEntries}
 use Rattle.dictionary_index.specs.declared.Search.{Search}

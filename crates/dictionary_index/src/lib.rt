@@ -1,9 +1,9 @@
 // The index of a segment of a dictionary's entries: words that lead from a text to its entry, by open addressing without wrapping around.
 use dictionary_bytes::HEADER;
 use dictionary_bytes::has_text;
-use dictionary_bytes::hash_from;
 use dictionary_bytes::length_at;
-use dictionary_bytes::slot_of;
+use dictionary_hash::hash_from;
+use dictionary_hash::slot_of;
 use ntriples_text_same::is_text;
 ghost use mathlib.Core.Path.{_≡_};
 ghost use Prim.Native.Nat.{ℕ, _+_, _≤_};

@@ -1,4 +1,3 @@
-pub mod Finding
 pub mod Staying
 pub mod Segments
 pub mod Room

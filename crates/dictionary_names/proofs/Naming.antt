@@ -18,17 +18,17 @@ use Rattle.spec_ntriples.proofs.Canonical.{text-kind}
 use Rattle.ntriples_bytes.specs.inside.Places.{HasText}
 use Rattle.dictionary_bytes.specs.declared.Filled.{Filled}
 use Rattle.dictionary_bytes.specs.inside.Entries.{textAt, placeAt}
-use Rattle.dictionary_bytes.specs.inside.Hashes.{homeOf}
+use Rattle.dictionary_hash.specs.inside.Hashes.{homeOf}
 use Rattle.dictionary_entries.proofs.Standing.{entries-length}
 use Rattle.dictionary_entries.proofs.Held.{held-within, held-front, held-entries, held-place, held-last, held-text}
 use Rattle.dictionary_index.specs.inside.Index.{Passed, FoundAt, FreeAt, Index}
 use Rattle.dictionary_index.proofs.Indexing.{leads-place, free-new, past-some, index-more}
 use Rattle.dictionary_index.proofs.Segments.{limit-none, limit-some}
 use Rattle.dictionary_names.specs.declared.Named.the-variants.{Known, New, Full, NoSpace}
-use Rattle.dictionary_names.specs.inside.IndexOf.{IndexOf}
+use Rattle.dictionary_search.specs.inside.IndexOf.{IndexOf}
 use Rattle.dictionary_numbers.specs.inside.Numbers.{numberOf, raised}
 use Rattle.dictionary_names.specs.inside.Naming.{LastSegment, CanAdd, NamedIn}
-use Rattle.dictionary_names.proofs.Finding.{nothing, text-is, found-term, found-some, free-none, past-none}
+use Rattle.dictionary_search.proofs.Finding.{nothing, text-is, found-term, found-some, free-none, past-none}
 use Rattle.dictionary_names.proofs.Staying.{index-stays}
 use Rattle.dictionary_numbers.proofs.Numbering.{filled-number, filled-more}
 

@@ -16,7 +16,7 @@ use Rattle.dictionary_entries.proofs.Held.{held-within, held-entries, held-plac
 use Rattle.dictionary_index.specs.declared.Segment.{Segment}
 use Rattle.dictionary_index.specs.inside.Index.{Index, AreZero, IsSegment}
 use Rattle.dictionary_index.proofs.Indexing.{index-none}
-use Rattle.dictionary_names.specs.inside.IndexOf.{IndexOf}
+use Rattle.dictionary_search.specs.inside.IndexOf.{IndexOf}
 use Rattle.dictionary_names.specs.inside.Naming.{LastSegment}
 
 -- The index of no entry.

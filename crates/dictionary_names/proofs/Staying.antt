@@ -8,11 +8,11 @@ use lib.ListN.{length, getD, take, drop}
 use lib.Seq.{take-nil, take-take, drop-drop, ext-getD}
 use Rattle.spec_ntriples.specs.Dictionary.{Entry, entry, bytesNumber, frontTerm}
 use Rattle.dictionary_bytes.specs.inside.Entries.{lengthAt, textAt, placeAt, entriesAt}
-use Rattle.dictionary_bytes.specs.inside.Hashes.{homeOf}
+use Rattle.dictionary_hash.specs.inside.Hashes.{homeOf}
 use Rattle.dictionary_bytes.proofs.Entry.{place-before}
 use Rattle.dictionary_entries.proofs.Standing.{entries-count, entry-at}
 use Rattle.dictionary_index.specs.inside.Index.{Reached, Index}
-use Rattle.dictionary_names.specs.inside.IndexOf.{IndexOf}
+use Rattle.dictionary_search.specs.inside.IndexOf.{IndexOf}
 
 -- ---- bytes that are the same up to an index
 

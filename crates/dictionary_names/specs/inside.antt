@@ -1,2 +1,1 @@
-pub mod IndexOf
 pub mod Naming

@@ -1,17 +1,15 @@
-// The terms of texts: one text against the index of one segment of a dictionary's entries.
+// The terms of texts: one text against the last segment of a dictionary, in which it is entered if it is new.
 use dictionary_bytes::Filled;
 use dictionary_bytes::HEADER;
-use dictionary_bytes::slot_of;
 use dictionary_bytes::term_at;
 use dictionary_entries::write_entry;
 use dictionary_index::FARTHEST;
 use dictionary_index::MOST_ENTRIES;
 use dictionary_index::Search;
-use dictionary_index::find_token;
 use dictionary_numbers::NUMBERS;
 use dictionary_numbers::filled_on;
 use dictionary_numbers::number_of;
-use ntriples_text::text_hash;
+use dictionary_search::search_index;
 use ntriples_text::text_length;
 use ntriples_text_kind::kind_of;
 ghost use mathlib.Core.Path.{_≡_};
@@ -19,12 +17,10 @@ ghost use mathlib.Core.List.{List};
 ghost use Prim.Native.Nat.{ℕ, _+_, _≤_, _<_};
 ghost use lib.Dec.{leb};
 ghost use Rattle.spec_ntriples.specs.Texts.{Text};
-ghost use Rattle.spec_ntriples.specs.Dictionary.{Entry, termIn};
+ghost use Rattle.spec_ntriples.specs.Dictionary.{Entry};
 ghost use Rattle.ntriples_bytes.specs.inside.Places.{HasText};
-ghost use Rattle.ntriples_text.specs.inside.Tokens.{IsToken};
-ghost use Rattle.dictionary_bytes.specs.inside.Hashes.{homeOf};
-ghost use Rattle.dictionary_index.specs.inside.Index.{LeadWithin, FreeAt, Searched};
-ghost use Rattle.dictionary_names.specs.inside.IndexOf.{IndexOf};
+ghost use Rattle.dictionary_hash.specs.inside.Hashes.{homeOf};
+ghost use Rattle.dictionary_index.specs.inside.Index.{FreeAt};
 ghost use Rattle.dictionary_names.specs.inside.Naming.{LastSegment, CanName, CanAdd, NamedIn};
 
 // What naming a text gives: the term of an entry that has it; a new term, and how far the dictionary is filled then; that a new segment has to
@@ -34,43 +30,6 @@ pub enum Named {
     New(u32, Filled),
     Full,
     NoSpace,
-}
-
-// Searches for a text in a line, from the slot of its hash on, in the index of a segment that begins at first.
-fn search_index(
-    slots: &[u32],
-    dictionary: &[u8],
-    first: usize,
-    line: &[u8],
-    from: usize,
-    to: usize,
-) -> Search
-    requires { ⌜ LeadWithin (now slots) (now dictionary) first ⌝ }
-    requires { ⌜ IsToken (now line) from to ⌝ }
-    ensures { λ r. ⌜ ((t : Text) → HasText (now (line .entry)) from to t → Searched (now (slots .entry)) (now (dictionary .entry)) first (t .bytes) (homeOf (t .bytes)) r) ⌝ }
-{
-    let home = slot_of(text_hash(line, from, to));
-    find_token(slots, dictionary, first, line, from, to, home)
-}
-
-// The term of a text in a line among the entries of a segment; 0 where none has it.
-pub fn find_term(
-    slots: &[u32],
-    dictionary: &[u8],
-    first: usize,
-    line: &[u8],
-    from: usize,
-    to: usize,
-) -> u32
-    requires { ⌜ LeadWithin (now slots) (now dictionary) first ⌝ }
-    requires { ⌜ IsToken (now line) from to ⌝ }
-    ensures { λ r. ⌜ ((es : List Entry) (t : Text) → IndexOf (now (slots .entry)) (now (dictionary .entry)) first es → HasText (now (line .entry)) from to t → r ≡ termIn es (t .bytes)) ⌝ }
-{
-    match search_index(slots, dictionary, first, line, from, to) {
-        Search::Found(at) => term_at(dictionary, at),
-        Search::Free(_) => 0,
-        Search::Past => 0,
-    }
 }
 
 // Whether an entry with a text of n bytes has room in a dictionary of len bytes that is filled up to an end.

@@ -20,7 +20,8 @@ use Rattle.ntriples_lines.specs.declared.Line as code-line
 use Rattle.ntriples_lines.specs.declared.Line.the-variants.{Wrong, Empty, Full}
 use Rattle.ntriples_lines.specs.inside.Reading.{IsFull, IsLine}
 use Rattle.ntriples_lines.proofs.Lines.{line-same}
-use Rattle.ntriples_document.specs.inside.Bytes.{lineLength, lineOf, IsNext}
+use Rattle.ntriples_breaks.specs.inside.Breaks.{lineLength, IsNext}
+use Rattle.ntriples_document.specs.inside.Bytes.{lineOf}
 use Rattle.ntriples_document.proofs.Parts.{document-none}
 use Rattle.ntriples_document.proofs.Counting.{CharsOf, line-decoded, first-line, end-within}
 use Rattle.ntriples_batch.specs.inside.Batches.{hasTriple, LineAt, IsLineOfTriple, noTriple, Gathered, HaveTexts}

@@ -1,7 +1,7 @@
 // The lines of a document that have a triple: where they begin, and the places of their terms.
-use ntriples_document::line_end;
+use ntriples_breaks::line_end;
+use ntriples_breaks::next_line;
 use ntriples_document::line_of;
-use ntriples_document::next_line;
 use ntriples_lines::Line;
 use ntriples_lines::Token;
 use ntriples_lines::Tokens;

@@ -32,7 +32,8 @@ use Rattle.ntriples_batch.specs.inside.Batches.{noTriple, Gathered}
 use Rattle.ntriples_naming.proofs.Entries.{have-terms}
 use Rattle.ntriples_segments.specs.declared.Batched.{Batched}
 use Rattle.ntriples_segments.specs.declared.Batched.the-variants.{Named, NoSpace}
-use Rattle.ntriples_segments.specs.inside.Segments.{IsBatch, AllNamed, DoNotFit, TextsLackSpace, IsBatched, CanNameBatch}
+use Rattle.ntriples_last.specs.inside.Segments.{IsBatch, AllNamed, DoNotFit, TextsLackSpace}
+use Rattle.ntriples_segments.specs.inside.Batches.{IsBatched, CanNameBatch}
 use Rattle.ntriples_batches.specs.inside.Batches.{FileNamed}
 
 -- ---- entries with the texts of triples

@@ -14,8 +14,10 @@ use Rattle.ntriples_bytes.specs.inside.Whole.{areChars}
 use Rattle.ntriples_bytes.proofs.Decoding.{at-start}
 use Rattle.ntriples_document.specs.declared.Counted.{Counted}
 use Rattle.ntriples_document.specs.declared.Counted.the-variants.{Refused, Triples}
-use Rattle.ntriples_document.specs.inside.Bytes.{lineLength, lineOf, IsNext, countOf, added}
-use Rattle.ntriples_document.proofs.Parts.{document-line, document-none, length-within}
+use Rattle.ntriples_breaks.specs.inside.Breaks.{lineLength, IsNext}
+use Rattle.ntriples_breaks.proofs.Breaking.{length-within}
+use Rattle.ntriples_document.specs.inside.Bytes.{lineOf, countOf, added}
+use Rattle.ntriples_document.proofs.Parts.{document-line, document-none}
 
 -- ---- the line of some bytes
 

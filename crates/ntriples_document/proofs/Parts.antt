@@ -1,12 +1,10 @@
 -- Laws of the lines of a document in bytes. Assumes nothing.
-use Prim.Native.Nat.{ℕ, zero, suc, _+_, _-_, _≤_, _<_}
+use Prim.Native.Nat.{ℕ, suc, _≤_, _<_}
 use mathlib.Core.Path.{_≡_, refl, sym, ap, _∙_}
 use mathlib.Core.Bool.{Bool, true, false, _&&_, _||_, cond}
 use mathlib.Core.List.{List, [], _∷_, _++_}
-use native.Mathlib.Numerals.{add-one}
 use native.Mathlib.Omega.{arith}
-use lib.ListN.{length, getD, take, drop, drop-of-length-le}
-use lib.Seq.{drop-cons}
+use lib.ListN.{take, drop}
 use lib.Dec.{eqb, leb, ltb}
 use borrow.Author.Tests.{ne-eqb, ltb-true, ltb-false}
 use Rattle.spec_ntriples.specs.computed.Decoded.{Decoded, broken, decoded, withChar, decode}
@@ -16,7 +14,8 @@ use Rattle.spec_ntriples.specs.computed.Lines.{Line, wrong, empty, full, isRest
 use Rattle.ntriples_bytes.specs.inside.Parts.{joined, hasAny}
 use Rattle.ntriples_bytes.proofs.Parting.{decode-parts, none-passes}
 use Rattle.ntriples_bytes.proofs.Marking.{by-test}
-use Rattle.ntriples_document.specs.inside.Bytes.{isEol, lineLength, lineOf, IsNext}
+use Rattle.ntriples_breaks.specs.inside.Breaks.{isEol, lineLength}
+use Rattle.ntriples_document.specs.inside.Bytes.{lineOf}
 
 -- ---- ends of lines
 
@@ -110,40 +109,3 @@ document-line bs = go (parted bs)
     go : Parted bs → document bs ≡ withLine (lineOf (decode (take (lineLength bs) bs))) (document (drop (suc (lineLength bs)) bs))
     go (last h t d) = rw (t, d, document-none) (document-last bs h)
     go (more xs c ys e h i t d) = rw (t, d) (rw e (document-more xs c ys h i))
-
--- ---- by index
-
-pub length-within : (bs : List ℕ) → lineLength bs ≤ length bs
-unfolding lineLength
-length-within [] = omega arith
-length-within (b ∷ bs) = by-test (isEol b) (λ q. rw q (omega arith)) (λ q. rw q (omega (arith, length-within bs)))
-
--- The test for the end of a line.
-eol-test : (a b : Bool) → (a || b) ≡ (a || (b || false))
-eol-test true b = refl
-eol-test false true = refl
-eol-test false false = refl
-
-module _ (file : List ℕ) (at : ℕ) where
-  pub line-all : length file ≤ at → lineLength (drop at file) ≡ 0
-  unfolding lineLength
-  line-all h = rw (drop-of-length-le file h)
-
-  module _ (h : at < length file) where
-    pub line-stop : (eqb (getD file at 0) 13 || eqb (getD file at 0) 10) ≡ true → lineLength (drop at file) ≡ 0
-    unfolding lineLength isEol isOneOf codes
-    line-stop q = rw (drop-cons file at 0 h, sym (eol-test (eqb (getD file at 0) 13) (eqb (getD file at 0) 10)) ∙ q)
-
-    pub line-goes : (eqb (getD file at 0) 13 || eqb (getD file at 0) 10) ≡ false → lineLength (drop at file) ≡ suc (lineLength (drop (at + 1) file))
-    unfolding lineLength isEol isOneOf codes
-    line-goes q = rw (add-one at, drop-cons file at 0 h, sym (eol-test (eqb (getD file at 0) 13) (eqb (getD file at 0) 10)) ∙ q)
-
--- The next line.
-pub next-more : (file : List ℕ) (end : ℕ) → end < length file → IsNext file end (end + 1)
-next-more file end h = record { within = omega arith; same = rw (add-one end); after = λ from k l. omega arith }
-
-pub next-none : (file : List ℕ) (end : ℕ) → length file ≤ end → IsNext file end (length file)
-next-none file end h =
-    let a : length file ≤ length file = omega arith in
-    let b : length file ≤ suc end = omega arith in
-    record { within = a; same = drop-of-length-le file a ∙ sym (drop-of-length-le file b); after = λ from k l. l }

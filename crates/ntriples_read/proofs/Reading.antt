@@ -28,7 +28,7 @@ use Rattle.ntriples_document.specs.declared.Counted.the-variants as counted
 use Rattle.ntriples_document.specs.inside.Bytes.{countOf}
 use Rattle.ntriples_segments.specs.declared.Batched.{Batched}
 use Rattle.ntriples_segments.specs.declared.Batched.the-variants.{Named, NoSpace}
-use Rattle.ntriples_segments.specs.inside.Segments.{TextsLackSpace}
+use Rattle.ntriples_last.specs.inside.Segments.{TextsLackSpace}
 use Rattle.ntriples_batches.specs.inside.Batches.{CanNameFile, FileNamed, IsFile}
 use Rattle.ntriples_batches.proofs.Files.{Grown, all-grown, filled-have}
 use Rattle.ntriples_read.specs.inside.Reading.{CanRead}

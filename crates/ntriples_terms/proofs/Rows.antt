@@ -15,7 +15,7 @@ use Rattle.spec.proofs.Lists.{le-or}
 use Rattle.spec_ntriples.specs.Texts.{TextTriple}
 use Rattle.ntriples_lines.specs.declared.Tokens.{Tokens}
 use Rattle.ntriples_text.specs.inside.Tokens.{IsToken}
-use Rattle.ntriples_document.specs.inside.Bytes.{lineLength}
+use Rattle.ntriples_breaks.specs.inside.Breaks.{lineLength}
 use Rattle.ntriples_batch.specs.inside.Batches.{IsLineOfTriple, noTriple}
 use Rattle.ntriples_terms.specs.inside.Words.{tripleBy, IsTripleAt, AreTokens, RowsBy}
 

@@ -1,7 +1,7 @@
 // The terms of the lines of a batch: those of the vocabulary, and those found in a segment of a dictionary.
-use dictionary_names::find_term;
+use dictionary_search::find_term;
 use ntriples_batch::tokens_at;
-use ntriples_document::line_end;
+use ntriples_breaks::line_end;
 use ntriples_lines::Token;
 use ntriples_lines::Tokens;
 use ntriples_text_kind::vocabulary_of;
@@ -17,7 +17,7 @@ ghost use Rattle.ntriples_bytes.specs.inside.Places.{HasText};
 ghost use Rattle.ntriples_text.specs.inside.Tokens.{IsToken};
 ghost use Rattle.ntriples_batch.specs.inside.Batches.{LineAt, HaveTexts};
 ghost use Rattle.dictionary_index.specs.inside.Index.{LeadWithin};
-ghost use Rattle.dictionary_names.specs.inside.IndexOf.{IndexOf};
+ghost use Rattle.dictionary_search.specs.inside.IndexOf.{IndexOf};
 ghost use Rattle.ntriples_terms.specs.inside.Words.{tripleBy, foundWord, foundRow, IsTripleAt, AreTokens, LinesAt, CanBeNamed, RowsBy};
 
 // The vocabulary's terms for the texts of a line, 0 for each that is none.

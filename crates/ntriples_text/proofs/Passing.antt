@@ -8,8 +8,8 @@ use lib.ListN.{length, getD, take, length-append}
 use lib.Seq.{sets, length-sets, length-take-le}
 use Rattle.spec_ntriples.specs.Texts.{Text}
 use Rattle.ntriples_bytes.specs.inside.Places.{HasText}
-use Rattle.dictionary_bytes.specs.inside.Hashes.{hashFrom}
-use Rattle.dictionary_bytes.proofs.Hashing.{hash-append}
+use Rattle.dictionary_hash.specs.inside.Hashes.{hashFrom}
+use Rattle.dictionary_hash.proofs.Hashing.{hash-append}
 use Rattle.ntriples_cursor.specs.declared.Mode.the-variants.{Term}
 use Rattle.ntriples_cursor.specs.declared.Cursor.{Cursor}
 use Rattle.ntriples_cursor.specs.declared.Piece.{Piece}

@@ -1,6 +1,6 @@
 // The canonical text of a term that stands in a line: its length and its hash.
-use dictionary_bytes::hash_from;
-use dictionary_bytes::hash_on;
+use dictionary_hash::hash_from;
+use dictionary_hash::hash_on;
 use ntriples_cursor::Cursor;
 use ntriples_cursor::Mode;
 use ntriples_cursor::Piece;
@@ -11,7 +11,7 @@ ghost use Prim.Native.Nat.{_+_, _≤_, _<_};
 ghost use lib.ListN.{length, take};
 ghost use Rattle.spec_ntriples.specs.Texts.{Text};
 ghost use Rattle.ntriples_bytes.specs.inside.Places.{HasText};
-ghost use Rattle.dictionary_bytes.specs.inside.Hashes.{hashFrom, hash};
+ghost use Rattle.dictionary_hash.specs.inside.Hashes.{hashFrom, hash};
 ghost use Rattle.ntriples_text.specs.inside.Tokens.{IsToken};
 
 // The length of a term's text.

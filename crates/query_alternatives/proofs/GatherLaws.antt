@@ -20,7 +20,7 @@ use Rattle.spec.proofs.TableFormed.{isTable-wellFormed}
 use Rattle.spec.specs.inside.Entailment.{NoVocabulary}
 use Rattle.spec.proofs.Entailment.{allowed-no-vocabulary}
 use Rattle.spec.specs.Rows.{words}
-use Rattle.rdfs_derive.proofs.WordRows.{ordered-words}
+use Rattle.rdfs_carry.proofs.WordRows.{ordered-words}
 use Rattle.spec.specs.declared.Reply.the-variants.{Refused}
 use Rattle.spec.specs.Outputs.{replied, give}
 use Rattle.rows_distinct.specs.declared.Collected.{Collected}

@@ -1,8 +1,8 @@
 // Alternatives of an atom (document 01, "Questions and their rewriting").
 use output::clear;
 use query::questions::is_atom;
-use rows_distinct::finish;
 use rows_distinct::start;
+use rows_finish::finish;
 use sources::put_alternative;
 use sources::put_statements;
 use spec::Reply;

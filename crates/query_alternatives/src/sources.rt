@@ -6,7 +6,7 @@ use crate::kinds::alternative_by;
 use crate::kinds::qualifies;
 use query::questions::atom_at;
 use rows_distinct::Collected;
-use rows_distinct::put;
+use rows_put::put;
 use spec::Triple;
 use table::row_at;
 use terms::Term;
@@ -82,8 +82,8 @@ fn put_carried(
     requires { ⌜ (isStatementTable (now statements) ≡ true) × Within 3 (now out) c ⌝ }
     ensures { λ r. ⌜ Puts (flatMap (given atom source) (carried (rows (now (statements .entry))) fact)) (now (out .entry)) c (now (out .exit)) r ⌝ }
 {
-    let mut list = rdfs_derive::no_rows();
-    let n = rdfs_derive::carry(statements, fact, &mut list);
+    let mut list = rdfs_carry::no_rows();
+    let n = rdfs_carry::carry(statements, fact, &mut list);
     put_rows(out, atom, source, &list, n, c)
 }
 

@@ -1,3 +1,1 @@
-pub mod ConclusionLaws
-pub mod WordRows
-pub mod WrittenLaws
+pub mod PartLaws

@@ -1,2 +1,1 @@
-pub mod LedLaws
 pub mod MemoryLaws

@@ -3,5 +3,4 @@ pub mod Between
 pub mod Streams
 pub mod Listing
 pub mod Merging
-pub mod Counting
 pub mod Whole

@@ -1,4 +1,3 @@
 pub mod Output
 pub mod Between
 pub mod Streams
-pub mod Counted

@@ -17,7 +17,7 @@ use Rattle.spec.specs.inside.Counts.{Counts, lookup}
 use Rattle.saturate_merge.specs.inside.Output.{Output, putAll}
 use Rattle.saturate_merge.specs.inside.Between.{between}
 use Rattle.saturate_merge.specs.inside.Streams.{objects, often, Rising}
-use Rattle.saturate_merge.specs.inside.Counted.{keysWithCounts, counted, countOf, KeysOver, KeysRising, total, Totalled}
+use Rattle.saturate_counted.specs.inside.Counted.{keysWithCounts, counted, countOf, KeysOver, KeysRising, total, Totalled}
 use Rattle.saturate_merge.proofs.Output.{put-append}
 use Rattle.saturate_merge.proofs.Between.{between-none, between-skip}
 use Rattle.saturate_merge.proofs.Whole.{between-join}

@@ -3,10 +3,10 @@
 use saturate_blocks::first_from;
 use saturate_blocks::gather;
 use saturate_blocks::put_facts;
+use saturate_counted::Own;
+use saturate_counted::merge_counted;
 use saturate_counts::Subject;
 use saturate_counts::counts_of;
-use saturate_merge::Own;
-use saturate_merge::merge_counted;
 use saturate_merge::merge_streams;
 use saturate_schema::MOST_COLUMNS;
 use saturate_schema::Sizes;

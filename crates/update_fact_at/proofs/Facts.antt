@@ -26,7 +26,7 @@ use Rattle.spec.specs.Saturation.{Kept, raiseAll, lowerAll, keptRows}
 use Rattle.spec.specs.computed.Carried.{carried}
 use Rattle.spec.proofs.Carried.{carried-ascends, carried-bound}
 use Rattle.spec.proofs.Saturation.{raiseAll-length, lowerAll-length}
-use Rattle.rdfs_derive.proofs.WordRows.{rows-listed, rows-within}
+use Rattle.rdfs_carry.proofs.WordRows.{rows-listed, rows-within}
 use Rattle.spec.specs.declared.Answer.the-variants.{Applied, Idle, Refused}
 use Rattle.spec.specs.declared.Change.{Change}
 use Rattle.spec.specs.declared.Change.the-variants.{Addition, Withdrawal}

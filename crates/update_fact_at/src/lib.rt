@@ -34,8 +34,8 @@ pub fn add_new_fact(
     if table::capacity(facts.len(), table::MOST_FACTS) <= n {
         return Answer::Refused(4);
     }
-    let mut list = rdfs_derive::no_rows();
-    let c = rdfs_derive::carry(statements, fact, &mut list);
+    let mut list = rdfs_carry::no_rows();
+    let c = rdfs_carry::carry(statements, fact, &mut list);
     let missing = count_missing(kept, &list, c);
     if kept_capacity(kept, supports) < kept[0] as usize + missing {
         return Answer::Refused(5);
@@ -59,8 +59,8 @@ pub fn withdraw_old_fact(
     requires { ⌜ place fact (rows (now facts)) ≡ At at ⌝ }
     ensures { λ _. ⌜ outcome Applied (tables (now (statements .entry)) (now (facts .exit)) (now (kept .exit)) (now (supports .exit))) ≡ withdraw (tables (now (statements .entry)) (now (facts .entry)) (now (kept .entry)) (now (supports .entry))) fact ⌝ }
 {
-    let mut list = rdfs_derive::no_rows();
-    let c = rdfs_derive::carry(statements, fact, &mut list);
+    let mut list = rdfs_carry::no_rows();
+    let c = rdfs_carry::carry(statements, fact, &mut list);
     table_change::remove_at(facts, at);
     lower_all(kept, supports, &list, c);
 }

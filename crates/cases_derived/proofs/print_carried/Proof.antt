@@ -1,7 +1,7 @@
 -- The statements passed the test, and what is carried lies within the words lent for it. Assumes nothing.
 use mathlib.Core.Path.{sym, _∙_}
 use borrow.Author.Tests.{not-false}
-use Rattle.rdfs_derive.proofs.WordRows.{rows-within}
+use Rattle.rdfs_carry.proofs.WordRows.{rows-within}
 use borrow.Author.Needs.{needs}
 use Rattle.cases_derived.proofs.print_carried.Statement.{statement}
 use Rattle.cases_derived.proofs.print_carried.Tie as tie

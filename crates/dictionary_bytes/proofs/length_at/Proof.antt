@@ -5,14 +5,12 @@ use native.Mathlib.Nat.{add-zero, sub-zero}
 use lib.ListN.{length, getD, take, drop}
 use Rattle.spec_ntriples.specs.Texts.{isSameText}
 use Rattle.spec_ntriples.specs.Dictionary.{bytesNumber}
-use Rattle.dictionary_bytes.specs.inside.Hashes.{hashOn, hashFrom, hash, slotOf}
 use Rattle.dictionary_bytes.proofs.Same.{parts-more, parts-stop, parts-end}
 use Rattle.dictionary_bytes.proofs.Numbers.{bound-more, bound-whole, number-fits, number-more, number-none, number-whole}
 use native.Mathlib.Nat.{one-le-pow}
 use lib.Seq.{drop-drop}
 use Rattle.dictionary_bytes.specs.inside.Entries.{lengthAt, textAt}
 use Rattle.dictionary_bytes.proofs.Entry.{other-length, same-length}
-use Rattle.dictionary_bytes.proofs.Hashing.{hash-more, hash-end}
 use borrow.Author.Needs.{needs}
 use Rattle.dictionary_bytes.proofs.length_at.Statement.{statement}
 use Rattle.dictionary_bytes.proofs.length_at.Tie as tie

@@ -5,8 +5,8 @@ use Rattle.dictionary_distinct.proofs.next_segment.Statement.{statement
 use Rattle.dictionary_distinct.proofs.next_segment.Tie as tie
 use Rattle.dictionary_distinct.proofs.next_segment.Reads as reads
 use Rattle.dictionary_distinct.proofs.next_segment.Lts as lts
-use Rattle.dictionary_distinct.proofs.are_repeated.Reads as are-repeated-reads
-use Rattle.dictionary_distinct.proofs.no_slots.Reads as no-slots-reads
+use Rattle.dictionary_repeats.proofs.are_repeated.Reads as are-repeated-reads
+use Rattle.dictionary_slots.proofs.no_slots.Reads as no-slots-reads
 use Rattle.dictionary_index.proofs.index_segment.Reads as index-segment-reads
 
 -- src/lib.rt:68:21

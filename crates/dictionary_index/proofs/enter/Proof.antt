@@ -4,7 +4,7 @@ use native.Mathlib.Omega.{arith}
 use borrow.Author.Needs.{needs}
 use lib.ListN.{length, getD, take, drop, length-set}
 use Rattle.dictionary_bytes.specs.inside.Entries.{textAt}
-use Rattle.dictionary_bytes.specs.inside.Hashes.{homeOf}
+use Rattle.dictionary_hash.specs.inside.Hashes.{homeOf}
 use Rattle.dictionary_index.specs.inside.Index.{FreeAt}
 use Rattle.dictionary_index.specs.declared.Search.the-variants.{Found, Free, Past}
 use Rattle.dictionary_index.proofs.Indexing.{index-within, first-before, search-entry, enter-known, enter-full, enter-free}
@@ -12,9 +12,9 @@ use Rattle.dictionary_index.proofs.enter.Statement.{statement}
 use Rattle.dictionary_index.proofs.enter.Tie as tie
 use Rattle.dictionary_index.proofs.enter.Reads as reads
 use Rattle.dictionary_index.proofs.enter.Lts as lts
-use Rattle.dictionary_bytes.proofs.hash_from.Reads as hash-from-reads
+use Rattle.dictionary_hash.proofs.hash_from.Reads as hash-from-reads
 use Rattle.dictionary_bytes.proofs.length_at.Reads as length-at-reads
-use Rattle.dictionary_bytes.proofs.slot_of.Reads as slot-of-reads
+use Rattle.dictionary_hash.proofs.slot_of.Reads as slot-of-reads
 use Rattle.dictionary_index.proofs.find_text.Reads as find-text-reads
 
 -- src/lib.rt:67:9

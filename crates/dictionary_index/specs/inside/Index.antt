@@ -5,7 +5,7 @@ use mathlib.Core.Bool.{true}
 use mathlib.Core.List.{List}
 use lib.ListN.{length, getD}
 use Rattle.dictionary_bytes.specs.inside.Entries.{lengthAt, textAt, placeAt}
-use Rattle.dictionary_bytes.specs.inside.Hashes.{homeOf}
+use Rattle.dictionary_hash.specs.inside.Hashes.{homeOf}
 use Rattle.dictionary_index.specs.declared.Search.{Search}
 use Rattle.dictionary_index.specs.declared.Search.the-variants.{Found, Free, Past}
 use Rattle.dictionary_index.specs.declared.Entered.{Entered}

@@ -2,10 +2,10 @@ use Prim.Native.Nat.{_-_}
 use native.Mathlib.Omega.{arith}
 use borrow.Author.Needs.{needs}
 use lib.ListN.{length}
-use Rattle.dictionary_bytes.specs.inside.Hashes.{homeOf}
+use Rattle.dictionary_hash.specs.inside.Hashes.{homeOf}
 use Rattle.dictionary_index.specs.declared.Search.the-variants.{Found, Free, Past}
 use Rattle.dictionary_index.proofs.Indexing.{index-within}
-use Rattle.dictionary_names.proofs.Finding.{found-within, search-ends}
+use Rattle.dictionary_search.proofs.Finding.{found-within, search-ends}
 use Rattle.dictionary_names.proofs.Naming.{last-ends, named-known, named-past, named-limit, can-add}
 use Rattle.dictionary_names.proofs.name_text.Statement.{statement}
 use Rattle.dictionary_names.proofs.name_text.Tie as tie
@@ -13,7 +13,7 @@ use Rattle.dictionary_names.proofs.name_text.Reads as reads
 use Rattle.dictionary_names.proofs.name_text.Lts as lts
 use Rattle.dictionary_bytes.proofs.term_at.Reads as term-at-reads
 use Rattle.dictionary_names.proofs.name_new.Reads as name-new-reads
-use Rattle.dictionary_names.proofs.search_index.Reads as search-index-reads
+use Rattle.dictionary_search.proofs.search_index.Reads as search-index-reads
 
 -- src/lib.rt:168:11
 search-index-requires : tie.Need-search-index-requires

@@ -9,11 +9,11 @@ use Rattle.spec_ntriples.specs.Dictionary.{Entry, entry, bytesOfEntries, termIn
 use Rattle.ntriples_bytes.specs.inside.Places.{HasText}
 use Rattle.dictionary_bytes.specs.declared.Filled.{Filled}
 use Rattle.dictionary_bytes.specs.inside.Entries.{FilledBy}
-use Rattle.dictionary_bytes.specs.inside.Hashes.{homeOf}
+use Rattle.dictionary_hash.specs.inside.Hashes.{homeOf}
 use Rattle.dictionary_index.specs.inside.Index.{FreeAt}
 use Rattle.dictionary_names.specs.declared.Named.{Named}
 use Rattle.dictionary_names.specs.declared.Named.the-variants.{Known, New, Full, NoSpace}
-use Rattle.dictionary_names.specs.inside.IndexOf.{IndexOf}
+use Rattle.dictionary_search.specs.inside.IndexOf.{IndexOf}
 
 -- The last segment of a dictionary that is filled by the entries ds and behind them es: it begins at first, it has so many entries, es, and the
 -- slots are their index.

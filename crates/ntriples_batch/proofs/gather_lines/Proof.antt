@@ -13,8 +13,8 @@ use Rattle.ntriples_batch.proofs.gather_lines.Tie as tie
 use Rattle.ntriples_batch.proofs.gather_lines.Reads as reads
 use Rattle.ntriples_batch.proofs.gather_lines.Lts as lts
 use Rattle.ntriples_batch.proofs.has_triple.Reads as has-triple-reads
-use Rattle.ntriples_document.proofs.line_end.Reads as line-end-reads
-use Rattle.ntriples_document.proofs.next_line.Reads as next-line-reads
+use Rattle.ntriples_breaks.proofs.line_end.Reads as line-end-reads
+use Rattle.ntriples_breaks.proofs.next_line.Reads as next-line-reads
 
 abbrev Inv-loop : tie.InvT-loop
 Inv-loop file from lines₀ count₀ at₀ lines count at = (from + count ≤ at) × (at ≤ length file) × (count ≤ length lines) × (length lines ≡ length lines₀) × ((ts : List TextTriple) → document (drop from file) ≡ triples ts → Gathering file ts lines count at)

@@ -9,7 +9,8 @@ use Rattle.spec_ntriples.specs.Texts.{text, TextTriple}
 use Rattle.spec_ntriples.specs.computed.Lines.{Line, wrong, empty, full, triples, document}
 use Rattle.ntriples_bytes.specs.inside.Places.{HasText}
 use Rattle.ntriples_lines.specs.declared.Tokens.{Tokens}
-use Rattle.ntriples_document.specs.inside.Bytes.{lineLength, lineOf}
+use Rattle.ntriples_breaks.specs.inside.Breaks.{lineLength}
+use Rattle.ntriples_document.specs.inside.Bytes.{lineOf}
 use Rattle.ntriples_batch.specs.declared.Batch.{Batch}
 
 -- Whether a line has a triple.

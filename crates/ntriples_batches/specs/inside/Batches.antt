@@ -12,7 +12,7 @@ use Rattle.dictionary_bytes.specs.declared.Filled.{Filled}
 use Rattle.dictionary_bytes.specs.inside.Entries.{FilledBy}
 use Rattle.ntriples_segments.specs.declared.Batched.{Batched}
 use Rattle.ntriples_segments.specs.declared.Batched.the-variants.{Named, NoSpace}
-use Rattle.ntriples_segments.specs.inside.Segments.{TextsLackSpace}
+use Rattle.ntriples_last.specs.inside.Segments.{TextsLackSpace}
 
 -- The file is a document of n triples; the dictionary has some entries; and there are words for the triples of a batch.
 pub record CanNameFile (file : List ℕ) (n : ℕ) (bs : List ℕ) (f : Filled) (ws : List ℕ) : Type 0 where

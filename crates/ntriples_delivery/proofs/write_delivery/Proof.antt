@@ -1,14 +1,14 @@
 use native.Mathlib.Omega.{arith}
 use lib.ListN.{length}
 use Prim.Native.Nat.{_-_, _/_}
-use Rattle.ntriples_delivery.proofs.Writing.{chosen-all, delivery-written}
+use Rattle.ntriples_delivery.proofs.Whole.{chosen-all, delivery-written}
 use borrow.Author.Needs.{needs}
 use Rattle.ntriples_delivery.proofs.write_delivery.Statement.{statement}
 use Rattle.ntriples_delivery.proofs.write_delivery.Tie as tie
 use Rattle.ntriples_delivery.proofs.write_delivery.Reads as reads
 use Rattle.ntriples_delivery.proofs.write_delivery.Lts as lts
-use Rattle.ntriples_delivery.proofs.clear.Reads as clear-reads
-use Rattle.ntriples_delivery.proofs.write_section.Reads as write-section-reads
+use Rattle.ntriples_zero.proofs.clear.Reads as clear-reads
+use Rattle.ntriples_section.proofs.write_section.Reads as write-section-reads
 
 -- src/lib.rt:77:5
 clear-requires : tie.Need-clear-requires

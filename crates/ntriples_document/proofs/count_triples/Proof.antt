@@ -9,9 +9,9 @@ use Rattle.ntriples_document.proofs.count_triples.Statement.{statement}
 use Rattle.ntriples_document.proofs.count_triples.Tie as tie
 use Rattle.ntriples_document.proofs.count_triples.Reads as reads
 use Rattle.ntriples_document.proofs.count_triples.Lts as lts
-use Rattle.ntriples_document.proofs.line_end.Reads as line-end-reads
+use Rattle.ntriples_breaks.proofs.line_end.Reads as line-end-reads
 use Rattle.ntriples_document.proofs.line_of.Reads as line-of-reads
-use Rattle.ntriples_document.proofs.next_line.Reads as next-line-reads
+use Rattle.ntriples_breaks.proofs.next_line.Reads as next-line-reads
 
 abbrev Inv-loop : tie.InvT-loop
 Inv-loop file count₀ from₀ count from = Counts file from count

@@ -4,14 +4,14 @@ use lib.ListN.{length}
 use Rattle.spec_ntriples.specs.computed.Lines.{document}
 use Rattle.spec_ntriples.specs.Reading.{readNTriples}
 use Rattle.ntriples_read.proofs.Reading.{refused-1, refused-13, counted-lines}
-use Rattle.ntriples_delivery.proofs.Writing.{zeros-kept}
+use Rattle.ntriples_zero.proofs.Zeros.{zeros-kept}
 use borrow.Author.Needs.{needs}
 use Rattle.ntriples_read.proofs.read_ntriples.Statement.{statement}
 use Rattle.ntriples_read.proofs.read_ntriples.Tie as tie
 use Rattle.ntriples_read.proofs.read_ntriples.Reads as reads
 use Rattle.ntriples_read.proofs.read_ntriples.Lts as lts
 use Rattle.dictionary_check.proofs.check_dictionary.Reads as check-dictionary-reads
-use Rattle.ntriples_delivery.proofs.clear.Reads as clear-reads
+use Rattle.ntriples_zero.proofs.clear.Reads as clear-reads
 use Rattle.ntriples_document.proofs.count_triples.Reads as count-triples-reads
 use Rattle.ntriples_read.proofs.read_triples.Reads as read-triples-reads
 

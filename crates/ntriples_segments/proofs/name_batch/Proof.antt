@@ -7,13 +7,13 @@ use lib.ListN.{length}
 use Rattle.spec_ntriples.specs.Texts.{TextTriple}
 use Rattle.spec_ntriples.specs.Dictionary.{Entry}
 use Rattle.dictionary_bytes.specs.inside.Entries.{FilledBy}
-use Rattle.ntriples_segments.specs.inside.Segments.{IsBatch, Looked}
-use Rattle.ntriples_segments.proofs.Steps.{looked-none}
+use Rattle.ntriples_last.specs.inside.Segments.{IsBatch, Looked}
+use Rattle.ntriples_last.proofs.Steps.{looked-none}
 use Rattle.ntriples_segments.proofs.name_batch.Statement.{statement}
 use Rattle.ntriples_segments.proofs.name_batch.Tie as tie
 use Rattle.ntriples_segments.proofs.name_batch.Reads as reads
 use Rattle.ntriples_segments.proofs.name_batch.Lts as lts
-use Rattle.ntriples_segments.proofs.name_segment.Reads as name-segment-reads
+use Rattle.ntriples_segment.proofs.name_segment.Reads as name-segment-reads
 use Rattle.ntriples_terms.proofs.name_vocabulary.Reads as name-vocabulary-reads
 
 abbrev Inv-loop : tie.InvT-loop

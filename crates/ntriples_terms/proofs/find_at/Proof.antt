@@ -9,7 +9,7 @@ use Rattle.ntriples_terms.proofs.find_at.Tie as tie
 use Rattle.ntriples_terms.proofs.find_at.Reads as reads
 use Rattle.ntriples_terms.proofs.find_at.Lts as lts
 use Rattle.ntriples_batch.proofs.tokens_at.Reads as tokens-at-reads
-use Rattle.ntriples_document.proofs.line_end.Reads as line-end-reads
+use Rattle.ntriples_breaks.proofs.line_end.Reads as line-end-reads
 use Rattle.ntriples_terms.proofs.find_in.Reads as find-in-reads
 use Rattle.ntriples_words.proofs.is_named.Reads as is-named-reads
 

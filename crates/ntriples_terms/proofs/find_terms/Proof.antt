@@ -7,7 +7,7 @@ use lib.ListN.{length, getD}
 use Rattle.spec_ntriples.specs.Texts.{TextTriple}
 use Rattle.spec_ntriples.specs.Dictionary.{Entry}
 use Rattle.ntriples_batch.specs.inside.Batches.{noTriple}
-use Rattle.dictionary_names.specs.inside.IndexOf.{IndexOf}
+use Rattle.dictionary_search.specs.inside.IndexOf.{IndexOf}
 use Rattle.ntriples_terms.specs.inside.Words.{foundRow, LinesAt}
 use Rattle.ntriples_terms.proofs.Rows.{Written, written-none, written-more, written-all}
 use Rattle.ntriples_terms.proofs.find_terms.Statement.{statement}

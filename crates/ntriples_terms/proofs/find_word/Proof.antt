@@ -6,7 +6,7 @@ use Rattle.ntriples_terms.proofs.find_word.Statement.{statement}
 use Rattle.ntriples_terms.proofs.find_word.Tie as tie
 use Rattle.ntriples_terms.proofs.find_word.Reads as reads
 use Rattle.ntriples_terms.proofs.find_word.Lts as lts
-use Rattle.dictionary_names.proofs.find_term.Reads as find-term-reads
+use Rattle.dictionary_search.proofs.find_term.Reads as find-term-reads
 
 -- src/lib.rt:92:9
 returns : tie.Need-returns

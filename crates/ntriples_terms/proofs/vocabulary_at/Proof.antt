@@ -7,7 +7,7 @@ use Rattle.ntriples_terms.proofs.vocabulary_at.Tie as tie
 use Rattle.ntriples_terms.proofs.vocabulary_at.Reads as reads
 use Rattle.ntriples_terms.proofs.vocabulary_at.Lts as lts
 use Rattle.ntriples_batch.proofs.tokens_at.Reads as tokens-at-reads
-use Rattle.ntriples_document.proofs.line_end.Reads as line-end-reads
+use Rattle.ntriples_breaks.proofs.line_end.Reads as line-end-reads
 use Rattle.ntriples_terms.proofs.vocabulary_in.Reads as vocabulary-in-reads
 
 -- src/lib.rt:60:9

@@ -5,7 +5,7 @@ use borrow.Author.Needs.{needs}
 use Rattle.spec_ntriples.specs.Texts.{Text}
 use Rattle.ntriples_bytes.specs.inside.Places.{HasText}
 use Rattle.ntriples_text.specs.inside.Tokens.{Left}
-use Rattle.dictionary_bytes.specs.inside.Hashes.{hashFrom, hash}
+use Rattle.dictionary_hash.specs.inside.Hashes.{hashFrom, hash}
 use Rattle.ntriples_text.proofs.Passing.{left-first, left-some, left-none, left-more, left-own, hash-more}
 use Rattle.ntriples_text.proofs.text_hash.Statement.{statement}
 use Rattle.ntriples_text.proofs.text_hash.Tie as tie

@@ -1,8 +1,8 @@
 -- Each part finds the marks and the room that it asks for.
 use native.Mathlib.Omega.{arith}
 use Rattle.rdfs_reach.proofs.MarkLaws.{zeros-room, zeros-unused}
-use Rattle.rdfs_derive.proofs.WrittenLaws.{room-after, unused-after, room-again, few-terms, all-concluded}
-use Rattle.rdfs_derive.proofs.ConclusionLaws.{both, kept-iff}
+use Rattle.rdfs_derive.proofs.PartLaws.{room-after, unused-after, room-again, few-terms, all-concluded}
+use Rattle.rdfs_classes.proofs.ConclusionLaws.{both, kept-iff}
 use borrow.Author.Needs.{needs}
 use Rattle.rdfs_derive.proofs.find_terms.Statement.{statement}
 use Rattle.rdfs_derive.proofs.find_terms.Tie as tie

@@ -3,7 +3,6 @@ use borrow.Author.Needs.{needs}
 use mathlib.Core.Path.{_≡_, sym, _∙_}
 use Prim.Native.Nat.{_-_}
 use native.Mathlib.Omega.{arith}
-use Rattle.saturate_merge.specs.inside.Counted.{counted}
 use Rattle.saturate_merge.proofs.Streams.{step-hit, Stepping, stepping-start, stepping-hit, stepping-miss, stepping-small}
 use Rattle.saturate_merge.proofs.step.Statement.{statement}
 use Rattle.saturate_merge.proofs.step.Tie as tie

@@ -1,6 +1,6 @@
 -- By what the search among the statements found, and by the kind of update. Assumes nothing.
 use Rattle.update_kept.proofs.Found.{found-place}
-use Rattle.update_statements.proofs.Statements.{statements-ready, statement-there, statement-absent}
+use Rattle.update_statement_at.proofs.Statements.{statements-ready, statement-there, statement-absent}
 use borrow.Author.Needs.{needs}
 use Rattle.update_statements.proofs.update_statement.Statement.{statement}
 use Rattle.update_statements.proofs.update_statement.Tie as tie

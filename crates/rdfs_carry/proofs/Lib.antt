@@ -1,0 +1,2 @@
+pub mod WordRows
+pub mod WrittenLaws
