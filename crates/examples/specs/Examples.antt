@@ -83,8 +83,8 @@ examples =
     ∷ answersWith S F (triple v0 1 17 ∷ []) (v0 ∷ []) ((32 ∷ []) ∷ (33 ∷ []) ∷ [])
     -- "Alternatives: 0 0 0; 1 16 17; 2 19 17; 2 20 17; 3 19 17; 3 20 17."
     ∷ hasAlternatives S (triple v0 1 17) (triple 0 0 0 ∷ triple 1 16 17 ∷ triple 2 19 17 ∷ triple 2 20 17 ∷ triple 3 19 17 ∷ triple 3 20 17 ∷ [])
-    -- ""v0 2 v1" gives 16 17 and 17 18."
-    ∷ answersWith S F (triple v0 2 v1 ∷ []) (v0 ∷ v1 ∷ []) ((16 ∷ 17 ∷ []) ∷ (17 ∷ 18 ∷ []) ∷ [])
+    -- ""v0 2 v1" gives 16 17 and 17 18", and document 02: it "gains 16 18."
+    ∷ answersWith S F (triple v0 2 v1 ∷ []) (v0 ∷ v1 ∷ []) ((16 ∷ 17 ∷ []) ∷ (16 ∷ 18 ∷ []) ∷ (17 ∷ 18 ∷ []) ∷ [])
     -- "32 20 0x80000001 carries three facts, none about the literal."
     ∷ carries S (triple 32 20 0x80000001) (triple 32 1 17 ∷ triple 32 1 18 ∷ triple 32 20 0x80000001 ∷ [])
     -- "Under 16 2 17 and 17 2 16, 32 1 16 carries two facts."

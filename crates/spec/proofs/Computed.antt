@@ -7,21 +7,23 @@ use mathlib.Core.Logic.{_↔_}
 use mathlib.Core.List.{List, [], _∷_, _++_, List·Memᴰ, List·Memᴰ·head, List·Memᴰ·tail}
 use lib.ListN.{length}
 use Rattle.spec.specs.declared.Triple.{Triple}
-use Rattle.spec.specs.Terms.{triple, isAllowedStatement, isAllowedFact}
+use Rattle.spec.specs.Terms.{triple, isStatement, isAllowedStatement, isAllowedFact}
 use Rattle.spec.specs.Rows.{ordered}
 use Rattle.spec.specs.Order.{isAscending, ListOf}
-use Rattle.spec.specs.Rules.{FollowsAsFact, Carries}
+use Rattle.spec.specs.Rules.{Follows, FollowsAsFact, Carries}
 use Rattle.spec.specs.Questions.{IsAnswer}
 use Rattle.spec.specs.Alternatives.{IsAlternative}
 use Rattle.spec.specs.Demand3.{Supported, none, row}
 use Rattle.spec.specs.computed.Carried.{carried, carriers}
 use Rattle.spec.specs.Saturation.{Kept, keptRows, keptSupports}
 use Rattle.spec.specs.computed.Saturated.{saturation}
+use Rattle.spec.specs.computed.Closed.{closed}
 use Rattle.spec.specs.computed.Solutions.{answers}
 use Rattle.spec.specs.computed.Reformulated.{alternatives}
 use Rattle.spec.proofs.Ascending.{isAscending-iff}
 use Rattle.spec.proofs.Entailment.{allowed-no-vocabulary}
-use Rattle.spec.proofs.Follows.{carries-iff, follows-fact-iff}
+use Rattle.spec.proofs.Follows.{carries-iff, follows-fact-iff, follows-statement-iff}
+use Rattle.spec.proofs.Closed.{closed-iff}
 use Rattle.spec.proofs.Carried.{carried-ascends, carried-iff}
 use Rattle.spec.proofs.Saturation.{saturation-counts, saturation-support, support-is, carriers-iff, carriers-ascend, saturation-kept, saturation-ascends}
 use Rattle.spec.proofs.Kept.{lookup-entry}
@@ -72,6 +74,13 @@ module _ {S : List Triple} (allowed : (u : Triple) → List·Memᴰ u S → isAl
     supported-rows S F (saturation S F) (carriers-are F a e)
         (λ g m. sym (lookup-entry (saturation S F) g (saturation-counts S F) m) ∙ saturation-support S F (g .0) ∙ support-is S F (g .0)),
   )
+
+  -- What `closed` lists is exactly the statements that follow from allowed statements, whatever allowed facts stand beside them.
+  pub closed-is : (F : List Triple) → ((u : Triple) → List·Memᴰ u F → isAllowedFact u ≡ true) → (t : Triple) → List·Memᴰ t (closed S) ↔ (Follows (S ++ F) t × (isStatement t ≡ true))
+  closed-is F e t =
+      let c = closed-iff S t in
+      let f = follows-statement-iff allowed e t in
+      (λ m. f .1 (c .0 m), λ h. c .1 (f .0 h))
 
 -- What `answers` lists is an ordered set, and exactly the answers among the triples G, where each head word is a variable that stands in an atom.
 pub answers-are : (G ps : List Triple) (vs : List ℕ) → HeadStands ps vs

@@ -29,3 +29,7 @@ pub mod TableFormed
 pub mod TableRows
 pub mod Worked
 pub mod WorkedTerms
+pub mod Allowed
+pub mod Closed
+pub mod Steps
+pub mod WorkedClosure

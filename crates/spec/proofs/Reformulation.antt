@@ -1,5 +1,5 @@
--- The alternatives of an atom are sound and complete: over the explicit triples they give exactly what follows and what the atom
--- admits. Assumes nothing.
+-- The alternatives of an atom are sound and complete: over the closed statements and the explicit facts they give exactly what follows and what the
+-- atom admits. Assumes nothing.
 use mathlib.Core.Path.{_≡_, refl, sym, _∙_, subst}
 use mathlib.Core.Bool.{true, false, _&&_}
 use mathlib.Core.Logic.{_↔_, inl, inr, ⊎-elim, by-cases}
@@ -12,11 +12,15 @@ use Rattle.spec.specs.Terms.{type, subClassOf, subPropertyOf, domain, ra
 use Rattle.spec.specs.inside.Comparison.{triple-eq}
 use Rattle.spec.proofs.Order.{of-subject}
 use Rattle.spec.proofs.Ascending.{and-left}
-use Rattle.spec.specs.Rules.{Follows, Reach, stay, step}
-use Rattle.spec.specs.inside.Entailment.{Holds, explicit, rdfs2, rdfs3, rdfs7, rdfs9, NoVocabulary}
+use Rattle.spec.specs.Rules.{Follows, Reach}
+use Rattle.spec.specs.inside.Stated.{Stated}
+use Rattle.spec.specs.inside.Entailment.{Holds, explicit, rdfs2, rdfs3, NoVocabulary}
 use Rattle.spec.specs.computed.Carried.{properties}
 use Rattle.spec.proofs.Entailment.{holds-iff-carried, allowed-no-vocabulary, not-vocabulary}
-use Rattle.spec.proofs.Follows.{statement-property, allowed-statement, follows-iff}
+use Rattle.spec.specs.computed.Closed.{closed}
+use Rattle.spec.proofs.Closed.{closed-iff}
+use Rattle.spec.proofs.Allowed.{stated-allowed}
+use Rattle.spec.proofs.Follows.{statement-property, allowed-statement, up-classes, up-properties, follows-iff}
 use Rattle.spec.proofs.Reach.{objects-iff}
 use Rattle.spec.proofs.Carried.{properties-iff, SubjectStart, from-type, from-domain, start-iff, Part, as-property, as-subject, as-object, carried-iff, carried-part}
 use Rattle.spec.specs.Alternatives.{IsAlternative, as-it-is, by-subclass, by-domain, by-range, by-subproperty, Gives, itself, a-class, a-property, Reformulated, admitsTriple}
@@ -24,14 +28,6 @@ use Rattle.spec.specs.Questions.{admits, admitsClass}
 use Rattle.spec.proofs.Alternatives.{source-begins}
 
 -- ---- sound
-
-up-classes : {S F : List Triple} {x c d : ℕ} → Holds S F (triple x type c) → Reach S subClassOf c d → Holds S F (triple x type d)
-up-classes h stay = h
-up-classes h (step r m) = rdfs9 m (up-classes h r)
-
-up-properties : {S F : List Triple} {x y p q : ℕ} → Holds S F (triple x p y) → Reach S subPropertyOf p q → Holds S F (triple x q y)
-up-properties h stay = h
-up-properties h (step r m) = rdfs7 m (up-properties h r)
 
 gives-holds : {S F : List Triple} {a f t : Triple} {k s g : ℕ} → IsAlternative S a k s g → Holds S F f → Gives k s g f t → Holds S F t
 gives-holds as-it-is h itself = h
@@ -132,34 +128,34 @@ module _ {S : List Triple} (v : (u : Triple) → List·Memᴰ u S → isAllowedS
       (source-begins i)
 
   -- A statement's property is no such source,
-  no-source : {x p y : ℕ} → isVocabulary p ≡ false → List·Memᴰ (triple x p y) S → ⊥
-  no-source {x} {p} {y} n m = let h = statement-property (triple x p y) (allowed-statement (triple x p y) (v (triple x p y) m)) in not-vocabulary n (omega (arith, h .0)) (h .1)
+  no-source : (x p y : ℕ) → isVocabulary p ≡ false → isAllowedStatement (triple x p y) ≡ true → ⊥
+  no-source x p y n m = let h = statement-property (triple x p y) (allowed-statement (triple x p y) m) in not-vocabulary n (omega (arith, h .0)) (h .1)
 
   -- nor is it rdf:type:
-  no-type : {x c : ℕ} → List·Memᴰ (triple x type c) S → ⊥
-  no-type {x} {c} m = omega (arith, statement-property (triple x type c) (allowed-statement (triple x type c) (v (triple x type c) m)) .0)
+  no-type : (x c : ℕ) → isAllowedStatement (triple x type c) ≡ true → ⊥
+  no-type x c m = omega (arith, statement-property (triple x type c) (allowed-statement (triple x type c) m) .0)
 
   -- kinds 1 to 4 give nothing of a statement, and kind 0 the statement itself.
-  statement-given : {a f t : Triple} {k s g : ℕ} → IsAlternative S a k s g → List·Memᴰ f S → Gives k s g f t → List·Memᴰ t S
-  statement-given i m itself = m
-  statement-given i m a-class = absurd (no-type m)
-  statement-given i m (Gives.of-subject {p} {d}) = absurd (no-source (source-no-vocabulary 2 p d (omega arith) i) m)
-  statement-given i m (Gives.of-object {p} {d} l) = absurd (no-source (source-no-vocabulary 3 p d (omega arith) i) m)
-  statement-given i m (a-property {p} {q}) = absurd (no-source (source-no-vocabulary 4 p q (omega arith) i) m)
+  statement-given : {a f t : Triple} {k s g : ℕ} → IsAlternative S a k s g → isAllowedStatement f ≡ true → Gives k s g f t → f ≡ t
+  statement-given i m itself = refl
+  statement-given i m (a-class {x} {c} {d}) = absurd (no-type x c m)
+  statement-given i m (Gives.of-subject {x} {p} {y} {d}) = absurd (no-source x p y (source-no-vocabulary 2 p d (omega arith) i) m)
+  statement-given i m (Gives.of-object {x} {p} {y} {d} l) = absurd (no-source x p y (source-no-vocabulary 3 p d (omega arith) i) m)
+  statement-given i m (a-property {x} {p} {q} {y}) = absurd (no-source x p y (source-no-vocabulary 4 p q (omega arith) i) m)
 
   -- ---- the theorem
 
-  -- Over the explicit triples, statements included, the alternatives of an atom give exactly what follows and what the atom admits.
-  pub reformulation-exact : (F : List Triple) (a t : Triple) → ((u : Triple) → List·Memᴰ u F → isAllowedFact u ≡ true) → admitsTriple a t ≡ true → Reformulated S (S ++ F) a t ↔ Follows (S ++ F) t
+  -- Over the closed statements and the explicit facts, the alternatives of an atom give exactly what follows and what the atom admits.
+  pub reformulation-exact : (F : List Triple) (a t : Triple) → ((u : Triple) → List·Memᴰ u F → isAllowedFact u ≡ true) → admitsTriple a t ≡ true → Reformulated S (closed S ++ F) a t ↔ Follows (S ++ F) t
   reformulation-exact F a t w e =
       let x = facts-exact S F a t (allowed-no-vocabulary S v) e in
       let g = follows-iff v w t in (
         λ r. g .1 (⊎-elim
-            (λ m. inl (statement-given (r .alternative) m (r .gives)))
+            (λ m. let h = closed-iff S (r .fact) .0 m in inl (subst (Stated S) (statement-given (r .alternative) (stated-allowed v h) (r .gives)) h))
             (λ m. inr (x .0 (record { kind = r .kind; source = r .source; target = r .target; fact = r .fact; alternative = r .alternative; listed = m; gives = r .gives })))
-            (List·Memᴰ·append-cases S (r .listed))),
+            (List·Memᴰ·append-cases (closed S) (r .listed))),
         λ f. ⊎-elim
-            (λ m. by-itself S (S ++ F) a t t (Memᴰ·append-left F m) e refl)
-            (λ h. reformulated-mono (λ u. Memᴰ·append-right S) (x .1 h))
+            (λ h. by-itself S (closed S ++ F) a t t (Memᴰ·append-left F (closed-iff S t .1 h)) e refl)
+            (λ h. reformulated-mono (λ u. Memᴰ·append-right (closed S)) (x .1 h))
             (g .0 f),
       )

@@ -17,6 +17,7 @@ use Rattle.spec.specs.declared.Answer.the-variants.{Applied, Idle, Refus
 use Rattle.spec.specs.declared.Reply.the-variants.{Rows, Refused as NotGiven}
 use Rattle.spec.specs.Outputs.{areFitting, filled, Replied, replied, give}
 use Rattle.spec.specs.Questions.{atoms, head, isAtom, isLaidOut, isQuestion, standsInOne, isHeadBound, ask, askKept, askRewritten}
+use Rattle.spec.specs.computed.Closed.{pairsFrom, pairs, closed}
 use Rattle.spec.specs.computed.Solutions.{boundTo, isBound, bind, matchWord, matchTriple, solutions, answers}
 use Rattle.spec.specs.Alternatives.{reformulate}
 use Rattle.spec.specs.computed.Reformulated.{toClasses, toProperties, without, alternativesFrom, alternatives}
@@ -33,7 +34,7 @@ use Rattle.spec.specs.Exported.{listed, numberedReply}
 
 -- The definitions that these need to compute, by one name.
 unfoldable pub compute : Unit {0}
-unfolding flatMap isUri isBlank isLiteral isVariable isVocabulary isTriple isStatement areSidesAllowed isAllowedStatement isAllowedFact firstRefusal any isSame isAscending insert remove ascend less insertOnce ordered flat leaves steps spread reach objects properties subjectClasses objectClasses conclusions carried raise raiseAll saturation capacity firstRows rows all areZero isTable areFitting filled give atoms head isAtom isLaidOut isQuestion standsInOne isHeadBound boundTo isBound bind matchWord matchTriple solutions answers ask askKept askRewritten select toClasses toProperties without alternativesFrom alternatives reformulate short word entriesFrom sectionEnd sectionStart fieldEnd fieldsFrom fieldsEnd numberFields shortBytes wordBytes entryBytes entriesBytes sectionBytes fieldBytes fieldsBytes encode read isWhole areSectionsRight isNumberRight numberOf tallied runEntries runMessage conclude deliver isMember isFitting settle receive call calls areFormed changed applying isChange isAdmitted ledgerUpdate
+unfolding flatMap isUri isBlank isLiteral isVariable isVocabulary isTriple isStatement areSidesAllowed isAllowedStatement isAllowedFact firstRefusal any isSame isAscending insert remove ascend less insertOnce ordered flat leaves steps spread reach objects properties subjectClasses objectClasses conclusions carried raise raiseAll saturation capacity firstRows rows all areZero isTable areFitting filled give atoms head isAtom isLaidOut isQuestion standsInOne isHeadBound boundTo isBound bind matchWord matchTriple solutions answers pairsFrom pairs closed ask askKept askRewritten select toClasses toProperties without alternativesFrom alternatives reformulate short word entriesFrom sectionEnd sectionStart fieldEnd fieldsFrom fieldsEnd numberFields shortBytes wordBytes entryBytes entriesBytes sectionBytes fieldBytes fieldsBytes encode read isWhole areSectionsRight isNumberRight numberOf tallied runEntries runMessage conclude deliver isMember isFitting settle receive call calls areFormed changed applying isChange isAdmitted ledgerUpdate
 compute = tt
 
 -- ---- a list of calls

@@ -3,3 +3,4 @@ pub mod Solutions
 pub mod Reformulated
 pub mod Decoded
 pub mod Saturated
+pub mod Closed

@@ -5,3 +5,5 @@ pub mod Laid
 pub mod Sorting
 pub mod Each
 pub mod Pairs
+pub mod Stated
+pub mod Given

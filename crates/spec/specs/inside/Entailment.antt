@@ -8,6 +8,7 @@ use Prim.Native.Nat.{ℕ}
 use Rattle.spec.specs.declared.Triple.{Triple}
 use Rattle.spec.specs.Terms.{type, subClassOf, subPropertyOf, domain, range, isLiteral, isVocabulary, triple}
 use Rattle.spec.specs.Rules.{Reach}
+use Rattle.spec.specs.inside.Stated.{Stated}
 
 -- The facts that hold, given the statements S and the explicit facts F.
 pub data Holds (S F : List Triple) : Triple → Type 0 where
@@ -25,9 +26,9 @@ pub data Holds (S F : List Triple) : Triple → Type 0 where
 abbrev pub HoldsBy : List Triple → Triple → Triple → Type 0
 HoldsBy S f t = Holds S (f ∷ []) t
 
--- The triples that a question is put to: "statements match as explicit, without closure", and the facts that hold.
+-- The triples that a question is put to: the statements that hold, and the facts that hold.
 abbrev pub InGraph : List Triple → List Triple → Triple → Type 0
-InGraph S F t = List·Memᴰ t S ⊎ Holds S F t
+InGraph S F t = Stated S t ⊎ Holds S F t
 
 -- b is reached by steps of the property k from one of xs.
 pub record ReachFrom (S : List Triple) (k : ℕ) (xs : List ℕ) (b : ℕ) : Type 0 where

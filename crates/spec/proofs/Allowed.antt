@@ -3,10 +3,10 @@ use mathlib.Core.Path.{_≡_, refl}
 use mathlib.Core.Bool.{Bool, true, _&&_}
 use mathlib.Core.List.{List, List·Memᴰ}
 use Prim.Native.Nat.{ℕ}
 use Rattle.spec.specs.declared.Triple.{Triple}
-use Rattle.spec.specs.Terms.{isUri, isLiteral, isResource, isTriple, isStatement, isClass, isProperty, areSidesAllowed, isAllowedStatement, triple, subClassOf, subPropertyOf}
+use Rattle.spec.specs.Terms.{isUri, isResource, isTriple, isStatement, isClass, isProperty, areSidesAllowed, isAllowedStatement, triple, subClassOf, subPropertyOf}
 use Rattle.spec.proofs.Ascending.{and-left, and-right}
-use Rattle.closure_theory.specs.Closure.{Stated, explicit, rdfs5, rdfs11}
+use Rattle.spec.specs.inside.Stated.{Stated, explicit, rdfs5, rdfs11}
 
 both : (a b : Bool) → a ≡ true → b ≡ true → (a && b) ≡ true
 both a b p q = rw (p, q)

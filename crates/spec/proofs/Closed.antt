@@ -5,14 +5,14 @@ use mathlib.Core.Logic.{_⊎_, inl, inr, ⊎-elim, by-cases, _↔_}
 use Prim.Native.Nat.{ℕ}
 use native.Mathlib.Omega.{arith}
 use native.Mathlib.Decide.{ℕ-discrete}
 use Rattle.spec.specs.declared.Triple.{Triple}
 use Rattle.spec.specs.Terms.{subClassOf, subPropertyOf, triple}
 use Rattle.spec.specs.Rules.{Reach, stay, step}
 use Rattle.spec.specs.inside.Comparison.{triple-eq}
-use Rattle.closure_theory.specs.Closure.{Stated, explicit, rdfs5, rdfs11, Steps}
-use Rattle.closure_theory.specs.computed.Closed.{pairs, closed}
-use Rattle.closure_theory.specs.inside.Given.{IsTransitive, Gives, joined, itself, GivenBy}
-use Rattle.closure_theory.proofs.Steps.{steps-trans, step-of, pairs-iff}
+use Rattle.spec.specs.inside.Stated.{Stated, explicit, rdfs5, rdfs11, Steps}
+use Rattle.spec.specs.computed.Closed.{pairs, closed}
+use Rattle.spec.specs.inside.Given.{IsTransitive, Gives, joined, itself, GivenBy}
+use Rattle.spec.proofs.Steps.{steps-trans, step-of, pairs-iff}
 
 -- ---- what holds, by property
 

@@ -1,10 +1,11 @@
--- The closed statements, computed. Nobody has to read it: `Stated` of specs/Closure.antt says what they are.
--- Fixed by closed-iff (proofs/Closed.antt): the members of `closed` are exactly the statements that hold.
+-- The statements closed, computed. Nobody has to read it: `Follows` of specs/Rules.antt says what they are.
+-- Fixed by closed-is (proofs/Computed.antt): the members of `closed` are exactly the statements that follow from allowed statements, whatever
+-- allowed facts stand beside them.
 use mathlib.Core.List.{List, [], _∷_, _++_, map, flatMap}
 use Prim.Native.Nat.{ℕ}
 use Rattle.spec.specs.declared.Triple.{Triple}
 use Rattle.spec.specs.Terms.{subClassOf, subPropertyOf, triple}
 use Rattle.spec.specs.computed.Carried.{objects, spread}
 
 -- The statements of the property k that join a to what one or more steps reach.
 unfoldable pub pairsFrom : List Triple → ℕ → ℕ → List Triple

@@ -1,12 +1,12 @@
--- Which statements hold, given the explicit ones: subclasses and subproperties are transitive, as RDF 1.1 Semantics words it (section 9.2.1, the
--- rules rdfs5 and rdfs11). Definitions only.
+-- The statements that hold, by rules whose premises are both statements: for rows that the tables may hold these are the statements that follow
+-- (`follows-iff`), in the form that the code computes. Definitions only.
 use mathlib.Core.List.{List, List·Memᴰ}
 use Prim.Native.Nat.{ℕ}
 use Rattle.spec.specs.declared.Triple.{Triple}
 use Rattle.spec.specs.Terms.{subClassOf, subPropertyOf, triple}
 use Rattle.spec.specs.Rules.{Reach}
 
--- The statements that hold, given the explicit ones S. "Rules repeat until no triple is gained": each premise is a statement that holds.
+-- The statements that hold, given the explicit ones S: subproperties and subclasses are transitive.
 pub data Stated (S : List Triple) : Triple → Type 0 where
   explicit : {t : Triple} → List·Memᴰ t S → Stated S t
   -- rdfs5: "xxx rdfs:subPropertyOf yyy . yyy rdfs:subPropertyOf zzz ." give "xxx rdfs:subPropertyOf zzz ."

@@ -1,18 +1,18 @@
 -- One or more steps of a property, and the pairs that they join, computed. Assumes nothing.
 use mathlib.Core.Path.{_≡_, refl, sym, subst}
-use mathlib.Core.List.{List, [], _∷_, map, flatMap, List·Memᴰ, List·Memᴰ·head, List·Memᴰ·eq-of-singleton, Memᴰ·cast, Memᴰ·map, Memᴰ·of-map}
+use mathlib.Core.List.{List, [], _∷_, List·Memᴰ, List·Memᴰ·head, List·Memᴰ·eq-of-singleton, Memᴰ·cast, Memᴰ·map, Memᴰ·of-map}
 use mathlib.Core.Logic.{_↔_}
 use Prim.Native.Nat.{ℕ}
 use Rattle.spec.specs.declared.Triple.{Triple}
 use Rattle.spec.specs.Terms.{triple}
 use Rattle.spec.specs.Rules.{Reach, stay, step}
 use Rattle.spec.specs.computed.Carried.{objects, spread}
 use Rattle.spec.specs.inside.Comparison.{triple-eq}
 use Rattle.spec.proofs.Order.{of-subject, of-property, of-object}
 use Rattle.spec.proofs.Lists.{flatMap-in, flatMap-out}
 use Rattle.spec.proofs.Reach.{objects-iff, spread-iff}
-use Rattle.closure_theory.specs.Closure.{Steps}
-use Rattle.closure_theory.specs.computed.Closed.{pairsFrom, pairs}
+use Rattle.spec.specs.inside.Stated.{Steps}
+use Rattle.spec.specs.computed.Closed.{pairsFrom, pairs}
 
 -- ---- steps
 
@@ -44,7 +44,7 @@ step-of {k = k} t e m = steps-one (Memᴰ·cast (triple-eq (triple (t .subject) 
 -- ---- the computed pairs
 
 -- Those from a.
-pairsFrom-iff : (S : List Triple) (k a : ℕ) (t : Triple) → List·Memᴰ t (pairsFrom S k a) ↔ ((t .subject ≡ a) × ((t .property ≡ k) × Steps S k a (t .object)))
+pub pairsFrom-iff : (S : List Triple) (k a : ℕ) (t : Triple) → List·Memᴰ t (pairsFrom S k a) ↔ ((t .subject ≡ a) × ((t .property ≡ k) × Steps S k a (t .object)))
 unfolding pairsFrom
 pairsFrom-iff S k a t = (
   λ m.

@@ -2,9 +2,9 @@
 use mathlib.Core.Path.{_≡_}
 use mathlib.Core.List.{List, List·Memᴰ}
 use mathlib.Core.Logic.{_⊎_}
 use Rattle.spec.specs.declared.Triple.{Triple}
 use Rattle.spec.specs.Terms.{subClassOf, subPropertyOf}
-use Rattle.closure_theory.specs.Closure.{Steps}
+use Rattle.spec.specs.inside.Stated.{Steps}
 
 -- The row is a subclass or subproperty statement.
 abbrev pub IsTransitive : Triple → Type 0

@@ -1,4 +1,0 @@
-pub mod Steps
-pub mod Closed
-pub mod Allowed
-pub mod WorkedClosure

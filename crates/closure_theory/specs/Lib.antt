@@ -1,3 +1,0 @@
-pub mod Closure
-pub mod computed
-pub mod inside
