@@ -3,7 +3,7 @@ ghost use mathlib.Core.Path.{_≡_};
 ghost use mathlib.Core.Bool.{true};
 ghost use mathlib.Core.List.{List};
 ghost use Prim.Native.Nat.{_+_, _*_, _≤_, _<_};
-ghost use lib.ListN.{length, getD, replicate};
+ghost use lib.ListN.{length, getD};
 ghost use lib.Dec.{eqb};
 ghost use Rattle.spec.specs.declared.Triple.{Triple};
 ghost use Rattle.table.specs.inside.Bounds.{Tells};
@@ -24,18 +24,8 @@ pub const OBJECT_CLASS: u32 = 4;
 // Whether a fact of the property gives its object, which is no literal, a class at all. The target is 0.
 pub const ANY_OBJECT_CLASS: u32 = 5;
 
-// How many answers are remembered at most.
+// How many answers are remembered at most, of four words each: word, question, target and answer.
 const PLACES: u64 = 4096;
-
-// How many words they take: four each, which are word, question, target and answer.
-const MEMORY: usize = 16384;
-
-// No answer remembered.
-pub fn no_memory() -> [u32; MEMORY]
-    ensures { λ r. ⌜ r ≡ replicate 16384 0 ⌝ }
-{
-    [0u32; MEMORY]
-}
 
 // Leaves the bits from 20 on.
 const UPPER: u64 = 1048576;

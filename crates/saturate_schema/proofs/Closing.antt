@@ -14,9 +14,9 @@ use borrow.Author.Tests.{eq-eqb, ne-eqb}
 use Rattle.spec.proofs.Lists.{true-not-false}
 use Rattle.saturate_schema.specs.inside.Walks.{Edge}
 use Rattle.table.specs.inside.Bounds.{Tells}
-use Rattle.table.proofs.SearchLaws.{tells-true, tells-false}
+use Rattle.table.proofs.SearchLaws.{tells-false}
 use Rattle.saturate_schema.specs.inside.Nodes.{subjectNode, objectNode, applies, edges, Found, found, none, word, Columns}
-use Rattle.saturate_schema.specs.inside.Squares.{at, Gained, Leads, Extended, Closed, Cleared}
+use Rattle.saturate_schema.specs.inside.Squares.{Gained, Leads, Extended, Closed, Cleared}
 use Rattle.saturate_schema.proofs.Walks.{To, From, plus-cons, plus-nil, plus-ends, plus-starts}
 use Rattle.saturate_schema.proofs.Squares.{Spread}
 
@@ -51,24 +51,24 @@ edges-in st via (suc n) i l e = go (edges-in st via n i) (applies st via n) refl
     go f false y = by-cases (ℕ-discrete i n) (λ q. absurd (true-not-false (sym e ∙ ap (applies st via) q ∙ y))) (λ k. f (omega arith) e)
 
 -- What one statement more does to the bits.
-pub record Step (st : List ℕ) (m : ℕ) (col : List ℕ) (ns : ℕ) (sq sq' gain : List ℕ) (j ss so go : ℕ) : Type 0 where
+pub record Step (st : List ℕ) (m : ℕ) (col : List ℕ) (ns : ℕ) (bit bit' : ℕ → ℕ → ℕ) (gain : ℕ → ℕ) (j ss so go : ℕ) : Type 0 where
   pub start : Found (word col) ns (subjectNode st j) ss
   pub end : Found (word col) ns (objectNode st j) so
   pub on : Found (subjectNode st) m (objectNode st j) go
-  pub gains : (c : ℕ) → c < ns → (getD gain c 0 ≡ 1) ↔ ((c ≡ so) ⊎ ((go < m) × (at sq go c ≡ 1)))
-  pub bits : (i c : ℕ) → i < m → c < ns → (at sq' i c ≡ 1) ↔ ((at sq i c ≡ 1) ⊎ (Leads st sq (subjectNode st j) ss ns i × (getD gain c 0 ≡ 1)))
+  pub gains : Gained bit gain go m so ns
+  pub bits : Extended st m bit bit' gain (subjectNode st j) ss ns
 
-module _ (st : List ℕ) (m : ℕ) (col : List ℕ) (ns : ℕ) (sq : List ℕ) (via n : ℕ) (le : n ≤ m) (w : Columns st m col ns) (g : Closed st m col ns sq (edges st via n)) where
+module _ (st : List ℕ) (m : ℕ) (col : List ℕ) (ns : ℕ) (bit : ℕ → ℕ → ℕ) (via n : ℕ) (le : n ≤ m) (w : Columns st m col ns) (g : Closed st m col ns bit (edges st via n)) where
   -- A row leads to the start of statement j.
-  leads-to : (sq' gain : List ℕ) (j ss so go i : ℕ) → i < m → Step st m col ns sq sq' gain j ss so go → Leads st sq (subjectNode st j) ss ns i ↔ To (edges st via n) (subjectNode st i) (subjectNode st j)
-  leads-to sq' gain j ss so go i li s = (fore (s .start), back (s .start))
+  leads-to : (bit' : ℕ → ℕ → ℕ) (gain : ℕ → ℕ) (j ss so go i : ℕ) → i < m → Step st m col ns bit bit' gain j ss so go → Leads st bit (subjectNode st j) ss ns i ↔ To (edges st via n) (subjectNode st i) (subjectNode st j)
+  leads-to bit' gain j ss so go i li s = (fore (s .start), back (s .start))
     where
-      fore : Found (word col) ns (subjectNode st j) ss → Leads st sq (subjectNode st j) ss ns i → To (edges st via n) (subjectNode st i) (subjectNode st j)
+      fore : Found (word col) ns (subjectNode st j) ss → Leads st bit (subjectNode st j) ss ns i → To (edges st via n) (subjectNode st i) (subjectNode st j)
       fore f (inl e) = inl e
       fore (found l e) (inr b) = inr (rw e at (g i ss li l .0 (b .1)))
       fore (none e k) (inr b) = absurd (omega (arith, b .0))
 
-      back : Found (word col) ns (subjectNode st j) ss → To (edges st via n) (subjectNode st i) (subjectNode st j) → Leads st sq (subjectNode st j) ss ns i
+      back : Found (word col) ns (subjectNode st j) ss → To (edges st via n) (subjectNode st i) (subjectNode st j) → Leads st bit (subjectNode st j) ss ns i
       back f (inl e) = inl e
       back (found l e) (inr p) = inr (l, g i ss li l .1 (rw e p))
       back (none e k) (inr p) =
@@ -77,16 +77,16 @@ module _ (st : List ℕ) (m : ℕ) (col : List ℕ) (ns : ℕ) (sq : List ℕ) (
           absurd (omega (arith, w .all (o .number) ss (omega (arith, o .below)) (none e (λ c h r. k c h (r ∙ sym q)))))
 
   -- A column is the end of statement j, or led to from there.
-  gain-from : (sq' gain : List ℕ) (j ss so go c : ℕ) → c < ns → j < m → Step st m col ns sq sq' gain j ss so go → (getD gain c 0 ≡ 1) ↔ From (edges st via n) (objectNode st j) (getD col c 0)
-  gain-from sq' gain j ss so go c lc lj s = ((λ h. fore (s .end) (s .on) (s .gains c lc .0 h)), λ h. s .gains c lc .1 (back (s .end) (s .on) h))
+  gain-from : (bit' : ℕ → ℕ → ℕ) (gain : ℕ → ℕ) (j ss so go c : ℕ) → c < ns → j < m → Step st m col ns bit bit' gain j ss so go → (gain c ≡ 1) ↔ From (edges st via n) (objectNode st j) (getD col c 0)
+  gain-from bit' gain j ss so go c lc lj s = ((λ h. fore (s .end) (s .on) (s .gains c lc .0 h)), λ h. s .gains c lc .1 (back (s .end) (s .on) h))
     where
-      fore : Found (word col) ns (objectNode st j) so → Found (subjectNode st) m (objectNode st j) go → ((c ≡ so) ⊎ ((go < m) × (at sq go c ≡ 1))) → From (edges st via n) (objectNode st j) (getD col c 0)
+      fore : Found (word col) ns (objectNode st j) so → Found (subjectNode st) m (objectNode st j) go → ((c ≡ so) ⊎ ((go < m) × (bit go c ≡ 1))) → From (edges st via n) (objectNode st j) (getD col c 0)
       fore (found l e) o (inl q) = inl (ap (word col) q ∙ e)
       fore (none q k) o (inl z) = absurd (omega (arith, w .all j so lj (s .end)))
       fore f (found l e) (inr b) = inr (rw e at (g go c l lc .0 (b .1)))
       fore f (none e k) (inr b) = absurd (omega (arith, b .0))
 
-      back : Found (word col) ns (objectNode st j) so → Found (subjectNode st) m (objectNode st j) go → From (edges st via n) (objectNode st j) (getD col c 0) → (c ≡ so) ⊎ ((go < m) × (at sq go c ≡ 1))
+      back : Found (word col) ns (objectNode st j) so → Found (subjectNode st) m (objectNode st j) go → From (edges st via n) (objectNode st j) (getD col c 0) → (c ≡ so) ⊎ ((go < m) × (bit go c ≡ 1))
       back (found l e) o (inl q) = inl (w .once c so lc l (q ∙ sym e))
       back (none q k) o (inl z) = absurd (omega (arith, w .all j so lj (s .end)))
       back f (found l e) (inr p) = inr (l, g go c l lc .1 (rw e p))
@@ -96,11 +96,11 @@ module _ (st : List ℕ) (m : ℕ) (col : List ℕ) (ns : ℕ) (sq : List ℕ) (
           absurd (k (o .number) (omega (arith, o .below)) (sym q))
 
   -- A statement that applies extends the walks,
-  pub closed-more : (sq' gain : List ℕ) (ss so go : ℕ) → n < m → Step st m col ns sq sq' gain n ss so go → applies st via n ≡ true → Closed st m col ns sq' (edges st via (n + 1))
+  pub closed-more : (bit' : ℕ → ℕ → ℕ) (gain : ℕ → ℕ) (ss so go : ℕ) → n < m → Step st m col ns bit bit' gain n ss so go → applies st via n ≡ true → Closed st m col ns bit' (edges st via (n + 1))
   unfolding edges
-  closed-more sq' gain ss so go ln s y i c li lc =
-      let l = leads-to sq' gain n ss so go i li s in
-      let f = gain-from sq' gain n ss so go c lc ln s in
+  closed-more bit' gain ss so go ln s y i c li lc =
+      let l = leads-to bit' gain n ss so go i li s in
+      let f = gain-from bit' gain n ss so go c lc ln s in
       let p = plus-cons (edges st via n) (subjectNode st n, objectNode st n) (subjectNode st i) (getD col c 0) in
       rw (add-one n, y) (
         (λ h. p .1 (⊎-elim (λ o. inl (g i c li lc .0 o)) (λ z. inr (l .0 (z .0), f .0 (z .1))) (s .bits i c li lc .0 h))),
@@ -108,27 +108,24 @@ module _ (st : List ℕ) (m : ℕ) (col : List ℕ) (ns : ℕ) (sq : List ℕ) (
       )
 
   -- one that does not leaves them.
-  pub closed-pass : applies st via n ≡ false → Closed st m col ns sq (edges st via (n + 1))
+  pub closed-pass : applies st via n ≡ false → Closed st m col ns bit (edges st via (n + 1))
   unfolding edges
   closed-pass y i c li lc = rw (add-one n, y) (g i c li lc)
 
 -- Without statements there are no walks, and no bits.
-pub closed-start : (st : List ℕ) (m : ℕ) (col : List ℕ) (ns : ℕ) (sq : List ℕ) (via : ℕ) → ((i c : ℕ) → at sq i c ≡ 0) → Closed st m col ns sq (edges st via 0)
+pub closed-start : (st : List ℕ) (m : ℕ) (col : List ℕ) (ns : ℕ) (bit : ℕ → ℕ → ℕ) (via : ℕ) → ((i c : ℕ) → i < m → c < ns → bit i c ≡ 0) → Closed st m col ns bit (edges st via 0)
 unfolding edges
-closed-start st m col ns sq via z i c li lc = ((λ h. absurd (omega (arith, z i c))), λ p. absurd (plus-nil _ _ p))
+closed-start st m col ns bit via z i c li lc = ((λ h. absurd (omega (arith, z i c li lc))), λ p. absurd (plus-nil _ _ p))
 
 -- ---- for the code
 
 -- A row of another node leads to a column where it has the bit,
-pub leads-bit : (st sq : List ℕ) (s ss ns i : ℕ) → ¬ (subjectNode st i ≡ s) → ss < ns → Tells (eqb (at sq i ss) 1) (Leads st sq s ss ns i)
-leads-bit st sq s ss ns i n lt =
-    by-cases (ℕ-discrete (at sq i ss) 1)
-    (λ e. rw (eq-eqb (at sq i ss) 1 e) (tells-true (inr (lt, e))))
-    (λ k. rw (ne-eqb (at sq i ss) 1 k) (tells-false (λ z. ⊎-elim n (λ w. k (w .1)) z)))
+pub leads-bit : (st : List ℕ) (bit : ℕ → ℕ → ℕ) (s ss ns i : ℕ) (r : Bool) → ¬ (subjectNode st i ≡ s) → ss < ns → Tells r (bit i ss ≡ 1) → Tells r (Leads st bit s ss ns i)
+leads-bit st bit s ss ns i r n lt t = record { if-true = λ e. inr (lt, t .if-true e); if-false = λ e z. ⊎-elim n (λ w. t .if-false e (w .1)) z }
 
 -- and nowhere else.
-pub leads-not : (st sq : List ℕ) (s ss ns i : ℕ) → ¬ (subjectNode st i ≡ s) → ns ≤ ss → Tells false (Leads st sq s ss ns i)
-leads-not st sq s ss ns i n le = tells-false (λ z. ⊎-elim n (λ w. omega (arith, w .0)) z)
+pub leads-not : (st : List ℕ) (bit : ℕ → ℕ → ℕ) (s ss ns i : ℕ) → ¬ (subjectNode st i ≡ s) → ns ≤ ss → Tells false (Leads st bit s ss ns i)
+leads-not st bit s ss ns i n le = tells-false (λ z. ⊎-elim n (λ w. omega (arith, w .0)) z)
 
 -- One more place without x.
 pub absent-more : (f : ℕ → ℕ) (x i : ℕ) → ((k : ℕ) → k < i → ¬ (f k ≡ x)) → ¬ (f i ≡ x) → (k : ℕ) → k < i + 1 → ¬ (f k ≡ x)
@@ -155,8 +152,8 @@ unfolding objectNode
 object-class-node st i e = rw (ne-eqb (getD st (i * 3 + 2) 0) 3 e)
 
 -- Rows that were not reached yet lead where they led.
-pub leads-old : (st sq₀ sq gain : List ℕ) (s ss ns i : ℕ) → ns ≤ 512 → Spread sq₀ sq gain (Leads st sq₀ s ss ns) ns i → Leads st sq s ss ns i ↔ Leads st sq₀ s ss ns i
-leads-old st sq₀ sq gain s ss ns i le g = ((λ z. ⊎-elim inl (λ w. inr (w .0, sym (g .rest i ss (omega arith) (omega (arith, w .0))) ∙ w .1)) z), λ z. ⊎-elim inl (λ w. inr (w .0, g .rest i ss (omega arith) (omega (arith, w .0)) ∙ w .1)) z)
+pub leads-old : (st : List ℕ) (bit₀ bit : ℕ → ℕ → ℕ) (gain : ℕ → ℕ) (s ss ns i : ℕ) → Spread bit₀ bit gain (Leads st bit₀ s ss ns) ns i → Leads st bit s ss ns i ↔ Leads st bit₀ s ss ns i
+leads-old st bit₀ bit gain s ss ns i g = ((λ z. ⊎-elim inl (λ w. inr (w .0, sym (g .rest i ss (omega arith) (w .0)) ∙ w .1)) z), λ z. ⊎-elim inl (λ w. inr (w .0, g .rest i ss (omega arith) (w .0) ∙ w .1)) z)
 
 -- Statements 2 apply,
 pub applies-two : (st : List ℕ) (via i : ℕ) → getD st (i * 3 + 2) 0 ≡ 2 → true ≡ applies st via i
@@ -174,20 +171,20 @@ unfolding applies
 applies-via st via i n k = rw (ne-eqb (getD st (i * 3 + 2) 0) 2 n, ne-eqb (getD st (i * 3 + 2) 0) 3 k)
 
 -- The end is gained,
-pub gain-so : (sq : List ℕ) (go m so c : ℕ) → c ≡ so → (_≡_ {A = ℕ} 1 1) ↔ ((c ≡ so) ⊎ ((go < m) × (at sq go c ≡ 1)))
-gain-so sq go m so c e = ((λ _. inl e), λ _. refl)
+pub gain-so : (bit : ℕ → ℕ → ℕ) (go m so c : ℕ) → c ≡ so → (_≡_ {A = ℕ} 1 1) ↔ ((c ≡ so) ⊎ ((go < m) × (bit go c ≡ 1)))
+gain-so bit go m so c e = ((λ _. inl e), λ _. refl)
 
 -- and what the row of the end has,
-pub gain-go : (sq : List ℕ) (go m so c : ℕ) → ¬ (c ≡ so) → go < m → (at sq go c ≡ 1) ↔ ((c ≡ so) ⊎ ((go < m) × (at sq go c ≡ 1)))
-gain-go sq go m so c n l = ((λ h. inr (l, h)), λ z. ⊎-elim (λ e. absurd (n e)) (λ w. w .1) z)
+pub gain-go : (bit : ℕ → ℕ → ℕ) (go m so c : ℕ) → ¬ (c ≡ so) → go < m → (bit go c ≡ 1) ↔ ((c ≡ so) ⊎ ((go < m) × (bit go c ≡ 1)))
+gain-go bit go m so c n l = ((λ h. inr (l, h)), λ z. ⊎-elim (λ e. absurd (n e)) (λ w. w .1) z)
 
 -- if there is one.
-pub gain-none : (sq : List ℕ) (go m so c : ℕ) → ¬ (c ≡ so) → m ≤ go → (_≡_ {A = ℕ} 0 1) ↔ ((c ≡ so) ⊎ ((go < m) × (at sq go c ≡ 1)))
-gain-none sq go m so c n l = ((λ h. absurd (omega arith)), λ z. ⊎-elim (λ e. absurd (n e)) (λ w. absurd (omega (arith, w .0))) z)
+pub gain-none : (bit : ℕ → ℕ → ℕ) (go m so c : ℕ) → ¬ (c ≡ so) → m ≤ go → (_≡_ {A = ℕ} 0 1) ↔ ((c ≡ so) ⊎ ((go < m) × (bit go c ≡ 1)))
+gain-none bit go m so c n l = ((λ h. absurd (omega arith)), λ z. ⊎-elim (λ e. absurd (n e)) (λ w. absurd (omega (arith, w .0))) z)
 
 -- What the calls of one turn did.
-pub step-made : (st : List ℕ) (m : ℕ) (col : List ℕ) (ns : ℕ) (sq sq' gain : List ℕ) (n s e ss so go : ℕ) → s ≡ subjectNode st n → e ≡ objectNode st n → Found (word col) ns s ss → Found (word col) ns e so → Found (subjectNode st) m e go → Gained sq gain go m so ns → Extended st m sq sq' gain s ss ns → Step st m col ns sq sq' gain n ss so go
-step-made st m col ns sq sq' gain n s e ss so go es ee a b d g h = record { start = rw (← es) a; end = rw (← ee) b; on = rw (← ee) d; gains = g; bits = λ i c li lc. rw (← es) (h .done i c li lc) }
+pub step-made : (st : List ℕ) (m : ℕ) (col : List ℕ) (ns : ℕ) (bit bit' : ℕ → ℕ → ℕ) (gain : ℕ → ℕ) (n s e ss so go : ℕ) → s ≡ subjectNode st n → e ≡ objectNode st n → Found (word col) ns s ss → Found (word col) ns e so → Found (subjectNode st) m e go → Gained bit gain go m so ns → Extended st m bit bit' gain s ss ns → Step st m col ns bit bit' gain n ss so go
+step-made st m col ns bit bit' gain n s e ss so go es ee a b d g h = record { start = rw (← es) a; end = rw (← ee) b; on = rw (← ee) d; gains = g; bits = rw (← es) h }
 
 -- ---- the bit of a row's own node cleared
 

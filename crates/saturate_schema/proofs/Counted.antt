@@ -67,7 +67,7 @@ module _ (st col sq : List ℕ) (ns c : ℕ) (P : ℕ → ℕ → Type 0) (lc : 
   node-bit-le (suc m) x h = cond-elim (λ (n : ℕ). n ≤ 1) (eqb (subjectNode st m) x) (λ _. h m (omega arith)) (λ _. node-bit-le m x (λ i l. h i (omega arith)))
 
   -- 1 only where P says so,
-  node-bit-says : (m x : ℕ) → Marks st m col ns sq P → nodeBit st m sq x c ≡ 1 → P x (getD col c 0)
+  node-bit-says : (m x : ℕ) → Marks st m col ns (at sq) P → nodeBit st m sq x c ≡ 1 → P x (getD col c 0)
   unfolding nodeBit
   node-bit-says zero x g h = absurd (omega arith)
   node-bit-says (suc m) x g h =
@@ -77,7 +77,7 @@ module _ (st col sq : List ℕ) (ns c : ℕ) (P : ℕ → ℕ → Type 0) (lc : 
       h
 
   -- and 1 where it does of a node that a statement starts at.
-  node-bit-has : (m x i : ℕ) → i < m → subjectNode st i ≡ x → Marks st m col ns sq P → P x (getD col c 0) → nodeBit st m sq x c ≡ 1
+  node-bit-has : (m x i : ℕ) → i < m → subjectNode st i ≡ x → Marks st m col ns (at sq) P → P x (getD col c 0) → nodeBit st m sq x c ≡ 1
   unfolding nodeBit
   node-bit-has zero x i l e g p = absurd (omega arith)
   node-bit-has (suc m) x i l e g p =
@@ -88,11 +88,11 @@ module _ (st col sq : List ℕ) (ns c : ℕ) (P : ℕ → ℕ → Type 0) (lc : 
       (λ z. node-bit-has m x i (omega arith) e (λ j k h lk. g j k (omega arith) lk) p))
 
   -- So it says what P says.
-  pub node-bit-iff : (m x : ℕ) → Marks st m col ns sq P → (P x (getD col c 0) → Start st m x) → (nodeBit st m sq x c ≡ 1) ↔ P x (getD col c 0)
+  pub node-bit-iff : (m x : ℕ) → Marks st m col ns (at sq) P → (P x (getD col c 0) → Start st m x) → (nodeBit st m sq x c ≡ 1) ↔ P x (getD col c 0)
   node-bit-iff m x g s = (node-bit-says m x g, λ p. let i = s p in node-bit-has m x (i .number) (i .below) (i .is) g p)
 
 -- Rows of one node have the same bits.
-pub marks-even : (st col sq : List ℕ) (m ns : ℕ) (P : ℕ → ℕ → Type 0) → Marks st m col ns sq P → ((i c : ℕ) → i < m → c < ns → at sq i c ≤ 1)
+pub marks-even : (st col sq : List ℕ) (m ns : ℕ) (P : ℕ → ℕ → Type 0) → Marks st m col ns (at sq) P → ((i c : ℕ) → i < m → c < ns → at sq i c ≤ 1)
     → (i j c : ℕ) → i < m → j < m → c < ns → subjectNode st i ≡ subjectNode st j → at sq i c ≡ at sq j c
 marks-even st col sq m ns P w b i j c li lj lc e =
     let same : at sq i c ≡ 1 → at sq j c ≡ 1 = λ z. w j c lj lc .1 (subst (λ (x : ℕ). P x (getD col c 0)) e (w i c li lc .0 z)) in

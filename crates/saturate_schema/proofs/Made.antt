@@ -25,7 +25,7 @@ module _ (st : List ℕ) (w : WellFormed isAllowedStatement mostStatements st) (
   columns-are = ends-columns st (count st) col ns (omega (arith, w .within, w .laid .counted, capacity-most mostStatements st)) g
 
   -- The squares with what was cleared in the first.
-  pub compiled-made : (d₀ d r : List ℕ) → Closed st (count st) col ns d₀ (edges st 4 (count st)) → Bits d₀ → Cleared st col ns d₀ d (count st) → Closed st (count st) col ns r (edges st 5 (count st)) → Bits r → Compiled st (count st) col ns nc d r
+  pub compiled-made : (d₀ d r : List ℕ) → Closed st (count st) col ns (at d₀) (edges st 4 (count st)) → Bits d₀ → Cleared st col ns d₀ d (count st) → Closed st (count st) col ns (at r) (edges st 5 (count st)) → Bits r → Compiled st (count st) col ns nc d r
   compiled-made d₀ d r cd bd cl cr br =
       record {
         statements = statements-are st w;

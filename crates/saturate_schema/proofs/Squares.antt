@@ -7,7 +7,8 @@ use native.Mathlib.Omega.{arith}
 use native.Mathlib.Decide.{ℕ-discrete, decLt}
 use lib.ListN.{length, getD, set}
 use lib.Seq.{getD-set-same, getD-set-other}
-use Rattle.saturate_schema.specs.inside.Squares.{at, Bits, United, Gained}
+use Rattle.saturate_schema.specs.inside.Nodes.{word}
+use Rattle.saturate_schema.specs.inside.Squares.{at, Bits, United, Joined, Gained}
 
 -- No column was done yet.
 pub united-start : (sq gain : List ℕ) (a : ℕ) → United sq sq gain a 0
@@ -28,7 +29,7 @@ united-more sq₀ sq gain a k v g lk ln one old =
     }
 
 -- What is united of bits is bits.
-united-bits : (sq₀ sq gain : List ℕ) (a k : ℕ) → United sq₀ sq gain a k → Bits sq₀ → Bits sq
+pub united-bits : (sq₀ sq gain : List ℕ) (a k : ℕ) → United sq₀ sq gain a k → Bits sq₀ → Bits sq
 united-bits sq₀ sq gain a k u b i c l =
     by-cases (ℕ-discrete i a)
     (λ e. rw e (by-cases (ℕ-discrete (getD gain c 0) 1)
@@ -36,49 +37,56 @@ united-bits sq₀ sq gain a k u b i c l =
     (λ n. omega (arith, u .miss c l n, b a c l))))
     (λ n. omega (arith, u .other i c l n, b i c l))
 
+-- A row that is united has what gain has.
+pub united-joined : (sq₀ sq gain : List ℕ) (a ns : ℕ) → ns ≤ 512 → United sq₀ sq gain a ns → Joined (at sq₀) (at sq) (word gain) a ns
+united-joined sq₀ sq gain a ns le u = record {
+  here = λ c l. (
+    λ h. by-cases (ℕ-discrete (getD gain c 0) 1) inr (λ n. inl (sym (u .miss c (omega arith) n) ∙ h)),
+    λ z. by-cases (ℕ-discrete (getD gain c 0) 1) (u .hit c l) (λ n. ⊎-elim (λ o. u .miss c (omega arith) n ∙ o) (λ w. absurd (n w)) z),
+  );
+  other = λ i c l n. u .other i c (omega arith) n;
+}
+
 -- In the rows below i that lead, gain was united; the rest is as before.
-pub record Spread (sq₀ sq gain : List ℕ) (leads : ℕ → Type 0) (ns i : ℕ) : Type 0 where
-  pub bits : Bits sq₀ → Bits sq
-  pub done : (j c : ℕ) → j < i → c < ns → (at sq j c ≡ 1) ↔ ((at sq₀ j c ≡ 1) ⊎ (leads j × (getD gain c 0 ≡ 1)))
-  pub rest : (j c : ℕ) → i ≤ j → c < 512 → at sq j c ≡ at sq₀ j c
+pub record Spread (bit₀ bit : ℕ → ℕ → ℕ) (gain : ℕ → ℕ) (leads : ℕ → Type 0) (ns i : ℕ) : Type 0 where
+  pub done : (j c : ℕ) → j < i → c < ns → (bit j c ≡ 1) ↔ ((bit₀ j c ≡ 1) ⊎ (leads j × (gain c ≡ 1)))
+  pub rest : (j c : ℕ) → i ≤ j → c < ns → bit j c ≡ bit₀ j c
 
 -- No row was done yet.
-pub spread-start : (sq gain : List ℕ) (leads : ℕ → Type 0) (ns : ℕ) → Spread sq sq gain leads ns 0
-spread-start sq gain leads ns = record { bits = λ b. b; done = λ j c h l. absurd (omega arith); rest = λ j c h l. refl }
+pub spread-start : (bit : ℕ → ℕ → ℕ) (gain : ℕ → ℕ) (leads : ℕ → Type 0) (ns : ℕ) → Spread bit bit gain leads ns 0
+spread-start bit gain leads ns = record { done = λ j c h l. absurd (omega arith); rest = λ j c h l. refl }
 
--- The next row leads there and was united with gain.
-pub spread-yes : (sq₀ sq sq' gain : List ℕ) (leads : ℕ → Type 0) (ns i : ℕ) → ns ≤ 512 → Spread sq₀ sq gain leads ns i → leads i → United sq sq' gain i ns → Spread sq₀ sq' gain leads ns (i + 1)
-spread-yes sq₀ sq sq' gain leads ns i le g yes' u =
-    record {
-      bits = λ b. united-bits sq sq' gain i ns u (g .bits b);
-      done = λ j c h l. by-cases (ℕ-discrete j i) (λ e. rw e (here c l)) (λ n. rw (u .other j c (omega arith) n) (g .done j c (omega arith) l));
-      rest = λ j c h l. u .other j c l (λ e. omega arith) ∙ g .rest j c (omega arith) l;
-    }
-  where
-    here : (c : ℕ) → c < ns → (at sq' i c ≡ 1) ↔ ((at sq₀ i c ≡ 1) ⊎ (leads i × (getD gain c 0 ≡ 1)))
-    here c l =
-        let old : at sq i c ≡ at sq₀ i c = g .rest i c (omega arith) (omega arith) in (
-          λ h. by-cases (ℕ-discrete (getD gain c 0) 1) (λ q. inr (yes', q)) (λ n. inl (sym old ∙ sym (u .miss c (omega arith) n) ∙ h)),
-          λ z. by-cases (ℕ-discrete (getD gain c 0) 1) (λ q. u .hit c l q) (λ n. ⊎-elim (λ o. u .miss c (omega arith) n ∙ old ∙ o) (λ w. absurd (n (w .1))) z),
-        )
+module _ (bit₀ bit : ℕ → ℕ → ℕ) (gain : ℕ → ℕ) (leads : ℕ → Type 0) (ns i : ℕ) (g : Spread bit₀ bit gain leads ns i) where
+  -- The next row leads there and was united with gain.
+  pub spread-yes : (bit' : ℕ → ℕ → ℕ) (n : ℕ) → ns ≤ n → leads i → Joined bit bit' gain i n → Spread bit₀ bit' gain leads ns (i + 1)
+  spread-yes bit' n le yes' u =
+      record {
+        done = λ j c h l. by-cases (ℕ-discrete j i) (λ e. rw e (here c l)) (λ k. rw (u .other j c (omega arith) k) (g .done j c (omega arith) l));
+        rest = λ j c h l. u .other j c (omega arith) (λ e. omega arith) ∙ g .rest j c (omega arith) l;
+      }
+    where
+      here : (c : ℕ) → c < ns → (bit' i c ≡ 1) ↔ ((bit₀ i c ≡ 1) ⊎ (leads i × (gain c ≡ 1)))
+      here c l =
+          let old : bit i c ≡ bit₀ i c = g .rest i c (omega arith) l in
+          let k = u .here c (omega arith) in
+          (λ h. ⊎-elim (λ o. inl (sym old ∙ o)) (λ q. inr (yes', q)) (k .0 h), λ z. k .1 (⊎-elim (λ o. inl (old ∙ o)) (λ w. inr (w .1)) z))
 
--- The next row does not lead there.
-pub spread-no : (sq₀ sq gain : List ℕ) (leads : ℕ → Type 0) (ns i : ℕ) → ns ≤ 512 → Spread sq₀ sq gain leads ns i → ¬ leads i → Spread sq₀ sq gain leads ns (i + 1)
-spread-no sq₀ sq gain leads ns i le g none =
-    record {
-      bits = g .bits;
-      done = λ j c h l. by-cases (ℕ-discrete j i) (λ e. rw e (here c l)) (λ n. g .done j c (omega arith) l);
-      rest = λ j c h l. g .rest j c (omega arith) l;
-    }
-  where
-    here : (c : ℕ) → c < ns → (at sq i c ≡ 1) ↔ ((at sq₀ i c ≡ 1) ⊎ (leads i × (getD gain c 0 ≡ 1)))
-    here c l =
-        let old : at sq i c ≡ at sq₀ i c = g .rest i c (omega arith) (omega arith) in
-        (λ h. inl (sym old ∙ h), λ z. ⊎-elim (λ o. old ∙ o) (λ w. absurd (none (w .0))) z)
+  -- The next row does not lead there.
+  pub spread-no : ¬ leads i → Spread bit₀ bit gain leads ns (i + 1)
+  spread-no none =
+      record {
+        done = λ j c h l. by-cases (ℕ-discrete j i) (λ e. rw e (here c l)) (λ n. g .done j c (omega arith) l);
+        rest = λ j c h l. g .rest j c (omega arith) l;
+      }
+    where
+      here : (c : ℕ) → c < ns → (bit i c ≡ 1) ↔ ((bit₀ i c ≡ 1) ⊎ (leads i × (gain c ≡ 1)))
+      here c l =
+          let old : bit i c ≡ bit₀ i c = g .rest i c (omega arith) l in
+          (λ h. inl (sym old ∙ h), λ z. ⊎-elim (λ o. old ∙ o) (λ w. absurd (none (w .0))) z)
 
 -- One column more.
-pub gained-more : (sq gain : List ℕ) (go m so k v : ℕ) → Gained sq gain go m so k → k < length gain → ((v ≡ 1) ↔ ((k ≡ so) ⊎ ((go < m) × (at sq go k ≡ 1)))) → Gained sq (set gain k v) go m so (k + 1)
-gained-more sq gain go m so k v g l h c lc =
+pub gained-more : (bit : ℕ → ℕ → ℕ) (gain : List ℕ) (go m so k v : ℕ) → Gained bit (word gain) go m so k → k < length gain → ((v ≡ 1) ↔ ((k ≡ so) ⊎ ((go < m) × (bit go k ≡ 1)))) → Gained bit (word (set gain k v)) go m so (k + 1)
+gained-more bit gain go m so k v g l h c lc =
     by-cases (ℕ-discrete c k)
     (λ e. rw (e, getD-set-same gain k v 0 l) h)
     (λ n. rw (getD-set-other gain k c v 0 n) (g c (omega arith)))

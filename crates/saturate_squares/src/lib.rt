@@ -1,32 +1,17 @@
 // The squares of the compiled statements: bits that say which columns each statement's subject leads to.
 use saturate_schema::MOST_COLUMNS;
+use saturate_schema::applies;
 use saturate_schema::column;
 use saturate_schema::first_statement;
 use saturate_schema::object_node;
 use saturate_schema::subject_node;
-use terms::Term;
 ghost use mathlib.Core.Path.{_≡_};
 ghost use mathlib.Core.Logic.{_⊎_, _↔_};
 ghost use Prim.Native.Nat.{ℕ, _+_, _*_, _≤_, _<_};
 ghost use lib.ListN.{length, getD};
 ghost use Rattle.table.specs.inside.Bounds.{Tells};
-ghost use Rattle.saturate_schema.specs.inside.Nodes.{applies, edges, Columns};
+ghost use Rattle.saturate_schema.specs.inside.Nodes.{edges, Columns, word};
 ghost use Rattle.saturate_schema.specs.inside.Squares.{at, Bits, United, Gained, Leads, Extended, Closed, Cleared};
-
-// Whether statement j is one of 2, 3 and via.
-fn applies(statements: &[u32], j: usize, via: u32) -> bool
-    requires { ⌜ j * 3 + 3 < length (now statements) ⌝ }
-    ensures { λ r. ⌜ r ≡ applies (now (statements .entry)) via j ⌝ }
-{
-    let k = statements[j * 3 + 2];
-    if k == Term::SUB_CLASS_OF {
-        return true;
-    }
-    if k == Term::SUB_PROPERTY_OF {
-        return true;
-    }
-    k == via
-}
 
 // The bit b, or 1 where the bit g is 1.
 fn joined(g: u8, b: u8) -> u8
@@ -50,7 +35,7 @@ fn unite(square: &mut [u8], a: usize, gain: &[u8], ns: usize)
 // Whether row i is of the node s or leads to it; ss is its column.
 fn leads(statements: &[u32], square: &[u8], i: usize, s: u64, ss: usize, ns: usize) -> bool
     requires { ⌜ (i * 3 + 3 < length (now statements)) × (i * 512 + 512 ≤ length (now square)) × (ns ≤ 512) ⌝ }
-    ensures { λ r. ⌜ Tells r (Leads (now (statements .entry)) (now (square .entry)) s ss ns i) ⌝ }
+    ensures { λ r. ⌜ Tells r (Leads (now (statements .entry)) (at (now (square .entry))) s ss ns i) ⌝ }
 {
     if subject_node(statements, i) == s {
         return true;
@@ -72,7 +57,8 @@ fn close_statement(
     ns: usize,
 )
     requires { ⌜ (m * 3 < length (now statements)) × (m * 512 ≤ length (now square)) × (ns ≤ 512) × (ns ≤ length (now gain)) ⌝ }
-    ensures { λ _. ⌜ Extended (now (statements .entry)) m (now (square .entry)) (now (square .exit)) (now (gain .entry)) s ss ns ⌝ }
+    ensures { λ _. ⌜ Extended (now (statements .entry)) m (at (now (square .entry))) (at (now (square .exit))) (word (now (gain .entry))) s ss ns ⌝ }
+    ensures { λ _. ⌜ (Bits (now (square .entry)) → Bits (now (square .exit))) ⌝ }
 {
     let mut i = 0;
     while i < m {
@@ -101,7 +87,7 @@ fn gain_bit(square: &[u8], go: usize, m: usize, so: usize, c: usize) -> u8
 // What a row that leads to a statement gains: its end, column so, and what row go of that end has.
 fn gains(square: &[u8], gain: &mut [u8], go: usize, m: usize, so: usize, ns: usize)
     requires { ⌜ (m * 512 ≤ length (now square)) × (ns ≤ 512) × (ns ≤ length (now gain)) ⌝ }
-    ensures { λ _. ⌜ Gained (now (square .entry)) (now (gain .exit)) go m so ns ⌝ }
+    ensures { λ _. ⌜ Gained (at (now (square .entry))) (word (now (gain .exit))) go m so ns ⌝ }
 {
     let mut c = 0;
     while c < ns {
@@ -123,7 +109,7 @@ pub fn close(
     requires { ⌜ Columns (now statements) m (now columns) ns ⌝ }
     requires { ⌜ (m * 3 < length (now statements)) × (m * 512 ≤ length (now square)) × (ns ≤ length (now columns)) × (ns ≤ length (now gain)) ⌝ }
     requires { ⌜ ((i c : ℕ) → at (now square) i c ≡ 0) ⌝ }
-    ensures { λ _. ⌜ Closed (now (statements .entry)) m (now (columns .entry)) ns (now (square .exit)) (edges (now (statements .entry)) via m) ⌝ }
+    ensures { λ _. ⌜ Closed (now (statements .entry)) m (now (columns .entry)) ns (at (now (square .exit))) (edges (now (statements .entry)) via m) ⌝ }
     ensures { λ _. ⌜ Bits (now (square .exit)) ⌝ }
 {
     let mut n = 0;

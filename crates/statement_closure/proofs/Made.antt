@@ -1,83 +1,79 @@
 -- The words hold the closed pairs. Assumes nothing.
 use mathlib.Core.Path.{_≡_, refl, sym, ap, _∙_, subst}
-use mathlib.Core.List.{List, List·Memᴰ}
-use mathlib.Core.Logic.{_↔_, _⊎_, inl, inr, by-cases}
-use Prim.Native.Nat.{ℕ, _+_, _*_, _^_, _≤_, _<_}
+use mathlib.Core.List.{List}
+use mathlib.Core.Logic.{_↔_, inl, inr, by-cases}
+use Prim.Native.Nat.{ℕ, _+_, _*_, _/_, _%_, _^_, _≤_, _<_}
 use native.Mathlib.Omega.{arith}
 use native.Mathlib.Decide.{ℕ-discrete, decLt}
 use lib.ListN.{length, getD}
+use Rattle.query_keys.specs.inside.Bits.{bitOf}
+use Rattle.query_keys.proofs.BitLaws.{zero-bit}
 use Rattle.spec.specs.declared.Triple.{Triple}
 use Rattle.spec.specs.Terms.{isAllowedStatement}
 use Rattle.spec.specs.Tables.{count, rowAt, rows, mostStatements}
 use Rattle.spec.specs.inside.Laid.{WellFormed}
 use Rattle.spec.proofs.TableFormed.{capacity-most}
 use Rattle.saturate_schema.specs.inside.Walks.{Edge, Plus}
-use Rattle.saturate_schema.specs.inside.Nodes.{propertyNode, subjectNode, objectNode, edges}
-use Rattle.saturate_schema.specs.inside.Squares.{at}
-use Rattle.saturate_schema.specs.inside.Ascent.{Placed, Ends, termOf}
+use Rattle.saturate_schema.specs.inside.Nodes.{propertyNode, subjectNode, edges}
+use Rattle.saturate_schema.specs.inside.Ascent.{Placed, Ends}
 use Rattle.saturate_schema.proofs.Walks.{plus-ends}
 use Rattle.saturate_schema.proofs.Closing.{edges-of, subject-class-node, subject-property-node}
 use Rattle.saturate_schema.proofs.Ascent.{term-class, term-less}
 use Rattle.saturate_schema.proofs.Tables.{row-subject, row-property, statements-are}
-use Rattle.closure_theory.specs.Closure.{Steps}
-use Rattle.closure_theory.specs.inside.Given.{IsTransitive}
-use Rattle.closure_words.specs.inside.Layout.{classesOf, columnsOf, termAt, bitAt, firstColumn, endColumn, IsColumn, Shaped}
+use Rattle.spec.specs.inside.Stated.{Steps}
+use Rattle.spec.specs.inside.Given.{IsTransitive}
+use Rattle.closure_words.specs.inside.Layout.{columnsOf, termAt, bitAt, IsColumn, Shaped}
 use Rattle.closure_words.specs.inside.Closure.{LeadsTo, IsStated, HasColumn, IsClosure}
 use Rattle.closure_words.proofs.Columns.{first-class, first-other, end-class, end-other}
-use Rattle.closure_packing.specs.inside.Written.{Headed, Packed}
-use Rattle.statement_closure.specs.inside.Squared.{Squared}
+use Rattle.rows_zero.specs.inside.Effects.{WordsZeroed}
+use Rattle.closure_columns.specs.inside.Headed.{Headed}
+use Rattle.statement_closure.specs.inside.Filled.{Filled}
 use Rattle.statement_closure.proofs.Walked.{class-walk, class-end, property-walk, property-end}
 
 -- The statements of a well-formed table are at most 512.
 pub statement-count : (st : List ℕ) → WellFormed isAllowedStatement mostStatements st → (count st ≤ 512) × (count st * 3 < length st)
 statement-count st w = (omega (arith, w .within, w .laid .counted, capacity-most mostStatements st), omega (arith, w .laid .fits, w .laid .counted))
 
-module _ (st : List ℕ) (w : WellFormed isAllowedStatement mostStatements st) (col sq ws₀ ws : List ℕ) (ns nc : ℕ)
-    (g : Ends st (count st) col ns) (p : Placed col ns (2 ^ 32) nc) (s : Squared st (count st) col ns sq) (h : Headed col ns nc ws₀) (b : Packed sq ws₀ ws (count st)) where
-  -- The counts and the terms stand before the bits.
-  classes-are : classesOf ws ≡ nc
-  classes-are = b .before 0 (omega arith) ∙ h .classes
+-- Rows of words that are 0 have no bits.
+pub rows-empty : (ws₀ ws : List ℕ) (m : ℕ) → WordsZeroed 514 (514 + m * 16) ws₀ ws → (i c : ℕ) → i < m → c < 512 → bitAt ws i c ≡ 0
+rows-empty ws₀ ws m z i c l lc = ap (λ (x : ℕ). bitOf x (c % 32)) (z .zeros (514 + i * 16 + c / 32) (omega arith) (omega arith)) ∙ zero-bit (c % 32)
 
-  columns-are : columnsOf ws ≡ ns
-  columns-are = b .before 1 (omega arith) ∙ h .columns
-
+module _ (st : List ℕ) (w : WellFormed isAllowedStatement mostStatements st) (col ws₀ ws : List ℕ) (ns nc : ℕ)
+    (g : Ends st (count st) col ns) (p : Placed col ns (2 ^ 32) nc) (s : Filled st (count st) col ns ws₀) (h : Headed col ns nc ws₀ ws) where
   few : ns ≤ 512
   few = omega (arith, g .few, statement-count st w .0)
 
-  term-of : (c : ℕ) → c < ns → termAt ws c ≡ termOf (getD col c 0)
-  term-of c l = b .before (c + 2) (omega (arith, few)) ∙ h .terms c l
-
   class-at : (c : ℕ) → c < nc → termAt ws c ≡ getD col c 0
-  class-at c l = term-of c (omega (arith, p .within)) ∙ term-class (getD col c 0) (p .before c l)
+  class-at c l = h .terms c (omega (arith, p .within)) ∙ term-class (getD col c 0) (p .before c l)
 
   property-at : (c : ℕ) → nc ≤ c → c < ns → getD col c 0 ≡ propertyNode (termAt ws c)
-  property-at c f l = omega (arith, term-of c l, term-less (getD col c 0) (p .after c f l), p .after c f l)
+  property-at c f l = omega (arith, h .terms c l, term-less (getD col c 0) (p .after c f l), p .after c f l)
 
   -- The columns of a property.
   class-column : (c : ℕ) → IsColumn ws 2 c ↔ (c < nc)
-  class-column c = (λ i. omega (arith, i .below, end-class ws 2 refl, classes-are), λ l. record { from = omega (arith, first-class ws 2 refl); below = omega (arith, end-class ws 2 refl, classes-are) })
+  class-column c = (λ i. omega (arith, i .below, end-class ws 2 refl, h .classes), λ l. record { from = omega (arith, first-class ws 2 refl); below = omega (arith, end-class ws 2 refl, h .classes) })
 
   not-two : ¬ (_≡_ {A = ℕ} 3 2)
   not-two e = omega arith
 
   property-column : (c : ℕ) → IsColumn ws 3 c ↔ ((nc ≤ c) × (c < ns))
   property-column c = (
-    λ i. (omega (arith, i .from, first-other ws 3 not-two, classes-are), omega (arith, i .below, end-other ws 3 not-two, columns-are)),
-    λ l. record { from = omega (arith, l .0, first-other ws 3 not-two, classes-are); below = omega (arith, l .1, end-other ws 3 not-two, columns-are) },
+    λ i. (omega (arith, i .from, first-other ws 3 not-two, h .classes), omega (arith, i .below, end-other ws 3 not-two, h .columns)),
+    λ l. record { from = omega (arith, l .0, first-other ws 3 not-two, h .classes); below = omega (arith, l .1, end-other ws 3 not-two, h .columns) },
   )
 
   shape : length ws ≡ 8706 → Shaped ws
   shape long =
       record {
         long = long;
-        classes = omega (arith, classes-are, columns-are, p .within);
-        few = omega (arith, columns-are, few);
+        classes = omega (arith, h .classes, h .columns, p .within);
+        few = omega (arith, h .columns, few);
         rising = λ k c d f l e. by-cases (ℕ-discrete k 2)
-            (λ q. let u = end-class ws k q in omega (arith, class-at c (omega (arith, u, classes-are)), class-at d (omega (arith, u, classes-are)), g .rising c d l (omega (arith, u, classes-are, p .within))))
+            (λ q. let u = end-class ws k q in omega (arith, class-at c (omega (arith, u, h .classes)), class-at d (omega (arith, u, h .classes)), g .rising c d l (omega (arith, u, h .classes, p .within))))
             (λ n.
             let u = first-other ws k n in
             let v = end-other ws k n in
-            omega (arith, property-at c (omega (arith, u, classes-are)) (omega (arith, v, columns-are)), property-at d (omega (arith, u, classes-are)) (omega (arith, v, columns-are)), g .rising c d l (omega (arith, v, columns-are))));
+            omega (arith, property-at c (omega (arith, u, h .classes)) (omega (arith, v, h .columns)), property-at d (omega (arith, u, h .classes)) (omega (arith, v, h .columns)), g .rising c d l (omega (arith, v, h .columns))));
       }
 
   -- ---- the bits
@@ -85,8 +81,8 @@ module _ (st : List ℕ) (w : WellFormed isAllowedStatement mostStatements st) (
   -- A bit is a walk.
   bit-walk : (i c : ℕ) → i < count st → c < ns → (bitAt ws i c ≡ 1) ↔ Plus (edges st 0 (count st)) (subjectNode st i) (getD col c 0)
   bit-walk i c l lc =
-      let e = b .bits i c l (omega (arith, few)) in
-      (λ q. s .closed i c l lc .0 (sym e ∙ q), λ u. e ∙ s .closed i c l lc .1 u)
+      let e = h .bits i c in
+      (λ q. s i c l lc .0 (sym e ∙ q), λ u. e ∙ s i c l lc .1 u)
 
   -- The node of a subclass statement's subject,
   class-node : (i : ℕ) → i < count st → rowAt st i .property ≡ 2 → subjectNode st i ≡ rowAt st i .subject
@@ -167,8 +163,8 @@ module _ (st : List ℕ) (w : WellFormed isAllowedStatement mostStatements st) (
       bits i k c t l = by-kind (t .transitive)
         where
           by-kind : IsTransitive (rowAt st i) → (bitAt ws i c ≡ 1) ↔ (IsColumn ws k c × LeadsTo st i (termAt ws c))
-          by-kind (inl e) = rw (sym (t .property) ∙ e, e) (class-bits i c (t .below) e (omega (arith, l, columns-are)))
-          by-kind (inr e) = rw (sym (t .property) ∙ e, e) (property-bits i c (t .below) e (omega (arith, l, columns-are)))
+          by-kind (inl e) = rw (sym (t .property) ∙ e, e) (class-bits i c (t .below) e (omega (arith, l, h .columns)))
+          by-kind (inr e) = rw (sym (t .property) ∙ e, e) (property-bits i c (t .below) e (omega (arith, l, h .columns)))
 
       all : (i k y : ℕ) → IsStated st i k → LeadsTo st i y → HasColumn ws k y
       all i k y t q = by-kind (t .transitive)

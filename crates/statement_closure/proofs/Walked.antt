@@ -19,8 +19,8 @@ use Rattle.saturate_schema.specs.inside.Walks.{Edge, Plus, edge, more}
 use Rattle.saturate_schema.specs.inside.Nodes.{propertyNode, subjectNode, objectNode, applies, edges}
 use Rattle.saturate_schema.proofs.Closing.{edges-of, edges-in, applies-two, applies-three, applies-via, subject-class-node, subject-property-node, object-class-node, object-property-node}
 use Rattle.saturate_schema.proofs.Tables.{row-subject, row-property, row-object, row-member, member-row, statements-small, statements-are}
-use Rattle.closure_theory.specs.Closure.{Steps}
-use Rattle.closure_theory.proofs.Steps.{steps-one, steps-more}
+use Rattle.spec.specs.inside.Stated.{Steps}
+use Rattle.spec.proofs.Steps.{steps-one, steps-more}
 
 module _ (st : List ℕ) (w : WellFormed isAllowedStatement mostStatements st) where
   -- The edges are the statements 2 and 3.

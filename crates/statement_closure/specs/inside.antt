@@ -1,1 +1,1 @@
-pub mod Squared
+pub mod Filled

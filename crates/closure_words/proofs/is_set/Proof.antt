@@ -1,6 +1,6 @@
 -- The test reads the bit.
 use borrow.Author.Needs.{needs}
-use Rattle.closure_words.proofs.Columns.{tells-equal}
+use Rattle.table.proofs.SearchLaws.{tells-equal}
 use Rattle.closure_words.proofs.is_set.Statement.{statement}
 use Rattle.closure_words.proofs.is_set.Tie as tie
 

@@ -2,12 +2,11 @@
 use mathlib.Core.Path.{_≡_}
 use mathlib.Core.List.{List}
 use mathlib.Core.Logic.{_↔_}
-use Prim.Native.Nat.{ℕ, _≤_, _<_}
-use Rattle.spec.specs.declared.Triple.{Triple}
+use Prim.Native.Nat.{ℕ, _<_}
 use Rattle.spec.specs.Tables.{count, rowAt, rows}
-use Rattle.closure_theory.specs.Closure.{Steps}
-use Rattle.closure_theory.specs.inside.Given.{IsTransitive}
-use Rattle.closure_words.specs.inside.Layout.{columnsOf, termAt, bitAt, IsColumn, Shaped, Among, Rising}
+use Rattle.spec.specs.inside.Stated.{Steps}
+use Rattle.spec.specs.inside.Given.{IsTransitive}
+use Rattle.closure_words.specs.inside.Layout.{columnsOf, termAt, bitAt, IsColumn, Shaped}
 
 -- The subject of statement i leads to b by one or more steps of its property.
 abbrev pub LeadsTo : List ℕ → ℕ → ℕ → Type 0
@@ -31,9 +30,3 @@ pub record IsClosure (st ws : List ℕ) : Type 0 where
   pub shape : Shaped ws
   pub bits : (i k c : ℕ) → IsStated st i k → c < columnsOf ws → (bitAt ws i c ≡ 1) ↔ (IsColumn ws k c × LeadsTo st i (termAt ws c))
   pub all : (i k b : ℕ) → IsStated st i k → LeadsTo st i b → HasColumn ws k b
-
--- The first n words of out are what the subject of statement i leads to, ascending.
-pub record AllJoined (st : List ℕ) (i : ℕ) (out : List ℕ) (n : ℕ) : Type 0 where
-  pub few : n ≤ 512
-  pub rising : Rising out n
-  pub exactly : (b : ℕ) → Among out n b ↔ LeadsTo st i b

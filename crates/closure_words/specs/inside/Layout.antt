@@ -44,20 +44,3 @@ pub record Shaped (ws : List ℕ) : Type 0 where
   pub classes : classesOf ws ≤ columnsOf ws
   pub few : columnsOf ws ≤ 512
   pub rising : (k c d : ℕ) → firstColumn ws k ≤ c → c < d → d < endColumn ws k → termAt ws c < termAt ws d
-
--- x is one of the first n words.
-pub record Among (ws : List ℕ) (n x : ℕ) : Type 0 where
-  pub place : ℕ
-  pub below : place < n
-  pub is : getD ws place 0 ≡ x
-
--- The first n words ascend strictly.
-abbrev pub Rising : List ℕ → ℕ → Type 0
-Rising ws n = (a b : ℕ) → a < b → b < n → getD ws a 0 < getD ws b 0
-
--- Of the columns from lo to before hi those before r have terms below x, and those from r on have not.
-pub record Placed (ws : List ℕ) (lo hi x r : ℕ) : Type 0 where
-  pub from : lo ≤ r
-  pub within : r ≤ hi
-  pub before : (c : ℕ) → lo ≤ c → c < r → termAt ws c < x
-  pub after : (c : ℕ) → r ≤ c → c < hi → x ≤ termAt ws c

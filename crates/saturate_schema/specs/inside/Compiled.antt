@@ -20,8 +20,8 @@ pub record Compiled (st : List ℕ) (m : ℕ) (col : List ℕ) (ns nc : ℕ) (d 
   pub few : nc ≤ ns
   pub classes : (c : ℕ) → c < nc → getD col c 0 < 2 ^ 32
   pub properties : (c : ℕ) → nc ≤ c → c < ns → 2 ^ 32 ≤ getD col c 0
-  pub domains : Marks st m col ns d (λ a b. Plus (edges st 4 m) a b × (¬ (a ≡ b)))
-  pub ranges : Closed st m col ns r (edges st 5 m)
+  pub domains : Marks st m col ns (at d) (λ a b. Plus (edges st 4 m) a b × (¬ (a ≡ b)))
+  pub ranges : Closed st m col ns (at r) (edges st 5 m)
   pub domain-bits : (i c : ℕ) → i < m → c < ns → at d i c ≤ 1
   pub range-bits : (i c : ℕ) → i < m → c < ns → at r i c ≤ 1
 

@@ -4,20 +4,20 @@ use mathlib.Core.Path.{_≡_, refl, sym, _∙_}
 use Prim.Native.Nat.{_≤_, _-_}
 use native.Mathlib.Omega.{arith}
 use lib.ListN.{length}
-use Rattle.saturate_schema.specs.inside.Nodes.{edges}
-use Rattle.saturate_schema.specs.inside.Squares.{Bits, Closed}
+use Rattle.saturate_schema.specs.inside.Nodes.{word, edges}
+use Rattle.saturate_schema.specs.inside.Squares.{at, Bits, Closed}
 use Rattle.saturate_schema.proofs.Closing.{closed-start, closed-more, closed-pass, step-made}
 use Rattle.saturate_squares.proofs.close.Statement.{statement}
 use Rattle.saturate_squares.proofs.close.Tie as tie
 
 abbrev Inv-loop : tie.InvT-loop
-Inv-loop st m col ns via sq₀ gain₀ n₀ sq gain n = (n ≤ m) × (length sq ≡ length sq₀) × (length gain ≡ length gain₀) × Closed st m col ns sq (edges st via n) × Bits sq
+Inv-loop st m col ns via sq₀ gain₀ n₀ sq gain n = (n ≤ m) × (length sq ≡ length sq₀) × (length gain ≡ length gain₀) × Closed st m col ns (at sq) (edges st via n) × Bits sq
 
 abbrev μ-loop : tie.MeasureT-loop
 μ-loop st m col ns via sq₀ gain₀ n₀ sq gain n = m - n
 
 loop-holds : tie.Need-loop-holds Inv-loop μ-loop
-loop-holds c = let start = c .before .before .before .before in (search needs, refl, refl, closed-start (start .args .statements .now) (start .args .m) (start .args .columns .now) (start .args .ns) (start .args .square .now) (start .args .via) (start .pre .1 .1), λ i k l. omega (arith, start .pre .1 .1 i k))
+loop-holds c = let start = c .before .before .before .before in (search needs, refl, refl, closed-start (start .args .statements .now) (start .args .m) (start .args .columns .now) (start .args .ns) (at (start .args .square .now)) (start .args .via) (λ i k li lk. start .pre .1 .1 i k), λ i k l. omega (arith, start .pre .1 .1 i k))
 
 add-n : tie.Need-add-n Inv-loop μ-loop
 add-n c = search needs
@@ -73,12 +73,12 @@ loop-again c =
       omega (arith, in-loop .loop-test .taken),
       after-close-statement .close-statement .kept .1 .1 .0 ∙ at-loop .loop .inv .1,
       after-gains .gains .kept .1 .0 ∙ at-loop .loop .inv .2,
-      closed-more (start .args .statements .now) (start .args .m) (start .args .columns .now) (start .args .ns) (at-loop .loop .square) (start .args .via) (at-loop .loop .n) (at-loop .loop .inv .0) (start .pre .0) (at-loop .loop .inv .3)
-          (after-close-statement .close-statement .last .1 .1 .0) (after-gains .gains .last .1 .0) _ _ _ (in-loop .loop-test .taken)
-          (step-made (start .args .statements .now) (start .args .m) (start .args .columns .now) (start .args .ns) (at-loop .loop .square) (after-close-statement .close-statement .last .1 .1 .0) (after-gains .gains .last .1 .0) (at-loop .loop .n) _ _ _ _ _
-          (after-subject-node .subject-node .ensures) (after-object-node .object-node .ensures .0) (after-column .column .ensures) (after-column2 .column2 .ensures) (after-first-statement .first-statement .ensures) (after-gains .gains .ensures) (after-close-statement .close-statement .ensures))
+      closed-more (start .args .statements .now) (start .args .m) (start .args .columns .now) (start .args .ns) (at (at-loop .loop .square)) (start .args .via) (at-loop .loop .n) (at-loop .loop .inv .0) (start .pre .0) (at-loop .loop .inv .3)
+          (at (after-close-statement .close-statement .last .1 .1 .0)) (word (after-gains .gains .last .1 .0)) _ _ _ (in-loop .loop-test .taken)
+          (step-made (start .args .statements .now) (start .args .m) (start .args .columns .now) (start .args .ns) (at (at-loop .loop .square)) (at (after-close-statement .close-statement .last .1 .1 .0)) (word (after-gains .gains .last .1 .0)) (at-loop .loop .n) _ _ _ _ _
+          (after-subject-node .subject-node .ensures) (after-object-node .object-node .ensures .0) (after-column .column .ensures) (after-column2 .column2 .ensures) (after-first-statement .first-statement .ensures) (after-gains .gains .ensures) (after-close-statement .close-statement .ensures .0))
           (sym (after-applies .applies .ensures) ∙ at-if1 .if1 .taken),
-      after-close-statement .close-statement .ensures .bits (at-loop .loop .inv .4),
+      after-close-statement .close-statement .ensures .1 (at-loop .loop .inv .4),
     )
 
 loop-less-2 : tie.Need-loop-less-2 Inv-loop μ-loop
@@ -91,7 +91,7 @@ loop-again-2 c =
       omega arith,
       at-loop .loop .inv .1,
       at-loop .loop .inv .2,
-      closed-pass (start .args .statements .now) (start .args .m) (start .args .columns .now) (start .args .ns) (at-loop .loop .square) (start .args .via) (at-loop .loop .n) (at-loop .loop .inv .0) (start .pre .0) (at-loop .loop .inv .3)
+      closed-pass (start .args .statements .now) (start .args .m) (start .args .columns .now) (start .args .ns) (at (at-loop .loop .square)) (start .args .via) (at-loop .loop .n) (at-loop .loop .inv .0) (start .pre .0) (at-loop .loop .inv .3)
           (sym (c .before .applies .ensures) ∙ c .if1 .left),
       at-loop .loop .inv .4,
     )

@@ -4,14 +4,15 @@ use mathlib.Core.Path.{_≡_, refl, _∙_}
 use Prim.Native.Nat.{_≤_, _-_}
 use native.Mathlib.Omega.{arith}
 use lib.ListN.{length}
-use Rattle.saturate_schema.specs.inside.Squares.{Gained}
+use Rattle.saturate_schema.specs.inside.Squares.{at, Gained}
+use Rattle.saturate_schema.specs.inside.Nodes.{word}
 use Rattle.saturate_schema.proofs.Squares.{gained-more}
 use lib.ListN.{length-set}
 use Rattle.saturate_squares.proofs.gains.Statement.{statement}
 use Rattle.saturate_squares.proofs.gains.Tie as tie
 
 abbrev Inv-loop : tie.InvT-loop
-Inv-loop sq gain₀ go m so ns c₀ gain c = (c ≤ ns) × (length gain ≡ length gain₀) × Gained sq gain go m so c
+Inv-loop sq gain₀ go m so ns c₀ gain c = (c ≤ ns) × (length gain ≡ length gain₀) × Gained (at sq) (word gain) go m so c
 
 abbrev μ-loop : tie.MeasureT-loop
 μ-loop sq gain₀ go m so ns c₀ gain c = ns - c
@@ -35,7 +36,7 @@ loop-again : tie.Need-loop-again Inv-loop μ-loop
 loop-again c =
     let at-loop = c .before .before in
     let start = at-loop .before .before .before in
-    (omega arith, length-set (at-loop .loop .gain) (at-loop .loop .c) (c .gain-bit .result) ∙ at-loop .loop .inv .1, gained-more (start .args .square .now) (at-loop .loop .gain) _ _ _ _ _ (at-loop .loop .inv .2) (omega (arith, at-loop .loop .inv .1)) (c .gain-bit .ensures))
+    (omega arith, length-set (at-loop .loop .gain) (at-loop .loop .c) (c .gain-bit .result) ∙ at-loop .loop .inv .1, gained-more (at (start .args .square .now)) (at-loop .loop .gain) _ _ _ _ _ (at-loop .loop .inv .2) (omega (arith, at-loop .loop .inv .1)) (c .gain-bit .ensures))
 
 same-length : tie.Need-same-length Inv-loop μ-loop
 same-length c = c .before .loop .inv .1

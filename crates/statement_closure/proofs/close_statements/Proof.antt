@@ -1,4 +1,4 @@
--- The table is well formed, so its columns and its square are as the parts ask, and the words hold its closed pairs.
+-- The table is well formed, so its columns are as the parts ask, and the words hold its closed pairs.
 use mathlib.Core.Path.{_∙_}
 use native.Mathlib.Omega.{arith}
 use Rattle.spec.specs.Terms.{isAllowedStatement}
@@ -31,35 +31,23 @@ slice-aggregate-classes c = search needs
 classes-requires : tie.Need-classes-requires
 classes-requires c κs = let start = c .before .before .before .before .before .before .before .before in let w = isTable-wellFormed isAllowedStatement mostStatements (start .args .statements .now) (start .pre .0) in let few = statement-count (start .args .statements .now) w in let columns = c .before .before .columns2 in (omega (arith, few .0, c .before .before .before .before .no-columns .ensures, columns .kept .1 .1 .0, columns .ensures .few), columns .ensures .rising)
 
-no-bits-requires : tie.Need-no-bits-requires
-no-bits-requires c κs = search needs
+slice-aggregate-fill-rows : tie.Need-slice-aggregate-fill-rows
+slice-aggregate-fill-rows c = search needs
 
-slice-aggregate-fill-square : tie.Need-slice-aggregate-fill-square
-slice-aggregate-fill-square c = search needs
-
-slice-aggregate-fill-square-2 : tie.Need-slice-aggregate-fill-square-2
-slice-aggregate-fill-square-2 c = search needs
-
-fill-square-requires : tie.Need-fill-square-requires
-fill-square-requires c κs = let start = c .before .before .before .before .before .before .before .before .before .before .before .before in let w = isTable-wellFormed isAllowedStatement mostStatements (start .args .statements .now) (start .pre .0) in let few = statement-count (start .args .statements .now) w in let columns = c .before .before .before .before .before .before .columns2 in (columns-are (start .args .statements .now) w _ _ _ (columns .ensures) (c .before .before .before .classes .ensures), (omega (arith, few .0, few .1, c .before .before .before .before .before .before .before .before .no-columns .ensures, columns .kept .1 .1 .0, columns .ensures .few), c .before .before .no-bits .ensures))
+fill-rows-requires : tie.Need-fill-rows-requires
+fill-rows-requires c κs = let start = c .before .before .before .before .before .before .before .before .before .before .before in let w = isTable-wellFormed isAllowedStatement mostStatements (start .args .statements .now) (start .pre .0) in let few = statement-count (start .args .statements .now) w in let columns = c .before .before .before .before .before .columns2 in (columns-are (start .args .statements .now) w _ _ _ (columns .ensures) (c .before .before .classes .ensures), (few .1, omega (arith, few .0, c .before .before .before .before .before .before .before .no-columns .ensures, columns .kept .1 .1 .0, columns .ensures .few), start .pre .1))
 
 slice-aggregate-write-columns : tie.Need-slice-aggregate-write-columns
 slice-aggregate-write-columns c = search needs
 
 write-columns-requires : tie.Need-write-columns-requires
-write-columns-requires c κs = let start = c .before .before .before .before .before .before .before .before .before .before .before .before .before .before .before .before in let w = isTable-wellFormed isAllowedStatement mostStatements (start .args .statements .now) (start .pre .0) in let few = statement-count (start .args .statements .now) w in let columns = c .before .before .before .before .before .before .before .before .before .before .columns2 in ((start .pre .1, omega (arith, few .0, c .before .before .before .before .before .before .before .before .before .before .before .before .no-columns .ensures, columns .kept .1 .1 .0, columns .ensures .few), omega (arith, few .0, columns .ensures .few), c .before .before .before .before .before .before .before .classes .ensures .within), columns .ensures .small)
-
-slice-aggregate-pack : tie.Need-slice-aggregate-pack
-slice-aggregate-pack c = search needs
-
-pack-requires : tie.Need-pack-requires
-pack-requires c κs = let start = c .before .before .before .before .before .before .before .before .before .before .before .before .before .before .before .before .before .before .before .before .before in let w = isTable-wellFormed isAllowedStatement mostStatements (start .args .statements .now) (start .pre .0) in let few = statement-count (start .args .statements .now) w in let square = c .before .before .before .before .before .before .before .before .fill-square .ensures in (c .before .before .before .before .write-columns .kept .1 .1 .1 .0 ∙ start .pre .1, square .long, few .0, square .bits)
+write-columns-requires c κs = let start = c .before .before .before .before .before .before .before .before .before .before .before .before .before .before .before .before in let w = isTable-wellFormed isAllowedStatement mostStatements (start .args .statements .now) (start .pre .0) in let few = statement-count (start .args .statements .now) w in let columns = c .before .before .before .before .before .before .before .before .before .before .columns2 in ((c .before .before .before .before .fill-rows .kept .1 .1 .1 .1 .0 ∙ start .pre .1, omega (arith, few .0, c .before .before .before .before .before .before .before .before .before .before .before .before .no-columns .ensures, columns .kept .1 .1 .0, columns .ensures .few), omega (arith, few .0, columns .ensures .few), c .before .before .before .before .before .before .before .classes .ensures .within), columns .ensures .small)
 
 same-length : tie.Need-same-length
 same-length c = search needs
 
 returns : tie.Need-returns
-returns c = let start = c .before .before .before .before .before .before .before .before .before .before .before .before .before .before .before .before .before .before .before .before .before .before .before .before in let w = isTable-wellFormed isAllowedStatement mostStatements (start .args .statements .now) (start .pre .0) in let few = statement-count (start .args .statements .now) w in closure-made (start .args .statements .now) w _ _ _ _ _ _ (c .before .before .before .before .before .before .before .before .before .before .before .before .before .before .before .before .before .before .columns2 .ensures) (c .before .before .before .before .before .before .before .before .before .before .before .before .before .before .before .classes .ensures) (c .before .before .before .before .before .before .before .before .before .before .before .fill-square .ensures) (c .before .before .before .before .before .before .before .write-columns .ensures) (c .before .before .pack .ensures) (c .before .before .pack .kept .1 .1 .0 ∙ c .before .before .before .before .before .before .before .write-columns .kept .1 .1 .1 .0 ∙ start .pre .1)
+returns c = let start = c .before .before .before .before .before .before .before .before .before .before .before .before .before .before .before .before .before .before .before in let w = isTable-wellFormed isAllowedStatement mostStatements (start .args .statements .now) (start .pre .0) in let few = statement-count (start .args .statements .now) w in closure-made (start .args .statements .now) w _ _ _ _ _ (c .before .before .before .before .before .before .before .before .before .before .before .before .before .columns2 .ensures) (c .before .before .before .before .before .before .before .before .before .before .classes .ensures) (c .before .before .before .before .before .before .before .fill-rows .ensures) (c .before .before .write-columns .ensures) (c .before .before .write-columns .kept .1 .1 .1 .0 ∙ c .before .before .before .before .before .before .before .fill-rows .kept .1 .1 .1 .1 .0 ∙ start .pre .1)
 
 pub close-statements-spec : {M : Type 1} → statement M
 close-statements-spec =
@@ -72,13 +60,9 @@ close-statements-spec =
     columns-requires
     slice-aggregate-classes
     classes-requires
-    no-bits-requires
-    slice-aggregate-fill-square
-    slice-aggregate-fill-square-2
-    fill-square-requires
+    slice-aggregate-fill-rows
+    fill-rows-requires
     slice-aggregate-write-columns
     write-columns-requires
-    slice-aggregate-pack
-    pack-requires
     same-length
     returns)
