@@ -3,7 +3,7 @@
 SHELL := /bin/bash
 .SHELLFLAGS := -eu -o pipefail -c
 CATALOGUE := crates/kept_ntriples/catalogue.nt
-.PHONY: run test crate trial bench bench-docs library programs deps jena rapper serdi prolog postgres valgrind cargo toolchain
+.PHONY: run test crate trial tried trial-of-binding trial-of-programs bench bench-docs library programs deps jena rapper serdi prolog postgres valgrind cargo toolchain
 
 run: programs
 	@echo "families, on the worked example's delivery (crates/families/stdin):" >&2
@@ -12,10 +12,9 @@ run: programs
 	@target/bin/kept_ntriples <$(CATALOGUE)
 
 # Standard error shows how far it is; all that the gate prints goes to test.log (it removes target/), and what the trial prints to
-# target/trial.log. The last line is that of the toolchain's gate, which is held back until the trial of the library has passed too.
+# target/trial/. The last line is that of the toolchain's gate, which is held back until the trial of the library has passed too.
 test: toolchain cargo jena rapper serdi valgrind
-	@tools/progress test.log rt ci
-	@$(MAKE) --no-print-directory trial
+	@tools/gate test.log
 	@tail -n 1 test.log
 
 # One crate and its own edits, as `make crate NAME=table`.
@@ -23,9 +22,10 @@ crate: toolchain
 	@tools/crate "$(NAME)"
 
 # The exported library beside an independent model, on stores and on N-Triples read and written, beside Apache Jena, and under valgrind; and
-# library and model on N-Triples beside the readers of Jena, of raptor and of serd.
+# library and model on N-Triples beside the readers of Jena, of raptor and of serd. Each part has one processor and a log of its own.
+TRIED := model files writing jena memory readers
 TRIAL := CARGO_TARGET_DIR=target/tests cargo run --release --offline --quiet --manifest-path tests/Cargo.toml --
-TRIAL_LOG := target/trial.log
+LOGS := target/trial
 
 # The example of the binding for Rust, and what it must print.
 SHELF := CARGO_TARGET_DIR=target/tests cargo run --release --offline --quiet --manifest-path bindings/rust/Cargo.toml --example shelf
@@ -34,19 +34,24 @@ SHELF_STDOUT := bindings/rust/examples/shelf.stdout
 # What tools/programs must print.
 PROGRAMS_STDOUT := tests/cases/programs.stdout
 
-trial: library programs cargo jena rapper serdi valgrind
-	@tools/chain >$(TRIAL_LOG) || exit 1
-	@$(call try,1,beside the model,)
-	@$(call try,2,N-Triples read beside the model,--part files)
-	@$(call try,3,N-Triples written beside the model,--part writing)
-	@$(call try,4,beside Apache Jena,--part jena)
-	@$(call try,5,under valgrind,--part memory)
-	@$(call try,6,readers of N-Triples,--part readers)
-	@echo "trial, the example of bindings/rust" >&2; $(SHELF) | diff $(SHELF_STDOUT) - || { echo "the example of bindings/rust does not print $(SHELF_STDOUT)" >&2; exit 1; }
-	@echo "trial, the programs" >&2; tools/programs | diff $(PROGRAMS_STDOUT) - || { echo "tools/programs does not print $(PROGRAMS_STDOUT)" >&2; exit 1; }
+trial: library programs
+	@$(MAKE) --no-print-directory tried
 
-try = echo "trial, part $(1) of 6, $(2): its log is $(TRIAL_LOG)" >&2; $(TRIAL) $(3) >>$(TRIAL_LOG) 2>&1 \
-	|| { tail -n 40 $(TRIAL_LOG) >&2; echo "the trial failed: $(TRIAL_LOG) has all that it printed" >&2; exit 1; }
+# The same with the library and the programs as they are.
+tried: cargo jena rapper serdi valgrind
+	@mkdir -p $(LOGS) && tools/chain >$(LOGS)/chain.log || exit 1
+	@CARGO_TARGET_DIR=target/tests cargo build --release --offline --quiet --manifest-path tests/Cargo.toml
+	@$(MAKE) --no-print-directory -j$$(nproc) $(TRIED:%=trial-%) trial-of-binding trial-of-programs
+
+$(TRIED:%=trial-%): trial-%:
+	@echo "trial, part $*: its log is $(LOGS)/$*.log" >&2; $(TRIAL) --part $* >$(LOGS)/$*.log 2>&1 \
+		|| { tail -n 40 $(LOGS)/$*.log >&2; echo "the trial's part $* failed: $(LOGS)/$*.log has all that it printed" >&2; exit 1; }
+
+trial-of-binding:
+	@echo "trial, the example of bindings/rust" >&2; $(SHELF) | diff $(SHELF_STDOUT) - || { echo "the example of bindings/rust does not print $(SHELF_STDOUT)" >&2; exit 1; }
+
+trial-of-programs:
+	@echo "trial, the programs" >&2; tools/programs | diff $(PROGRAMS_STDOUT) - || { echo "tools/programs does not print $(PROGRAMS_STDOUT)" >&2; exit 1; }
 
 # The exported library beside the peers named, and alone: target/bench/report.md and target/bench/plot.svg. `make bench BENCH_PEERS=` runs
 # it alone; `make bench BENCH_OPTIONS=--quick` takes a small workload, `make bench BENCH_OPTIONS=--only=reading` measures one part of the

@@ -1,71 +1,44 @@
 // Runs cases about reading N-Triples (document 02, slip 1): prints each reply, and every byte of the dictionary and of the delivery, which
 // was all 7 before the call.
+use cases_lines::find;
+use cases_lines::read_words;
 use cases_printing::print_read;
 use ntriples_read::read_ntriples;
 ghost use Prim.Native.Nat.{_≤_};
 ghost use lib.ListN.{length};
 
 fn main() {
-    example();
     first_refusals();
     known_texts();
     labels();
-    tags_and_types();
-    barred_characters();
     characters();
     bytes();
-    canonical_texts();
-    iris();
     numbers();
-    entries();
     sections();
     parts();
 }
 
-// A fact, a statement and a fact with a name: vocabulary without entries, a comment, line ends of both kinds, an escape, a tag in lower case.
-fn example() {
-    fresh(
-        b"three lines\n",
-        b"<p:cola> <http://www.w3.org/1999/02/22-rdf-syntax-ns#type> <p:Drink> . # a fact\n<p:Drink> <http://www.w3.org/2000/01/rdf-schema#subClassOf> _:goods .\r\n\n<p:cola><p:name>\"Cola\\u0021\\n\"@EN.",
-        140,
-        60,
-    );
-}
-
-// 13 of the whole file comes before 14 and 15, and 14 before 15. Three texts of 12 bytes need 72 bytes, one triple 22, and none 10.
+// A fact, a statement and a fact with a name: vocabulary without entries, a comment, line ends of both kinds, an escape, a tag in lower
+// case. 13 of the whole file comes before 14 and 15, and 14 before 15. Three texts of 12 bytes need 72 bytes, one triple 22, and none 10.
 fn first_refusals() {
-    fresh(
-        b"a good line, then x\n",
-        b"<http://e/s> <http://e/p> <http://e/o> .\nx\n",
-        5,
-        0,
+    cases(
+        b"three lines= 140 60\n\
+        <p:cola> <http://www.w3.org/1999/02/22-rdf-syntax-ns#type> <p:Drink> . # a fact\n<p:Drink> <http://www.w3.org/2000/01/rdf-schema#subClassOf> _:goods .\r\n\n<p:cola><p:name>\"Cola\\u0021\\n\"@EN.\xfe\
+        a good line, then x= 5 0\n\
+        <http://e/s> <http://e/p> <http://e/o> .\nx\n\xfe\
+        three texts in 71 bytes= 71 22\n\
+        <http://e/s> <http://e/p> <http://e/o> .\xfe\
+        in 71 bytes, and no delivery= 71 0\n\
+        <http://e/s> <http://e/p> <http://e/o> .\xfe\
+        in 72 bytes, and a delivery of 21= 72 21\n\
+        <http://e/s> <http://e/p> <http://e/o> .\xfe\
+        in 72 bytes, and a delivery of 22= 72 22\n\
+        <http://e/s> <http://e/p> <http://e/o> .\xfe\
+        an empty file, and a delivery of 9= 0 9\n\
+        \xfe\
+        an empty file, and a delivery of 10= 0 10\n\
+        \xfe",
     );
-    fresh(
-        b"three texts in 71 bytes\n",
-        b"<http://e/s> <http://e/p> <http://e/o> .",
-        71,
-        22,
-    );
-    fresh(
-        b"in 71 bytes, and no delivery\n",
-        b"<http://e/s> <http://e/p> <http://e/o> .",
-        71,
-        0,
-    );
-    fresh(
-        b"in 72 bytes, and a delivery of 21\n",
-        b"<http://e/s> <http://e/p> <http://e/o> .",
-        72,
-        21,
-    );
-    fresh(
-        b"in 72 bytes, and a delivery of 22\n",
-        b"<http://e/s> <http://e/p> <http://e/o> .",
-        72,
-        22,
-    );
-    fresh(b"an empty file, and a delivery of 9\n", b"", 0, 9);
-    fresh(b"an empty file, and a delivery of 10\n", b"", 0, 10);
 }
 
 // A full dictionary still has the terms of its texts, however they are escaped. A line that stands twice is delivered twice.
@@ -82,86 +55,50 @@ fn known_texts() {
         b"\x10\0\0\0\x0c\0\0\0\0\0\0\0<http://e/s>\x11\0\0\0\x0c\0\0\0\0\0\0\0<http://e/p>\x12\0\0\0\x0c\0\0\0\0\0\0\0<http://e/o>",
         22,
     );
-    fresh(
-        b"a line twice\n",
-        b"<http://e/s> <http://e/p> <http://e/s> .\n<http://e/s> <http://e/p> <http://e/s> .\n",
-        48,
-        34,
+    cases(
+        b"a line twice= 48 34\n\
+        <http://e/s> <http://e/p> <http://e/s> .\n<http://e/s> <http://e/p> <http://e/s> .\n\xfe",
     );
 }
 
-// A label is the longest that does not end in a dot.
+// A label is the longest that does not end in a dot. A tag is in lower case, and xsd:string is left off, however it is escaped: two lines
+// and one literal. What is barred in an IRI is barred as an escape too; a literal may have it.
 fn labels() {
-    fresh(b"_:b.\n", b"<http://e/s><http://e/p>_:b.", 63, 22);
-    wrong(b"_:b..\n", b"<http://e/s><http://e/p>_:b..");
-    fresh(b"_:a.b.\n", b"<http://e/s><http://e/p>_:a.b.", 65, 22);
-}
-
-// A tag is in lower case, and xsd:string is left off, however it is escaped: two lines and one literal.
-fn tags_and_types() {
-    fresh(
-        b"one tag in two ways\n",
-        b"<http://e/s> <http://e/p> \"a\"@en-US .\n<http://e/s> <http://e/p> \"a\"@EN-us .",
-        69,
-        34,
-    );
-    fresh(
-        b"xsd:string or no type\n",
-        b"<http://e/s> <http://e/p> \"a\"^^<http://www.w3.org/2001/XMLSchema#\\u0073tring> .\n<http://e/s> <http://e/p> \"a\" .",
-        63,
-        34,
-    );
-}
-
-// What is barred in an IRI is barred as an escape too; a literal may have it.
-fn barred_characters() {
-    wrong(
-        b"\\u003E in an IRI\n",
-        b"<http://e/\\u003E> <http://e/p> <http://e/o> .",
-    );
-    wrong(
-        b"\\u0020 in an IRI\n",
-        b"<http://e/\\u0020> <http://e/p> <http://e/o> .",
-    );
-    wrong(
-        b"\\n in an IRI\n",
-        b"<http://e/\\n> <http://e/p> <http://e/o> .",
-    );
-    fresh(
-        b"\\u003E in a literal\n",
-        b"<http://e/s> <http://e/p> \"\\u003E\" .",
-        63,
-        22,
+    cases(
+        b"_:b.= 63 22\n\
+        <http://e/s><http://e/p>_:b.\xfe\
+        _:b..= 24 22\n\
+        <http://e/s><http://e/p>_:b..\xfe\
+        _:a.b.= 65 22\n\
+        <http://e/s><http://e/p>_:a.b.\xfe\
+        one tag in two ways= 69 34\n\
+        <http://e/s> <http://e/p> \"a\"@en-US .\n<http://e/s> <http://e/p> \"a\"@EN-us .\xfe\
+        xsd:string or no type= 63 34\n\
+        <http://e/s> <http://e/p> \"a\"^^<http://www.w3.org/2001/XMLSchema#\\u0073tring> .\n<http://e/s> <http://e/p> \"a\" .\xfe\
+        \\u003E in an IRI= 24 22\n\
+        <http://e/\\u003E> <http://e/p> <http://e/o> .\xfe\
+        \\u0020 in an IRI= 24 22\n\
+        <http://e/\\u0020> <http://e/p> <http://e/o> .\xfe\
+        \\n in an IRI= 24 22\n\
+        <http://e/\\n> <http://e/p> <http://e/o> .\xfe\
+        \\u003E in a literal= 63 22\n\
+        <http://e/s> <http://e/p> \"\\u003E\" .\xfe",
     );
 }
 
 // Surrogates and what lies above 10FFFF are no characters; U+FFFE and U+0000 are. An entry ends by its length, not at a byte 0.
 fn characters() {
-    wrong(
-        b"two surrogates\n",
-        b"<http://e/s> <http://e/p> \"\\uD83D\\uDE00\" .",
-    );
-    wrong(
-        b"\\U00110000\n",
-        b"<http://e/s> <http://e/p> \"\\U00110000\" .",
-    );
-    fresh(
-        b"\\U0001F600\n",
-        b"<http://e/s> <http://e/p> \"\\U0001F600\" .",
-        66,
-        22,
-    );
-    fresh(
-        b"\\uFFFE\n",
-        b"<http://e/s> <http://e/p> \"\\uFFFE\" .",
-        65,
-        22,
-    );
-    fresh(
-        b"\\u0000, and a text behind it\n",
-        b"<http://e/s> <http://e/p> \"\\u0000\" .\n<http://e/s> <http://e/p> <http://e/o> .",
-        87,
-        34,
+    cases(
+        b"two surrogates= 24 22\n\
+        <http://e/s> <http://e/p> \"\\uD83D\\uDE00\" .\xfe\
+        \\U00110000= 24 22\n\
+        <http://e/s> <http://e/p> \"\\U00110000\" .\xfe\
+        \\U0001F600= 66 22\n\
+        <http://e/s> <http://e/p> \"\\U0001F600\" .\xfe\
+        \\uFFFE= 65 22\n\
+        <http://e/s> <http://e/p> \"\\uFFFE\" .\xfe\
+        \\u0000, and a text behind it= 87 34\n\
+        <http://e/s> <http://e/p> \"\\u0000\" .\n<http://e/s> <http://e/p> <http://e/o> .\xfe",
     );
     given(
         b"the same, from the dictionary that it leaves\n",
@@ -171,52 +108,41 @@ fn characters() {
     );
 }
 
-// A comment is UTF-8 too: no longer form than is needed, no surrogate, nothing above 10FFFF, and nothing cut.
+// A comment is UTF-8 too: no longer form than is needed, no surrogate, nothing above 10FFFF, and nothing cut. Of the escapes only those of
+// a quote, a backslash, LF and CR stay. An IRI is absolute once its escapes are resolved. The vocabulary is known by its text.
 fn bytes() {
-    wrong(b"E0 80 80\n", b"# \xe0\x80\x80\n");
-    wrong(b"ED A0 80\n", b"# \xed\xa0\x80\n");
-    wrong(b"C0 80\n", b"# \xc0\x80\n");
-    wrong(b"F4 90 80 80\n", b"# \xf4\x90\x80\x80\n");
-    wrong(b"E2 82, and the end of the line\n", b"# \xe2\x82\n");
-    wrong(b"E2 82, and the end of the file\n", b"# \xe2\x82");
-    fresh(b"E2 82 AC\n", b"# \xe2\x82\xac\n", 0, 10);
-}
-
-// Of the escapes only those of a quote, a backslash, LF and CR stay.
-fn canonical_texts() {
-    fresh(
-        b"\\t, \\b and \\'\n",
-        b"<http://e/s> <http://e/p> \"\\t\\b\\'\" .",
-        65,
-        22,
-    );
-    fresh(
-        b"\\u000A\n",
-        b"<http://e/s> <http://e/p> \"\\u000A\" .",
-        64,
-        22,
-    );
-}
-
-// An IRI is absolute once its escapes are resolved. The vocabulary is known by its text.
-fn iris() {
-    wrong(b"<s>\n", b"<s> <http://e/p> <http://e/o> .");
-    fresh(b"<a:>\n", b"<a:> <http://e/p> <http://e/o> .", 64, 22);
-    fresh(
-        b"<\\u0068ttp://e/A>\n",
-        b"<\\u0068ttp://e/A> <http://e/p> <http://e/A> .",
-        48,
-        22,
-    );
-    fresh(
-        b"rdf:type with an escape, in all three places\n",
-        b"<http://www.w3.org/1999/02/22-rdf-syntax-ns#\\u0074ype> <http://www.w3.org/1999/02/22-rdf-syntax-n\\u0073#type> <http://www.w3.org/1999/02/22-rdf-syntax-ns#typ\\U00000065> .",
-        0,
-        22,
+    cases(
+        b"E0 80 80= 24 22\n\
+        # \xe0\x80\x80\n\xfe\
+        ED A0 80= 24 22\n\
+        # \xed\xa0\x80\n\xfe\
+        C0 80= 24 22\n\
+        # \xc0\x80\n\xfe\
+        F4 90 80 80= 24 22\n\
+        # \xf4\x90\x80\x80\n\xfe\
+        E2 82, and the end of the line= 24 22\n\
+        # \xe2\x82\n\xfe\
+        E2 82, and the end of the file= 24 22\n\
+        # \xe2\x82\xfe\
+        E2 82 AC= 0 10\n\
+        # \xe2\x82\xac\n\xfe\
+        \\t, \\b and \\'= 65 22\n\
+        <http://e/s> <http://e/p> \"\\t\\b\\'\" .\xfe\
+        \\u000A= 64 22\n\
+        <http://e/s> <http://e/p> \"\\u000A\" .\xfe\
+        <s>= 24 22\n\
+        <s> <http://e/p> <http://e/o> .\xfe\
+        <a:>= 64 22\n\
+        <a:> <http://e/p> <http://e/o> .\xfe\
+        <\\u0068ttp://e/A>= 48 22\n\
+        <\\u0068ttp://e/A> <http://e/p> <http://e/A> .\xfe\
+        rdf:type with an escape, in all three places= 0 22\n\
+        <http://www.w3.org/1999/02/22-rdf-syntax-ns#\\u0074ype> <http://www.w3.org/1999/02/22-rdf-syntax-n\\u0073#type> <http://www.w3.org/1999/02/22-rdf-syntax-ns#typ\\U00000065> .\xfe",
     );
 }
 
-// Dictionaries whose terms are not so numbered, or whose lengths are wrong. 1 comes before 13.
+// Dictionaries whose terms are not so numbered, or whose lengths are wrong. 1 comes before 13. Dictionaries with a text that is not
+// canonical, one that stands twice, or one of the vocabulary.
 fn numbers() {
     given(
         b"a length of 2^64 - 5\n",
@@ -224,58 +150,25 @@ fn numbers() {
         b"\x10\0\0\0\xfb\xff\xff\xff\xff\xff\xff\xff<http://e/s>",
         22,
     );
-    given(b"an entry that is cut\n", b"", b"\x10\0\0\0\x0c\0\0", 22);
-    given(
-        b"first URI 17\n",
-        b"",
-        b"\x11\0\0\0\x0c\0\0\0\0\0\0\0<http://e/s>",
-        22,
-    );
-    given(
-        b"first literal 2\n",
-        b"",
-        b"\x02\0\0\x80\x03\0\0\0\0\0\0\0\"a\"",
-        22,
-    );
-    given(
-        b"a literal's term for a URI\n",
-        b"",
-        b"\x10\0\0\x80\x0c\0\0\0\0\0\0\0<http://e/s>",
-        22,
-    );
-    given(
-        b"a byte behind the zeros\n",
-        b"",
-        b"\x10\0\0\0\x0c\0\0\0\0\0\0\0<http://e/s>\0\0\0\0\0\0\0\x01",
-        22,
-    );
-}
-
-// Dictionaries with a text that is not canonical, one that stands twice, or one of the vocabulary.
-fn entries() {
-    given(
-        b"\"a\"@EN\n",
-        b"",
-        b"\x01\0\0\x80\x06\0\0\0\0\0\0\0\"a\"@EN",
-        22,
-    );
-    given(
-        b"an escape that is not resolved\n",
-        b"",
-        b"\x10\0\0\0\x11\0\0\0\0\0\0\0<http://e/\\u0073>",
-        22,
-    );
-    given(
-        b"a text twice\n",
-        b"",
-        b"\x10\0\0\0\x0c\0\0\0\0\0\0\0<http://e/s>\x11\0\0\0\x0c\0\0\0\0\0\0\0<http://e/s>",
-        22,
-    );
-    given(
-        b"rdf:type\n",
-        b"",
-        b"\x10\0\0\0\x31\0\0\0\0\0\0\0<http://www.w3.org/1999/02/22-rdf-syntax-ns#type>",
-        22,
+    dictionaries(
+        b"an entry that is cut\n\
+        \x10\0\0\0\x0c\0\0\xfe\
+        first URI 17\n\
+        \x11\0\0\0\x0c\0\0\0\0\0\0\0<http://e/s>\xfe\
+        first literal 2\n\
+        \x02\0\0\x80\x03\0\0\0\0\0\0\0\"a\"\xfe\
+        a literal's term for a URI\n\
+        \x10\0\0\x80\x0c\0\0\0\0\0\0\0<http://e/s>\xfe\
+        a byte behind the zeros\n\
+        \x10\0\0\0\x0c\0\0\0\0\0\0\0<http://e/s>\0\0\0\0\0\0\0\x01\xfe\
+        \"a\"@EN\n\
+        \x01\0\0\x80\x06\0\0\0\0\0\0\0\"a\"@EN\xfe\
+        an escape that is not resolved\n\
+        \x10\0\0\0\x11\0\0\0\0\0\0\0<http://e/\\u0073>\xfe\
+        a text twice\n\
+        \x10\0\0\0\x0c\0\0\0\0\0\0\0<http://e/s>\x11\0\0\0\x0c\0\0\0\0\0\0\0<http://e/s>\xfe\
+        rdf:type\n\
+        \x10\0\0\0\x31\0\0\0\0\0\0\0<http://www.w3.org/1999/02/22-rdf-syntax-ns#type>\xfe",
     );
 }
 
@@ -320,9 +213,75 @@ fn parts() {
     );
 }
 
-// A file that is refused, with room for one text in the dictionary and one triple in the delivery.
-fn wrong(name: &[u8], file: &[u8]) {
-    fresh(name, file, 24, 22);
+// Cases with a dictionary of zeros: a name, an equals sign, the sizes of dictionary and delivery, and behind the line end the file, up to a
+// byte FE.
+fn cases(text: &[u8]) {
+    let mut from = 0;
+    while from < text.len() {
+        let sign = find(text, from, b'=');
+        let line = find(text, sign, b'\n');
+        let end = find(text, line, 0xfe);
+        io::write_all(1, &text[from..sign]);
+        case(&text[sign..line], &text[line..end]);
+        if text.len() <= end {
+            return;
+        }
+        from = end + 1;
+    }
+}
+
+// What such a case says behind the name: its sizes, and its file behind a line end.
+fn case(sizes: &[u8], file: &[u8]) {
+    if file.len() == 0 {
+        return;
+    }
+    let mut words = [0u32; 2];
+    read_words(sizes, &mut words);
+    let behind = 1;
+    fresh(
+        b"\n",
+        &file[behind..],
+        within(words[0], 140),
+        within(words[1], 60),
+    );
+}
+
+// A number, if it is not more than this.
+fn within(number: u32, most: usize) -> usize
+    ensures { λ r. ⌜ r ≤ most ⌝ }
+{
+    let n = number as usize;
+    if n < most {
+        return n;
+    }
+    most
+}
+
+// Cases with an empty file: a name, and behind the line end the bytes of the dictionary, up to a byte FE.
+fn dictionaries(text: &[u8]) {
+    let mut from = 0;
+    while from < text.len() {
+        let line = find(text, from, b'\n');
+        let end = find(text, line, 0xfe);
+        io::write_all(1, &text[from..line]);
+        dictionary(&text[line..end]);
+        if text.len() <= end {
+            return;
+        }
+        from = end + 1;
+    }
+}
+
+// What such a case says behind the name: a line end, and a dictionary of at most 140 bytes.
+fn dictionary(bytes: &[u8]) {
+    if bytes.len() == 0 {
+        return;
+    }
+    if 140 < bytes.len() {
+        return;
+    }
+    let behind = 1;
+    given(b"\n", b"", &bytes[behind..], 22);
 }
 
 // A case by itself: a file read with a dictionary of zeros into a delivery, of so many bytes each.

@@ -15,10 +15,13 @@ use Rattle.spec_ntriples.proofs.EntryBytes.{length-entries}
 use Rattle.dictionary_bytes.specs.inside.Entries.{lengthAt, FilledBy}
 use Rattle.dictionary_bytes.specs.declared.Filled.{Filled}
 use Rattle.dictionary_entries.proofs.Standing.{entries-length}
-use Rattle.dictionary_places.specs.inside.Places.{HasNumber, rankOf, strideOf, slotFor, IsKept, withPlace, ArePlaces}
-use Rattle.dictionary_places.proofs.Ranks.{same-split, terms-differ, split-in-range}
-use Rattle.dictionary_places.proofs.Slots.{slot-within, slot-own}
-use Rattle.dictionary_places.proofs.Standing.{dictionary-numbered, enough, range-number, Stands, here-term, here-next, next-split, here-within}
+use Rattle.dictionary_ranks.specs.inside.Ranks.{HasNumber, rankOf, strideOf, slotFor}
+use Rattle.dictionary_ranks.proofs.Ranks.{same-split, terms-differ, split-in-range}
+use Rattle.dictionary_ranks.proofs.Slots.{slot-within}
+use Rattle.dictionary_ranks.proofs.Taken.{dictionary-numbered, enough, range-number}
+use Rattle.dictionary_places.specs.inside.Places.{IsKept, withPlace, ArePlaces}
+use Rattle.dictionary_places.proofs.Kept.{slot-own}
+use Rattle.dictionary_places.proofs.Standing.{Stands, here-term, here-next, next-split, here-within}
 
 -- ---- one place more
 

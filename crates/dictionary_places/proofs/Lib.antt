@@ -1,5 +1,4 @@
-pub mod Ranks
-pub mod Slots
+pub mod Kept
 pub mod Standing
 pub mod Keeping
 pub mod Walking

@@ -15,10 +15,12 @@ use Rattle.spec_ntriples.specs.Sights.{textIn}
 use Rattle.dictionary_bytes.specs.inside.Entries.{lengthAt, textAt}
 use Rattle.dictionary_bytes.specs.declared.Filled.{Filled}
 use Rattle.dictionary_numbers.proofs.Numbering.{next-own, next-other}
-use Rattle.dictionary_places.specs.inside.Places.{HasNumber, rankOf, strideOf, slotFor, ArePlaces}
-use Rattle.dictionary_places.proofs.Ranks.{InRange, entry-of, split-ranked, split-text, next-is-term, text-in-range}
-use Rattle.dictionary_places.proofs.Slots.{slot-shared}
-use Rattle.dictionary_places.proofs.Standing.{dictionary-numbered, enough, range-number, Stands, here-term, here-text, here-next, next-split, here-within}
+use Rattle.dictionary_ranks.specs.inside.Ranks.{HasNumber, rankOf, strideOf, slotFor}
+use Rattle.dictionary_ranks.proofs.Ranks.{InRange, entry-of, split-ranked, split-text, next-is-term, text-in-range}
+use Rattle.dictionary_ranks.proofs.Taken.{dictionary-numbered, enough, range-number}
+use Rattle.dictionary_places.specs.inside.Places.{ArePlaces}
+use Rattle.dictionary_places.proofs.Kept.{slot-shared}
+use Rattle.dictionary_places.proofs.Standing.{Stands, here-term, here-text, here-next, next-split, here-within}
 
 -- The walk stands at an entry that is not behind that of a term.
 pub record Towards (bs : List ℕ) (w at : ℕ) : Type 0 where

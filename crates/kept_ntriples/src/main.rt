@@ -5,7 +5,7 @@ use libc::STDIN_FILENO;
 use libc::STDOUT_FILENO;
 
 fn main() {
-    let mut input = report_reading::input_buffer();
+    let mut input = report_input::input_buffer();
     let n = io::read_full(STDIN_FILENO, &mut input);
     let mut out = report_kept_rooms::output_buffer();
     let mut errors = report_kept_rooms::errors_buffer();

@@ -1,24 +1,14 @@
-// What is asked of rows that are written with a dictionary's texts: before, that each of their terms has one; and as bytes are put, that they fit.
-use dictionary_bytes::Filled;
+// The texts and ends of lines, put into an output where they fit.
 use dictionary_bytes::HEADER;
 use dictionary_bytes::length_at;
-use dictionary_places::has_entry;
 use ntriples_copy::copy_bytes;
 use ntriples_copy::vocabulary_length;
 use ntriples_copy::write_vocabulary;
-use terms::Term;
-ghost use mathlib.Core.Path.{_≡_};
-ghost use mathlib.Core.Bool.{true};
-ghost use mathlib.Core.List.{List, _++_};
-ghost use Prim.Native.Nat.{ℕ, _+_, _≤_};
+ghost use mathlib.Core.List.{_++_};
+ghost use Prim.Native.Nat.{_+_, _≤_};
 ghost use lib.ListN.{length};
-ghost use Rattle.spec.specs.Lists.{all};
-ghost use Rattle.spec.specs.Tables.{rows};
-ghost use Rattle.spec.specs.inside.Laid.{Laid};
 ghost use Rattle.spec_ntriples.specs.Characters.{codes};
-ghost use Rattle.spec_ntriples.specs.Dictionary.{entries, isDictionary};
-ghost use Rattle.spec_writing.specs.Writing.{hasText, hasTexts};
-ghost use Rattle.dictionary_bytes.specs.inside.Entries.{lengthAt, textAt, FilledBy};
+ghost use Rattle.dictionary_bytes.specs.inside.Entries.{lengthAt, textAt};
 ghost use Rattle.ntriples_copy.specs.inside.Vocabulary.{vocabularyText};
 ghost use Rattle.ntriples_room.specs.inside.Put.{Put};
 
@@ -31,33 +21,6 @@ const LINE_FEED: u8 = 10;
 
 // The bytes that end a line behind its last space: a dot and byte 10.
 const END_BYTES: usize = 2;
-
-// Whether a term has a text: it is of the vocabulary, or an entry has it.
-fn has_text(f: Filled, term: u32) -> bool
-    ensures { λ r. ⌜ ((bs : List ℕ) → isDictionary bs ≡ true → FilledBy bs f (entries bs) → r ≡ hasText (entries bs) term) ⌝ }
-{
-    let t = Term { word: term };
-    if t.is_vocabulary() {
-        return true;
-    }
-    has_entry(f, term)
-}
-
-// Question 16: whether all terms of a table's rows have texts. Numbers are consecutive, so that the counts tell, without a search.
-pub fn have_texts(table: &[u32], f: Filled) -> bool
-    requires { ⌜ Laid (now table) ⌝ }
-    ensures { λ r. ⌜ ((bs : List ℕ) → isDictionary bs ≡ true → FilledBy bs f (entries bs) → r ≡ all (hasTexts (entries bs)) (rows (now (table .entry)))) ⌝ }
-{
-    let end = table[0] as usize * 3 + 1;
-    let mut i = 1;
-    while i < end {
-        if !has_text(f, table[i]) {
-            return false;
-        }
-        i += 1;
-    }
-    true
-}
 
 // Puts the text of the entry at a place and a space from an index on: the index behind them, or 0 where they do not fit.
 pub fn put_entry(dictionary: &[u8], place: usize, out: &mut [u8], at: usize) -> usize

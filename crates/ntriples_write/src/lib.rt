@@ -2,9 +2,9 @@
 use dictionary_bytes::Filled;
 use dictionary_check::check_dictionary;
 use dictionary_places::index_places;
-use dictionary_places::no_places;
+use dictionary_ranks::no_places;
 use dictionary_step::Checked;
-use ntriples_room::have_texts;
+use ntriples_have_texts::have_texts;
 use ntriples_rows::write_rows;
 use ntriples_zero::clear;
 use spec_ntriples::ByteReply;

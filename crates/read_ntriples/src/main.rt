@@ -5,7 +5,7 @@ use libc::STDOUT_FILENO;
 use report_reading::Printed;
 
 fn main() {
-    let mut input = report_reading::input_buffer();
+    let mut input = report_input::input_buffer();
     let n = io::read_full(STDIN_FILENO, &mut input);
     let mut out = report_rooms::delivery_buffer();
     match report_reading::respond(&input[..n], &mut out) {

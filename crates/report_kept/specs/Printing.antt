@@ -11,42 +11,17 @@ use Rattle.spec.specs.Deliveries.{deliver}
 use Rattle.spec_ntriples.specs.declared.ByteReply.{ByteReply}
 use Rattle.spec_ntriples.specs.declared.ByteReply.the-variants.{Length, Refused}
 use Rattle.spec_ntriples.specs.Reading.{readNTriples}
-use Rattle.spec_writing.specs.Writing.{Written, writeKept}
-use Rattle.report_text.specs.Text.{resultLine, refusalText}
-use Rattle.report_reading.specs.Printing.{mostInput, emptyDictionary, tooLong}
-
--- What is printed: the bytes on standard output, and those on standard error.
-pub record Printout : Type 0 where
-  pub output : List ℕ
-  pub errors : List ℕ
-
--- The one of these bytes.
-abbrev pub printout : List ℕ → List ℕ → Printout
-printout o e = record { output = o; errors = e }
-
--- A refusal: the word refused and the number on standard error, and nothing on standard output.
-abbrev pub refusal : ℕ → Printout
-refusal n = printout [] (refusalText n)
-
--- The most bytes of kept facts that are printed.
-abbrev pub mostOutput : ℕ
-mostOutput = 3145728
+use Rattle.spec_writing.specs.Writing.{writeKept}
+use Rattle.report_input.specs.Input.{mostInput, tooLong}
+use Rattle.report_reading.specs.Printing.{emptyDictionary}
+use Rattle.report_printout.specs.Printout.{Printout, printout, refusal}
+use Rattle.report_kept_lines.specs.Lines.{mostOutput, printedWritten}
 
 -- The empty store of the program: room for 512 statements, for as many facts as a delivery has entries (5,460), and for 32,768 kept facts.
 abbrev pub emptyStore : Tables
 emptyStore = tables (replicate 1537 0) (replicate 16381 0) (replicate 98305 0) (replicate 32768 0)
 
--- What is printed of kept facts that were written, by the reply and the bytes: their lines, and the line of the result of the delivery that led
--- to them, or the number that refused them,
-unfoldable pub printedKept : Delivered → ByteReply → List ℕ → Printout
-printedKept d (Length n) bytes = printout (take n bytes) (resultLine d)
-printedKept d (Refused n) bytes = refusal n
-
--- (the same, by both together,)
-abbrev pub printedWritten : Delivered → Written → Printout
-printedWritten d w = printedKept d (w .reply) (w .bytes)
-
--- of a delivery's result and the store's words after it: the kept facts are written with a dictionary,
+-- What is printed of a delivery's result and the store's words after it: the kept facts are written with a dictionary,
 unfoldable pub printedResult : List ℕ → Delivered × Tables → Printout
 printedResult dictionary r =
     cond (eqb (r .0 .refusal) 0) (printedWritten (r .0) (writeKept (r .1 .kept) dictionary mostOutput)) (refusal (r .0 .refusal))

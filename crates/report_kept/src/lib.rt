@@ -1,69 +1,26 @@
 // What the program `kept_ntriples` prints: the kept facts of a file of N-Triples, as N-Triples, or why there are none.
 use delivery_run::deliver;
 use ntriples_read::read_ntriples;
-use ntriples_write::write_kept;
-use report::write_result;
+use report_input::MOST_INPUT;
+use report_input::write_too_long;
+use report_kept_lines::write_delivered;
 use report_kept_rooms::no_facts;
 use report_kept_rooms::no_kept;
 use report_kept_rooms::no_supports;
-use report_reading::MOST_INPUT;
-use report_reading::write_too_long;
+use report_printout::Lengths;
+use report_printout::refuse;
 use report_rooms::delivery_buffer;
 use report_rooms::empty_dictionary;
 use report_store::no_statements;
-use report_text::write_labelled;
-use spec::Delivered;
 use spec_ntriples::ByteReply;
 ghost use mathlib.Core.Path.{_≡_};
 ghost use Prim.Native.Nat.{_≤_};
 ghost use lib.ListN.{length, take};
 ghost use Rattle.spec.specs.Deliveries.{deliver};
-ghost use Rattle.spec_writing.specs.Writing.{writeKept};
-ghost use Rattle.report_text.specs.Text.{refusalText};
-ghost use Rattle.report_text.specs.inside.Appended.{Appended, headRoom};
-ghost use Rattle.report_kept.specs.Printing.{printout, mostOutput, emptyStore, printedWritten, printedResult, printedFrom};
-
-// How many bytes are printed: on standard output, and on standard error.
-pub struct Lengths {
-    pub output: usize,
-    pub errors: usize,
-}
-
-// Writes a refusal.
-fn refuse(n: u32, errors: &mut [u8]) -> Lengths
-    requires { ⌜ headRoom ≤ length (now errors) ⌝ }
-    ensures { λ r. ⌜ r .output ≡ 0 ⌝ }
-    ensures { λ r. ⌜ Appended (refusalText n) 0 (now (errors .entry)) (now (errors .exit)) (r .errors) ⌝ }
-    ensures { λ r. ⌜ r .errors ≤ headRoom ⌝ }
-{
-    Lengths {
-        output: 0,
-        errors: write_labelled(b"refused ", n, b'\n', errors, 0),
-    }
-}
-
-// Writes the kept facts that a delivery led to, and its result.
-fn write_delivered(
-    result: Delivered,
-    kept: &[u32],
-    dictionary: &[u8],
-    out: &mut [u8],
-    errors: &mut [u8],
-) -> Lengths
-    requires { ⌜ length (now out) ≡ mostOutput ⌝ }
-    requires { ⌜ headRoom ≤ length (now errors) ⌝ }
-    ensures { λ r. ⌜ printout (take (r .output) (now (out .exit))) (take (r .errors) (now (errors .exit))) ≡ printedWritten result (writeKept (now (kept .entry)) (now (dictionary .entry)) mostOutput) ⌝ }
-    ensures { λ r. ⌜ r .output ≤ mostOutput ⌝ }
-    ensures { λ r. ⌜ r .errors ≤ headRoom ⌝ }
-{
-    match write_kept(kept, dictionary, out) {
-        ByteReply::Length(n) => Lengths {
-            output: n,
-            errors: write_result(result, errors),
-        },
-        ByteReply::Refused(n) => refuse(n, errors),
-    }
-}
+ghost use Rattle.report_text.specs.inside.Appended.{headRoom};
+ghost use Rattle.report_printout.specs.Printout.{printout};
+ghost use Rattle.report_kept_lines.specs.Lines.{mostOutput};
+ghost use Rattle.report_kept.specs.Printing.{emptyStore, printedResult, printedFrom};
 
 // Delivers bytes to the empty store, and writes what is printed of that with a dictionary.
 fn print_delivery(dictionary: &[u8], delivery: &[u8], out: &mut [u8], errors: &mut [u8]) -> Lengths

@@ -13,8 +13,9 @@ use Rattle.spec_ntriples.specs.Promises.{Accepted}
 use Rattle.spec_ntriples.proofs.ReadingRefused.{reading-accepted}
 use Rattle.report_text.specs.Text.{refusalText}
 use Rattle.report_text.specs.inside.Appended.{Appended}
+use Rattle.report_input.specs.Input.{mostInput, tooLong}
 use Rattle.report_reading.specs.declared.Printed.the-variants.{Output, Errors}
-use Rattle.report_reading.specs.Printing.{errors, printed, mostInput, emptyDictionary, tooLong, printedReply, printedFor}
+use Rattle.report_reading.specs.Printing.{errors, printed, emptyDictionary, printedReply, printedFor}
 
 -- A text that stands alone is what is printed of it.
 printed-text : {text out out' : List ℕ} {end : ℕ} → Appended text 0 out out' end → printed (Errors end) out' ≡ errors text

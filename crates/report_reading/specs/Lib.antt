@@ -1,2 +1,1 @@
-pub mod inside
 pub mod Printing

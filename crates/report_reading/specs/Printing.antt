@@ -8,9 +8,9 @@ use lib.Dec.{leb}
 use Rattle.spec.specs.Messages.{mostBytes}
 use Rattle.spec_ntriples.specs.declared.ByteReply.{ByteReply}
 use Rattle.spec_ntriples.specs.declared.ByteReply.the-variants.{Length, Refused}
-use Rattle.spec_ntriples.specs.Characters.{codes}
 use Rattle.spec_ntriples.specs.Reading.{readNTriples}
-use Rattle.report_text.specs.Text.{newline, labelled, refusalText}
+use Rattle.report_text.specs.Text.{refusalText}
+use Rattle.report_input.specs.Input.{mostInput, tooLong}
 use Rattle.report_reading.specs.declared.Printed.{Printed}
 use Rattle.report_reading.specs.declared.Printed.the-variants.{Output, Errors}
 
@@ -29,19 +29,11 @@ abbrev pub printedLength : Printed → ℕ
 printedLength (Output n) = n
 printedLength (Errors n) = n
 
--- The most bytes of a file.
-abbrev pub mostInput : ℕ
-mostInput = 1048576
-
 -- A dictionary of 1 MiB, without entries.
 abbrev pub emptyDictionary : List ℕ
 emptyDictionary = replicate 1048576 0
 
--- What is printed for a file that is longer,
-unfoldable pub tooLong : List ℕ
-tooLong = labelled (codes "the input has more bytes than ") mostInput newline
-
--- for one that was read, by the reply and the delivery (the bytes of the delivery, or the word refused and the number),
+-- What is printed for a file that was read, by the reply and the delivery (the bytes of the delivery, or the word refused and the number),
 unfoldable pub printedReply : ByteReply → List ℕ → Stream
 printedReply (Length n) delivery = output (take n delivery)
 printedReply (Refused n) delivery = errors (refusalText n)

@@ -1,31 +1,30 @@
--- Both outputs lie within the words made. Assumes nothing.
+-- The words lie within those made. Assumes nothing.
 use mathlib.Core.Path.{sym}
-use lib.ListN.{replicate}
 use lib.Seq.{length-take-le}
 use borrow.Author.Needs.{needs}
 use Rattle.cases_questions.proofs.case.Statement.{statement}
 use Rattle.cases_questions.proofs.case.Tie as tie
 
+slice-aggregate-write-all : tie.Need-slice-aggregate-write-all
+slice-aggregate-write-all c = search needs
+
 write-all-requires : tie.Need-write-all-requires
 write-all-requires c κs = search needs
 
-array-borrow-prefix-by-kept : tie.Need-array-borrow-prefix-by-kept
-array-borrow-prefix-by-kept c = search needs
+slice-aggregate-read-words : tie.Need-slice-aggregate-read-words
+slice-aggregate-read-words c = search needs
 
-slice-aggregate-print-kept-way : tie.Need-slice-aggregate-print-kept-way
-slice-aggregate-print-kept-way c = sym (length-take-le _ (replicate 16 7) (c .before .before .before .before .before .before .before .pre))
+read-words-requires : tie.Need-read-words-requires
+read-words-requires c κs = search needs
 
-print-kept-way-requires : tie.Need-print-kept-way-requires
-print-kept-way-requires c κs = search needs
+array-share-prefix-words : tie.Need-array-share-prefix-words
+array-share-prefix-words c = search needs
 
-array-borrow-prefix-by-rewriting : tie.Need-array-borrow-prefix-by-rewriting
-array-borrow-prefix-by-rewriting c = search needs
+slice-aggregate-ask : tie.Need-slice-aggregate-ask
+slice-aggregate-ask c = sym (length-take-le _ (c .before .before .read-words .last .1 .0) (c .before .before .read-words .ensures))
 
-slice-aggregate-print-rewritten-way : tie.Need-slice-aggregate-print-rewritten-way
-slice-aggregate-print-rewritten-way c = sym (length-take-le _ (replicate 16 7) (c .before .before .before .before .before .before .before .before .before .before .pre))
-
-print-rewritten-way-requires : tie.Need-print-rewritten-way-requires
-print-rewritten-way-requires c κs = search needs
+ask-requires : tie.Need-ask-requires
+ask-requires c κs = search needs
 
 returns : tie.Need-returns
 returns c = search needs
@@ -34,11 +33,11 @@ pub case-spec : {M : Type 1} → statement M
 case-spec =
     tie.close
     (tie.spec
+    slice-aggregate-write-all
     write-all-requires
-    array-borrow-prefix-by-kept
-    slice-aggregate-print-kept-way
-    print-kept-way-requires
-    array-borrow-prefix-by-rewriting
-    slice-aggregate-print-rewritten-way
-    print-rewritten-way-requires
+    slice-aggregate-read-words
+    read-words-requires
+    array-share-prefix-words
+    slice-aggregate-ask
+    ask-requires
     returns)

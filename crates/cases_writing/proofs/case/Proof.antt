@@ -1,22 +1,24 @@
--- The output lies within the bytes made. Assumes nothing.
+-- The words lie within those made. Assumes nothing.
 use mathlib.Core.Path.{sym}
-use lib.ListN.{replicate}
 use lib.Seq.{length-take-le}
 use borrow.Author.Needs.{needs}
 use Rattle.cases_writing.proofs.case.Statement.{statement}
 use Rattle.cases_writing.proofs.case.Tie as tie
 
-write-all-requires : tie.Need-write-all-requires
-write-all-requires c κs = search needs
+slice-aggregate-read-words : tie.Need-slice-aggregate-read-words
+slice-aggregate-read-words c = search needs
 
-array-borrow-prefix-out : tie.Need-array-borrow-prefix-out
-array-borrow-prefix-out c = search needs
+read-words-requires : tie.Need-read-words-requires
+read-words-requires c κs = search needs
 
-slice-aggregate-print-writing : tie.Need-slice-aggregate-print-writing
-slice-aggregate-print-writing c = sym (length-take-le (c .before .before .before .before .before .args .room) (replicate 480 7) (c .before .before .before .before .before .pre))
+array-share-prefix-words : tie.Need-array-share-prefix-words
+array-share-prefix-words c = search needs
 
-print-writing-requires : tie.Need-print-writing-requires
-print-writing-requires c κs = search needs
+slice-aggregate-numbered : tie.Need-slice-aggregate-numbered
+slice-aggregate-numbered c = sym (length-take-le _ (c .before .before .read-words .last .1 .0) (c .before .before .read-words .ensures))
+
+numbered-requires : tie.Need-numbered-requires
+numbered-requires c κs = search needs
 
 returns : tie.Need-returns
 returns c = search needs
@@ -25,8 +27,9 @@ pub case-spec : {M : Type 1} → statement M
 case-spec =
     tie.close
     (tie.spec
-    write-all-requires
-    array-borrow-prefix-out
-    slice-aggregate-print-writing
-    print-writing-requires
+    slice-aggregate-read-words
+    read-words-requires
+    array-share-prefix-words
+    slice-aggregate-numbered
+    numbered-requires
     returns)

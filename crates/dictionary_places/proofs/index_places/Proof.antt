@@ -16,43 +16,43 @@ Inv-loop dictionary f places₀ at₀ places at = Keeping dictionary f places at
 abbrev μ-loop : tie.MeasureT-loop
 μ-loop dictionary f places₀ at₀ places at = f .end - at
 
--- src/lib.rt:112:5
+-- src/lib.rt:41:5
 loop-holds : tie.Need-loop-holds Inv-loop μ-loop
 loop-holds c = keeping-none (c .before .before .args .dictionary .now) (c .before .before .args .f) (c .before .before .args .places .now) (c .before .before .pre .1 .1)
 
--- src/lib.rt:113:20
+-- src/lib.rt:42:20
 add-next : tie.Need-add-next Inv-loop μ-loop
 add-next c = omega (arith, keeping-within (c .before .before .before .before .before .args .dictionary .now) (c .before .before .before .before .before .args .f) (c .before .before .before .before .before .pre .0) (c .before .before .before .before .before .pre .1 .0) (c .before .before .loop .places) (c .before .before .loop .at) (c .before .before .loop .inv) (c .if1 .taken))
 
--- src/lib.rt:113:34
+-- src/lib.rt:42:34
 length-at-requires : tie.Need-length-at-requires Inv-loop μ-loop
 length-at-requires c κs = omega (arith, keeping-within (c .before .before .before .before .before .args .dictionary .now) (c .before .before .before .before .before .args .f) (c .before .before .before .before .before .pre .0) (c .before .before .before .before .before .pre .1 .0) (c .before .before .loop .places) (c .before .before .loop .at) (c .before .before .loop .inv) (c .if1 .taken))
 
--- src/lib.rt:113:20
+-- src/lib.rt:42:20
 add-next-2 : tie.Need-add-next-2 Inv-loop μ-loop
 add-next-2 c = omega (arith, keeping-within (c .before .before .before .before .before .before .args .dictionary .now) (c .before .before .before .before .before .before .args .f) (c .before .before .before .before .before .before .pre .0) (c .before .before .before .before .before .before .pre .1 .0) (c .before .before .before .loop .places) (c .before .before .before .loop .at) (c .before .before .before .loop .inv) (c .before .if1 .taken), c .length-at .ensures)
 
--- src/lib.rt:114:31
+-- src/lib.rt:43:31
 term-at-requires : tie.Need-term-at-requires Inv-loop μ-loop
 term-at-requires c κs = omega (arith, keeping-within (c .before .before .before .before .before .before .before .args .dictionary .now) (c .before .before .before .before .before .before .before .args .f) (c .before .before .before .before .before .before .before .pre .0) (c .before .before .before .before .before .before .before .pre .1 .0) (c .before .before .before .before .loop .places) (c .before .before .before .before .loop .at) (c .before .before .before .before .loop .inv) (c .before .before .if1 .taken))
 
--- src/lib.rt:114:9
+-- src/lib.rt:43:9
 keep-place-requires : tie.Need-keep-place-requires Inv-loop μ-loop
 keep-place-requires c κs = (keeping-number (c .before .before .before .before .before .before .before .before .args .dictionary .now) (c .before .before .before .before .before .before .before .before .args .f) (c .before .before .before .before .before .before .before .before .pre .0) (c .before .before .before .before .before .before .before .before .pre .1 .0) (c .before .before .before .before .before .loop .places) (c .before .before .before .before .before .loop .at) (c .before .before .before .before .before .loop .inv) (c .before .before .before .if1 .taken) (c .term-at .result) (c .term-at .ensures), c .before .before .before .before .before .loop .inv .long)
 
--- src/lib.rt:112:5
+-- src/lib.rt:41:5
 loop-less : tie.Need-loop-less Inv-loop μ-loop
 loop-less c = omega (arith, c .before .before .before .before .before .before .if1 .taken)
 
--- src/lib.rt:112:5
+-- src/lib.rt:41:5
 loop-again : tie.Need-loop-again Inv-loop μ-loop
 loop-again c = keeping-more (c .before .before .before .before .before .before .before .before .before .before .before .args .dictionary .now) (c .before .before .before .before .before .before .before .before .before .before .before .args .f) (c .before .before .before .before .before .before .before .before .before .before .before .pre .0) (c .before .before .before .before .before .before .before .before .before .before .before .pre .1 .0) (c .before .before .before .before .before .before .before .before .loop .places) (c .before .before .before .before .before .before .before .before .loop .at) (c .before .before .before .before .before .before .before .before .loop .inv) (c .before .before .before .before .before .before .if1 .taken) (c .before .before .before .term-at .result) (c .before .before .before .before .before .length-at .result) (c .before .before .before .term-at .ensures) (c .before .before .before .before .before .length-at .ensures) (c .before .before .keep-place .last .1 .0) (c .before .before .keep-place .ensures)
 
--- src/lib.rt:105:1
+-- src/lib.rt:34:1
 same-length : tie.Need-same-length Inv-loop μ-loop
 same-length c = search needs
 
--- src/lib.rt:105:1
+-- src/lib.rt:34:1
 returns : tie.Need-returns Inv-loop μ-loop
 returns c = keeping-all (c .before .before .before .before .before .args .dictionary .now) (c .before .before .before .before .before .args .f) (c .before .before .before .before .before .pre .0) (c .before .before .before .before .before .pre .1 .0) (c .before .before .loop .places) (c .before .before .loop .at) (c .before .before .loop .inv) (search needs)
 

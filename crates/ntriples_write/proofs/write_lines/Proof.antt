@@ -8,8 +8,8 @@ use Rattle.ntriples_write.proofs.write_lines.Tie as tie
 use Rattle.ntriples_write.proofs.write_lines.Reads as reads
 use Rattle.ntriples_write.proofs.write_lines.Lts as lts
 use Rattle.dictionary_places.proofs.index_places.Reads as index-places-reads
-use Rattle.dictionary_places.proofs.no_places.Reads as no-places-reads
-use Rattle.ntriples_room.proofs.have_texts.Reads as have-texts-reads
+use Rattle.dictionary_ranks.proofs.no_places.Reads as no-places-reads
+use Rattle.ntriples_have_texts.proofs.have_texts.Reads as have-texts-reads
 use Rattle.ntriples_rows.proofs.write_rows.Reads as write-rows-reads
 use Rattle.ntriples_write.proofs.refuse.Reads as refuse-reads
 

@@ -1,0 +1,2 @@
+pub mod inside
+pub mod Input
