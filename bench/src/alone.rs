@@ -3,12 +3,13 @@
 
 use crate::clock::{median, progress, ratio, repeated, timed};
 use crate::contest::{Contestant, Outcome, Way};
+use crate::measure::WAYS;
 use crate::numbers::{digits, grouped, time, times};
 use crate::ours::{ask, lent_facts, Ours};
 use crate::scale::Scale;
 use families::{Capacities, Order, Refusal, Store, Table, Triple, Updated};
 use std::time::Duration;
-use workload::{delivery, spread, Mix};
+use workload::{delivery, question, spread, variable, Mix};
 
 /// Puts rows into a table, which must be empty; they become ascending.
 fn fill(table: &mut [u32], triples: &[Triple]) {
@@ -82,7 +83,7 @@ impl Alone {
             statements_delivered: median((0..scale.rounds).map(by_delivery).collect()),
             afresh: median((0..scale.rounds).map(by_one).collect()),
             plain: updates(&mut lent(&[], facts), &spread(facts, 50)),
-            first_question: [Way::Kept, Way::Rewritten].map(|way| first_question(&store, way)),
+            first_question: WAYS.map(|way| first_question(&store, way)),
         }
     }
 }
@@ -142,11 +143,20 @@ pub fn asked(statements: &[Triple], facts: &[Triple], questions: Vec<(&'static s
     (ours, questions)
 }
 
+/// A question that the peers are not asked, since Jena takes some 20 s for it by the rewritten way: each class of each thing has all classes
+/// below it.
+fn classes_below() -> (&'static str, Vec<u32>) {
+    let [x, y, z] = [0, 1, 2].map(variable);
+    ("x is of class y, and z is a subclass of y", question(&[[x, 1, y], [z, 2, y]], &[y, z]))
+}
+
 /// All questions by both ways on stores of several sizes.
 pub fn questions_by_size(scale: &Scale, statements: &[Triple], mix: Mix) -> Outcome<String> {
     let store = |&n: &usize| {
         let facts = workload::facts(n, statements.len(), mix, 7);
-        asked(statements, &facts, workload::questions(&facts))
+        let mut questions = workload::questions(&facts);
+        questions.push(classes_below());
+        asked(statements, &facts, questions)
     };
     by_size(scale, scale.sizes.iter().map(store).collect())
 }
@@ -155,7 +165,8 @@ pub fn questions_by_size(scale: &Scale, statements: &[Triple], mix: Mix) -> Outc
 /// divided by that of the rows that the way is lent.
 pub fn by_size(scale: &Scale, mut stores: Vec<Asked>) -> Outcome<String> {
     let mut out = String::new();
-    for (title, way, unit) in [("The kept way", Way::Kept, "kept rows"), ("The rewritten way", Way::Rewritten, "facts")] {
+    for (way, unit) in WAYS.into_iter().zip(["kept rows", "facts"]) {
+        let title = way.title();
         progress(&format!("our library: questions by size: {}", title.to_lowercase()));
         let rows: Vec<usize> = stores.iter().map(|(ours, _)| lent_facts(&ours.store, way)[0] as usize).collect();
         let sizes: String = rows.iter().map(|&n| format!(" {} {unit} |", grouped(n))).collect();
@@ -181,7 +192,7 @@ pub fn first_questions(scale: &Scale, statements: &[Triple], mix: Mix) -> String
     for &n in &scale.sizes {
         let store = saturated(statements, &workload::facts(n, statements.len(), mix, 7));
         let of_way = |way| cell(first_question(&store, way), copy_of(&[&store.statements, lent_facts(&store, way)], &[]));
-        let [kept, rewritten] = [Way::Kept, Way::Rewritten].map(of_way);
+        let [kept, rewritten] = WAYS.map(of_way);
         let all = cell(first_of_delivery(&store), copy(&store));
         out += &format!("| {} | {} | {kept} | {rewritten} | {all} |\n", grouped(n), grouped(store.kept[0] as usize));
     }

@@ -11,6 +11,16 @@ pub enum Way {
     Rewritten,
 }
 
+impl Way {
+    /// What stands above a table of its times.
+    pub fn title(self) -> &'static str {
+        match self {
+            Way::Kept => "The kept way",
+            Way::Rewritten => "The rewritten way",
+        }
+    }
+}
+
 /// What an update does with its triple.
 #[derive(Clone, Copy, PartialEq)]
 pub enum Change {

@@ -1,5 +1,6 @@
-//! Apache Jena (peers/jena). The kept way asks the model that its RETE rules keep up to date; the rewritten way the explicit triples, with
-//! a union over the alternatives in place of each atom, as SPARQL.
+//! Apache Jena (peers/jena). The kept way asks the model that its RETE rules keep up to date, closed statements included; the rewritten way
+//! the explicit triples, with a union over the alternatives in place of each atom, as SPARQL, where property paths close the statements when
+//! a question is put.
 
 use crate::contest::{Change, Contestant, Outcome, Rows, Way};
 use crate::rewriting::{variable, Atom, Question, Rewriter};
@@ -10,6 +11,9 @@ use std::time::Duration;
 /// long in between.
 const WARM: [u128; 2] = [5, 40];
 const WARMING: Duration = Duration::from_secs(2);
+
+/// The properties of statements that are closed.
+const STEPS: [u32; 2] = [2, 3];
 
 /// Jena, and what rewrites questions for it.
 pub struct Jena {
@@ -49,13 +53,26 @@ fn group(i: usize, atom: &Atom) -> String {
         (2, format!("?other{i} ?source{i} {s} FILTER(!isLiteral({s})){typed}")),
         (1, format!("{s} ?source{i} {o}")),
     ];
-    let mut members = vec![format!("{{ {s} {p} {o} }}")];
+    let mut members = explicit(atom);
     for (pairs, (place, pattern)) in atom.alternatives.iter().zip(shapes) {
         if !pairs.is_empty() {
             members.push(format!("{{ {} {pattern} }}", values(i, pairs, atom.words[place])));
         }
     }
     members.join(" UNION ")
+}
+
+/// An atom among the explicit triples, where one or more steps of subclass or subproperty are a path.
+fn explicit(atom: &Atom) -> Vec<String> {
+    let [s, p, o] = atom.words.map(|word| format!("w{word}"));
+    if variable(atom.words[1]).is_none() {
+        let path = if STEPS.contains(&atom.words[1]) { "+" } else { "" };
+        return vec![format!("{{ {s} {p}{path} {o} }}")];
+    }
+    let steps = STEPS.map(|step| format!("w{step}"));
+    let others = format!("{{ {s} {p} {o} FILTER({p} NOT IN ({})) }}", steps.join(", "));
+    let paths = steps.map(|step| format!("{{ {s} {step}+ {o} BIND({step} AS {p}) }}"));
+    [others].into_iter().chain(paths).collect()
 }
 
 /// The values that an alternative's source takes, with its target where that is a variable.

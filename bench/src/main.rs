@@ -22,6 +22,7 @@ mod report;
 mod rewriting;
 mod scale;
 mod stack;
+mod steps;
 mod tables;
 mod thresholds;
 mod writers;
@@ -101,6 +102,7 @@ fn alone(scale: &Scale) -> Outcome<Report> {
     Ok(Report::of(vec![
         ("Our library alone: questions by size", alone::questions_by_size(scale, &statements, GROWING)?),
         ("Our library alone: one thing with half of the facts, one object of half of the facts, one thing and one object with many properties, and facts that share two by two", hub::hubs(scale)?),
+        ("Our library alone: subclasses in one chain or one loop", steps::by_statements(scale)?),
         ("Our library alone: question 1", alone::first_questions(scale, &statements, GROWING)),
         ("Our library alone: updates by size", alone::updates_by_size(scale, &statements, GROWING)),
         ("Our library alone: listings", alone::listings(scale, &statements, GROWING)),

@@ -55,7 +55,7 @@ struct Expected {
     without: Vec<Rows>,
 }
 
-/// The statements of every store but those of hub.rs.
+/// The statements of every store but those of hub.rs and steps.rs.
 pub fn statements() -> Vec<Triple> {
     workload::statements(200)
 }

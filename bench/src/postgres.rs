@@ -1,5 +1,5 @@
 //! PostgreSQL (peers/postgres). A question is a join of one subquery for each atom; by the rewritten way a subquery is a union over the
-//! alternatives.
+//! alternatives. Both ways match closed statements, which the store keeps in a table and brings up to date when statements change.
 
 use crate::contest::{Change, Contestant, Outcome, Rows, Way};
 use crate::rewriting::{variable, Atom, Question, Rewriter};
@@ -55,8 +55,8 @@ fn select(way: Way, question: &Question) -> String {
 fn subquery(way: Way, atom: &Atom) -> String {
     let property = if variable(atom.words[1]).is_some() { vec![] } else { vec![format!("p = {}", atom.words[1])] };
     let facts = if way == Way::Kept { "kept" } else { "fact" };
-    let explicit = ["statement", facts].into_iter().zip(atom.matches()).filter(|(_, matches)| *matches);
-    let mut branches: Vec<String> = explicit.map(|(table, _)| branch(table, atom, ["s", "p", "o"], property.clone())).collect();
+    let tables = ["stated", facts].into_iter().zip(atom.matches()).filter(|(_, matches)| *matches);
+    let mut branches: Vec<String> = tables.map(|(table, _)| branch(table, atom, ["s", "p", "o"], property.clone())).collect();
     let shapes = [
         (["s", "1", "target"], "p = 1 AND o = source"),
         (["s", "1", "target"], "p = source"),

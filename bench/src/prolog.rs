@@ -1,5 +1,6 @@
 //! SWI-Prolog (peers/prolog). A question is a clause whose goals call the rows of the store; the rewritten way has a disjunction over the
-//! alternatives in place of each atom.
+//! alternatives in place of each atom. Both ways match closed statements, which the store has as clauses and makes anew when statements
+//! change.
 
 use crate::contest::{Change, Contestant, Outcome, Rows, Way};
 use crate::rewriting::{variable, Atom, Question, Rewriter};
@@ -51,7 +52,7 @@ fn goal(i: usize, way: Way, atom: &Atom, bound: &[u32]) -> String {
     let mut goals = Vec::new();
     let [of_statements, of_facts] = atom.matches();
     if of_statements {
-        goals.push(format!("store:statement({s},{p},{o})"));
+        goals.push(format!("store:stated({s},{p},{o})"));
     }
     if of_facts {
         goals.push(rows(i, if way == Way::Kept { 'k' } else { 'f' }, atom));

@@ -8,6 +8,8 @@ pub struct Scale {
     pub facts: usize,
     /// The sizes through which a store grows.
     pub sizes: Vec<usize>,
+    /// The statements of a chain or a loop of subclasses.
+    pub steps: Vec<usize>,
     /// Of how many loads or updates, and of how many answers, a time is the median.
     pub rounds: usize,
     pub runs: usize,
@@ -31,6 +33,7 @@ impl Scale {
         Scale {
             facts: 20_000,
             sizes: vec![5_000, 10_000, 20_000, 40_000, 65_000],
+            steps: vec![128, 256, 512],
             rounds: 5,
             runs: 11,
             changed: [1_000, 20],
@@ -48,6 +51,7 @@ impl Scale {
         Scale {
             facts: 2_000,
             sizes: vec![500, 1_000, 2_000],
+            steps: vec![16, 64],
             rounds: 2,
             runs: 3,
             changed: [100, 4],

@@ -4,8 +4,9 @@ use crate::alone::saturated;
 use crate::clock::progress;
 use crate::contest::Outcome;
 use crate::goods::{dictionary, files, TEXTS};
+use crate::measure::WAYS;
 use crate::numbers::grouped;
-use crate::ours::DELIVERY_BYTES;
+use crate::ours::{ask, DELIVERY_BYTES};
 use crate::scale::Scale;
 use crate::writing::Lent;
 use families::{read_ntriples, Order, Store, Table, Triple, Updated};
@@ -74,6 +75,13 @@ fn longest_question() -> Vec<u32> {
     question(&atoms, &[x, y, z])
 }
 
+/// A question of six atoms about subclasses and subproperties, which are closed.
+fn question_of_steps() -> Vec<u32> {
+    let [x, y, z, u, p] = [0, 1, 2, 3, 4].map(variable);
+    let atoms = [[x, 2, y], [y, 2, CLASS], [x, p, CLASS], [z, 3, u], [u, 3, PROPERTY], [z, p, u]];
+    question(&atoms, &[x, y, p])
+}
+
 /// The stack that each update takes: a triple is withdrawn and added again, by itself and by a delivery.
 fn updates(store: &mut Store, of: &str, triple: Triple, section: usize) -> [(String, usize); 3] {
     let withdrawn = taken(|| assert_eq!(store.withdraw(triple), Ok(Updated::Applied)));
@@ -91,17 +99,23 @@ fn updates(store: &mut Store, of: &str, triple: Triple, section: usize) -> [(Str
     ]
 }
 
+/// The stack that a question takes by each way.
+fn asked(store: &Store, words: &[u32], rows: &mut [u32]) -> [usize; 2] {
+    WAYS.map(|way| taken(|| assert!(ask(store, way, words, rows).is_ok())))
+}
+
 /// The stack that questions, alternatives and listings take.
 fn questions(store: &Store) -> Vec<(String, usize)> {
     let mut rows = vec![0; store.kept.len()];
-    let words = longest_question();
-    let kept = taken(|| assert!(store.ask_kept(&words, &mut rows).is_ok()));
-    let rewritten = taken(|| assert!(store.ask_rewritten(&words, &mut rows).is_ok()));
+    let [kept, rewritten] = asked(store, &longest_question(), &mut rows);
+    let [kept_steps, rewritten_steps] = asked(store, &question_of_steps(), &mut rows);
     let alternatives = taken(|| assert!(store.alternatives([variable(0), 1, CLASS], &mut rows).is_ok()));
     let listings = Order::ALL.map(|order| taken(|| assert!(store.list(Table::Kept, order, &mut rows).is_ok())));
     vec![
         ("a question of six atoms by the kept way".to_string(), kept),
         ("the same by the rewritten way".to_string(), rewritten),
+        ("a question of six atoms about subclasses and subproperties by the kept way".to_string(), kept_steps),
+        ("the same by the rewritten way".to_string(), rewritten_steps),
         ("the alternatives of an atom".to_string(), alternatives),
         ("a listing of the kept facts, the most of six orders".to_string(), listings.into_iter().fold(0, usize::max)),
     ]

@@ -2,7 +2,7 @@
 
 use crate::alone::Alone;
 use crate::contest::{Change, Contestant};
-use crate::measure::{Contest, Figures, DELIVERED, FACTS, STATEMENTS};
+use crate::measure::{Contest, Figures, DELIVERED, FACTS, STATEMENTS, WAYS};
 use crate::numbers::{grouped, time, times};
 use std::time::Duration;
 
@@ -46,9 +46,9 @@ pub fn loads(names: &[&str], contest: &Contest, alone: &Alone) -> String {
 /// Questions, a table for each way.
 pub fn questions(names: &[&str], questions: &[(&str, Vec<u32>)], contest: &Contest, alone: &Alone) -> String {
     let mut out = String::new();
-    for (way, title) in ["The kept way", "The rewritten way"].iter().enumerate() {
+    for (way, asked) in WAYS.into_iter().enumerate() {
         let unit = alone.first_question[way];
-        out += &format!("{title}. Question 1 alone takes {}.\n\n", time(unit));
+        out += &format!("{}. Question 1 alone takes {}.\n\n", asked.title(), time(unit));
         out += &head(&["question", "rows", "times question 1"], names);
         for (i, (name, _)) in questions.iter().enumerate() {
             let measured = taken(contest, |f| f.questions[i][way]);

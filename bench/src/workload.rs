@@ -153,5 +153,6 @@ pub fn questions(facts: &[Triple]) -> Vec<(&'static str, Vec<u32>)> {
         ("x has y, and z is related to y", question(&[[x, PROPERTY + 3, y], [z, u, y]], &[x, z])),
         ("x is of a class of a thing", question(&[[THING + 17, 1, y], [x, 1, y]], &[x])),
         ("a chain from a known end", question(&[[z, PROPERTY + 1, end], [y, PROPERTY + 2, z], [x, PROPERTY + 1, y]], &[x])),
+        ("x has a property y, and z is a subclass of y", question(&[[x, PROPERTY + 1, y], [z, 2, y]], &[x, z])),
     ]
 }

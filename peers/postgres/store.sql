@@ -7,11 +7,22 @@ CREATE UNLOGGED TABLE statement (s bigint NOT NULL, p bigint NOT NULL, o bigint 
 CREATE UNLOGGED TABLE fact (s bigint NOT NULL, p bigint NOT NULL, o bigint NOT NULL);
 CREATE UNLOGGED TABLE kept (s bigint NOT NULL, p bigint NOT NULL, o bigint NOT NULL, support bigint NOT NULL);
 
--- The statements closed, by the kinds of document 01's alternatives: 1 subclass, 2 domain, 3 range, 4 subproperty. Kind 5 is domain or
--- range, for a fact whose object is its subject. turn is 1 for what a change of statements brings, -1 for what it takes away.
+-- The statements closed, by the kinds of document 01's alternatives: 1 subclass, 2 domain, 3 range, 4 subproperty; of 1 and 4 it has all
+-- pairs that one or more steps join, also those of a term and itself. Kind 5 is domain or range, for a fact whose object is its subject.
+-- turn is 1 for what a change of statements brings, -1 for what it takes away.
 CREATE UNLOGGED TABLE closed (
     kind int NOT NULL, source bigint NOT NULL, target bigint NOT NULL, turn int NOT NULL DEFAULT 0, PRIMARY KEY (kind, source, target)
 );
+CREATE INDEX closed_targets ON closed (kind, target);
+
+-- The statements that questions match: subclasses and subproperties closed, which is done when statements change, domains and ranges as
+-- they are explicit.
+CREATE VIEW stated AS
+    SELECT source AS s, 2::bigint AS p, target AS o FROM closed WHERE kind = 1
+    UNION ALL
+    SELECT source, 3, target FROM closed WHERE kind = 4
+    UNION ALL
+    SELECT s, p, o FROM statement WHERE p IN (4, 5);
 
 -- What the table of closed statements should hold.
 CREATE VIEW closure AS
@@ -34,7 +45,7 @@ CREATE VIEW closure AS
             UNION
             SELECT i.kind, i.property, t.target FROM inherited i JOIN step t ON t.property = 2 AND t.source = i.class
         )
-    SELECT CASE property WHEN 2 THEN 1 ELSE 4 END AS kind, source, target FROM step WHERE source <> target
+    SELECT CASE property WHEN 2 THEN 1 ELSE 4 END AS kind, source, target FROM step
     UNION ALL
     SELECT kind, source, target FROM typed
     UNION
@@ -45,6 +56,7 @@ CREATE VIEW carried AS
     SELECT s AS fs, p AS fp, o AS fo, s, p, o, 0 AS turn FROM fact
     UNION ALL
     SELECT f.s, f.p, f.o, f.s, 1, c.target, turn FROM fact f JOIN closed c ON c.kind = 1 AND f.p = 1 AND c.source = f.o
+       AND c.source <> c.target
     UNION ALL
     SELECT f.s, f.p, f.o, f.s, 1, c.target, turn FROM fact f JOIN closed c ON c.kind = 2 AND c.source = f.p AND f.s <> f.o
     UNION ALL
@@ -52,6 +64,7 @@ CREATE VIEW carried AS
        AND f.o < 2147483648
     UNION ALL
     SELECT f.s, f.p, f.o, f.s, c.target, f.o, turn FROM fact f JOIN closed c ON c.kind = 4 AND c.source = f.p
+       AND c.source <> c.target
     UNION ALL
     SELECT f.s, f.p, f.o, f.s, 1, c.target, turn FROM fact f JOIN closed c ON c.kind = 5 AND c.source = f.p AND f.s = f.o;
 

@@ -5,9 +5,10 @@
 :- module(store, [clear/0, add/1, withdraw/1, work/0, kept/4]).
 :- use_module(library(ordsets)).
 
-% statement(S, P, O): an explicit statement. property(P): there are rows of this property. name(Kind, P, Name): the name of its rows,
-% explicit (f) or kept (k). working: the kept facts are kept up to date.
-:- dynamic statement/3, property/1, name/3, working/0.
+% statement(S, P, O): an explicit statement. stated(S, P, O): a statement that questions match, explicit or joined by one or more steps;
+% these are clauses too, made anew when the statements change. property(P): there are rows of this property. name(Kind, P, Name): the name
+% of its rows, explicit (f) or kept (k). working: the kept facts and what questions match are kept up to date.
+:- dynamic statement/3, stated/3, property/1, name/3, working/0.
 
 % A property without rows has no predicate, and matches nothing.
 :- set_prolog_flag(rows:unknown, fail).
@@ -19,6 +20,7 @@
 clear :-
     forall(property(P), ( row(f, P, _, _, F), retractall(F), row(k, P, _, _, K), retractall(K) )),
     retractall(statement(_, _, _)),
+    retractall(stated(_, _, _)),
     retractall(property(_)),
     retractall(name(_, _, _)),
     retractall(working),
@@ -59,13 +61,32 @@ declare(P) :-
     assertz(property(P)),
     forall(member(Kind, [f, k]), ( atom_concat(Kind, P, Name), dynamic(rows:Name/2), assertz(name(Kind, P, Name)) )).
 
-%!  work: the kept facts are worked out afresh.
+%!  work: the kept facts and the statements that questions match are worked out afresh.
 work :-
     retractall(working),
     forall(property(P), ( row(k, P, _, _, K), retractall(K) )),
     forget,
+    close,
     forall(( explicit(_, Fact), carried(Fact, Row) ), raise(Row)),
     assertz(working).
+
+%!  close: the statements that questions match are made anew.
+close :-
+    retractall(stated(_, _, _)),
+    forall(joined(S, P, O), assertz(stated(S, P, O))).
+
+%!  joined(-S, -P, -O): each statement that questions match, once: a pair that one or more subclass or subproperty steps join, or an
+%   explicit domain or range.
+joined(S, P, O) :-
+    member(P, [2, 3]),
+    setof(Next, statement(S, P, Next), Nexts),
+    maplist(above(P), Nexts, Sets),
+    append(Sets, All),
+    sort(All, Os),
+    member(O, Os).
+joined(S, P, O) :-
+    member(P, [4, 5]),
+    statement(S, P, O).
 
 %!  explicit(?P, -Fact): an explicit fact.
 explicit(P, t(S, P, O)) :-
@@ -148,6 +169,7 @@ change(Change) :-
     steps(Old),
     call(Change), !,
     abolish_all_tables,
+    close,
     steps(New),
     ord_subtract(New, Old, In),
     ord_subtract(Old, New, Out),

@@ -47,9 +47,14 @@ impl Names {
         if random.once_in(3) {
             things.push(random.pick(&rare));
         }
+        let mut classes = some(random, &[16, 17, 18, 19, 40, BLANK + 1, BLANK + 2]);
+        let properties = some(random, &[20, 21, 22, 23, 24]);
+        if random.once_in(4) {
+            classes.push(random.pick(&properties));
+        }
         Names {
-            classes: some(random, &[16, 17, 18, 19, 40, BLANK + 1, BLANK + 2]),
-            properties: some(random, &[20, 21, 22, 23, 24]),
+            classes,
+            properties,
             things,
             literals: some(random, &[LITERAL + 1, LITERAL + 2, 3 * BLANK - 1]),
         }
@@ -104,18 +109,41 @@ pub fn statement(random: &mut Random, names: &Names) -> Triple {
     [random.pick(subjects), property, random.pick(objects)]
 }
 
-/// A fact over the names.
+/// Subclasses or subproperties in a chain, in a loop, in a diamond, or in a chain whose terms are joined to
+/// themselves too.
+fn shape(random: &mut Random, names: &Names) -> Vec<Triple> {
+    let properties = (SUBPROPERTY, &names.properties);
+    let (step, terms) = random.pick(&[(SUBCLASS, &names.classes), properties]);
+    let line = some(random, terms);
+    let (first, last) = (line[0], line[line.len() - 1]);
+    let chain = line.windows(2).map(|pair| [pair[0], step, pair[1]]);
+    let middle = line.iter().filter(|term| ![first, last].contains(term));
+    match random.below(4) {
+        0 => chain.collect(),
+        1 => chain.chain([[last, step, first]]).collect(),
+        2 => middle
+            .flat_map(|term| [[first, step, *term], [*term, step, last]])
+            .collect(),
+        _ => chain
+            .chain(line.iter().map(|term| [*term, step, *term]))
+            .collect(),
+    }
+}
+
+/// A fact over the names, now and then one that names the property of a step.
 pub fn fact(random: &mut Random, names: &Names) -> Triple {
     let subject = if random.once_in(10) {
         random.pick(&names.classes)
     } else {
         random.pick(&names.things)
     };
-    let (property, object) = match random.below(8) {
-        0..=2 => (TYPE, random.pick(&names.classes)),
-        3 => (TYPE, random.pick(&names.literals)),
-        4 => (random.pick(&names.properties), random.pick(&names.literals)),
-        5 => (random.pick(&names.properties), random.pick(&names.classes)),
+    let steps = [SUBCLASS, SUBPROPERTY];
+    let (property, object) = match random.below(16) {
+        0..=5 => (TYPE, random.pick(&names.classes)),
+        6 | 7 => (TYPE, random.pick(&names.literals)),
+        8 | 9 => (random.pick(&names.properties), random.pick(&names.literals)),
+        10 | 11 => (random.pick(&names.properties), random.pick(&names.classes)),
+        12 => (random.pick(&names.properties), random.pick(&steps)),
         _ => (random.pick(&names.properties), random.pick(&names.things)),
     };
     [subject, property, object]
@@ -228,6 +256,9 @@ pub fn delivery(random: &mut Random, names: &Names, store: &Store) -> Vec<u8> {
         for _ in 0..random.below(4) {
             parts.sections[section].push(entry(random, names, store, section));
         }
+    }
+    if random.once_in(2) {
+        parts.sections[2].extend(shape(random, names));
     }
     parts.fields = fields(random);
     match random.below(12) {
@@ -385,15 +416,27 @@ fn joined_atoms(random: &mut Random, triples: &[Triple], n: usize) -> Vec<Triple
     atoms
 }
 
+/// The triples by which steps are asked for: subclasses and subproperties, and as many facts that name one of
+/// the two properties, if there is any.
+fn about_steps(triples: &[Triple]) -> Vec<Triple> {
+    let is_step = |word: &u32| [SUBCLASS, SUBPROPERTY].contains(word);
+    let steps: Vec<Triple> = triples.iter().copied().filter(|t| is_step(&t[1])).collect();
+    let naming = triples.iter().filter(|t| is_step(&t[0]) || is_step(&t[2]));
+    let naming = naming.cycle().take(steps.len()).copied();
+    naming.chain(steps.iter().copied()).collect()
+}
+
 /// The words of a question, sometimes malformed.
 fn question_words(random: &mut Random, names: &Names, triples: &[Triple]) -> Vec<u32> {
     let numbers = [0, 1, 2, 3, 9, 15, 7, 8];
     let used = random.between(1, numbers.len());
     let variables: Vec<u32> = numbers[..used].iter().map(|n| VARIABLE + n).collect();
     let n = random.pick(&[1, 1, 2, 2, 2, 3, 3, 4, 5, 6]);
-    let atoms = match random.below(8) {
+    let steps = about_steps(triples);
+    let atoms = match random.below(11) {
         2..=4 if !triples.is_empty() => joined_atoms(random, triples, n),
-        5.. if !triples.is_empty() => atoms_of(random, triples, &variables, n),
+        5..=7 if !triples.is_empty() => atoms_of(random, triples, &variables, n),
+        8.. if !steps.is_empty() => atoms_of(random, &steps, &variables, n),
         _ => (0..n).map(|_| atom(random, names, &variables)).collect(),
     };
     let mut words = vec![n as u32, 0];
@@ -453,8 +496,7 @@ const CHOICES: u64 = 20_000;
 
 /// A question whose answers neither side has to search for long.
 pub fn question(random: &mut Random, names: &Names, model: &Model, store: &Store) -> Vec<u32> {
-    let kept = model.kept_triples(&store.statements, &store.kept);
-    let rewritten = model.rewritten_triples(&store.statements, &store.facts);
+    let [kept, rewritten] = Way::BOTH.map(|way| model.matched_triples(store, way));
     let short = |words: &[u32]| match read_question(words) {
         Err(_) => true,
         Ok(question) => [&kept, &rewritten]
@@ -519,8 +561,8 @@ pub fn look(
         _ => {
             let words = question(random, names, &model, &session.store);
             let width = words.get(1).map_or(1, |m| (*m).clamp(1, 8) as usize);
-            for way in [Way::Kept, Way::Rewritten] {
-                let rows = model.ask_way(&session.store, way, &words);
+            for way in Way::BOTH {
+                let rows = model.ask(&session.store, way, &words);
                 let output = output(random, rows.map_or(2, |r| r.len()), width);
                 session.call(Call::Ask(way, words.clone(), output))?;
             }
@@ -532,7 +574,10 @@ pub fn look(
 /// A well-formed store that nobody grew: kept facts need not be what follows, nor supports true.
 pub fn lent_store(random: &mut Random, names: &Names, model: &Model) -> Store {
     let limit = random.pick(&[0, 1, 3, 8, 12]);
-    let statements: Graph = (0..limit).map(|_| statement(random, names)).collect();
+    let mut statements: Graph = (0..limit).map(|_| statement(random, names)).collect();
+    if random.once_in(2) {
+        statements.extend(shape(random, names));
+    }
     let limit = random.pick(&[0, 1, 4, 10]);
     let facts: Graph = (0..limit).map(|_| fact(random, names)).collect();
     let mut kept = model.supports(&statements, &facts);

@@ -9,10 +9,11 @@ use crate::random::Random;
 use crate::script::{Call, Command, Expected, Output, Way};
 use crate::session::{Failure, Harness, Session};
 use crate::store::{Store, Table};
+use crate::windows::ask;
 use std::collections::BTreeMap;
 
 /// The first class or property of a long chain, and a term after all of them.
-const FIRST: u32 = 16;
+pub const FIRST: u32 = 16;
 const THING: u32 = 5000;
 const LONGEST: u32 = STATEMENTS as u32;
 
@@ -76,7 +77,7 @@ fn ask_both(session: &mut Session, atom: Triple, head: &[u32], rows: usize) -> R
     let mut words = vec![1, head.len() as u32];
     words.extend(atom);
     words.extend(head);
-    for way in [Way::Kept, Way::Rewritten] {
+    for way in Way::BOTH {
         let exact = output(rows * head.len());
         session.expect(Call::Ask(way, words.clone(), exact), 0)?;
         session.run(Command::Expect(Expected::Count(rows as u32)))?;
@@ -88,6 +89,22 @@ fn ask_both(session: &mut Session, atom: Triple, head: &[u32], rows: usize) -> R
     Ok(())
 }
 
+/// Asks by both ways for rows that the case knows. The model does not judge: it would close a long chain
+/// again for each question.
+fn ask_known<const N: usize>(
+    session: &mut Session,
+    atom: Triple,
+    head: [u32; N],
+    rows: Vec<[u32; N]>,
+) -> Result<(), Failure> {
+    session.harness.model_judges = false;
+    for way in Way::BOTH {
+        ask(session, way, &[atom], head, rows.clone())?;
+    }
+    session.harness.model_judges = true;
+    Ok(())
+}
+
 /// Asks for alternatives, into an output for just its rows and into one word less.
 fn alternatives(session: &mut Session, atom: Triple, rows: usize) -> Result<(), Failure> {
     session.expect(Call::Alternatives(atom, output(3 * rows)), 0)?;
@@ -96,10 +113,16 @@ fn alternatives(session: &mut Session, atom: Triple, rows: usize) -> Result<(), 
 }
 
 /// The steps of a chain of one property from the first term on.
-fn steps(property: u32, length: u32) -> Vec<Triple> {
+pub fn steps(property: u32, length: u32) -> Vec<Triple> {
     (FIRST..FIRST + length)
         .map(|c| [c, property, c + 1])
         .collect()
+}
+
+/// The pairs that the steps of a chain join, from a term on.
+pub fn pairs(property: u32, first: u32, length: u32) -> impl Iterator<Item = Triple> {
+    let last = first + length;
+    (first..last).flat_map(move |a| (a + 1..=last).map(move |b| [a, property, b]))
 }
 
 /// A fact that enters a chain at its start.
@@ -107,6 +130,16 @@ fn entering(property: u32) -> Triple {
     match property {
         SUBCLASS => [THING, TYPE, FIRST],
         _ => [THING, FIRST, THING + 1],
+    }
+}
+
+/// What the fact that enters a chain at its start carries there, a row for each term of so many: property
+/// and object.
+fn carried(property: u32, terms: u32) -> Vec<[u32; 2]> {
+    let terms = FIRST..FIRST + terms;
+    match property {
+        SUBCLASS => terms.map(|class| [TYPE, class]).collect(),
+        _ => terms.map(|property| [property, THING + 1]).collect(),
     }
 }
 
@@ -133,7 +166,12 @@ fn chain(harness: &mut Harness, property: u32) -> Result<(), Failure> {
     session.expect(Call::Add([FIRST, property, FIRST + 300]), 4)?;
     session.expect(Call::Add(order[5]), IDLE)?;
     ask_both(&mut session, ending(property), &[V0], 1)?;
-    ask_both(&mut session, [THING, V1, V2], &[V1, V2], rows)?;
+    ask_known(
+        &mut session,
+        [THING, V1, V2],
+        [V1, V2],
+        carried(property, LONGEST + 1),
+    )?;
     let pairs = rows * (rows - 1) / 2;
     match property {
         SUBCLASS => {
@@ -168,8 +206,14 @@ fn bent_chain(harness: &mut Harness, bend: u32) -> Result<(), Failure> {
         session.expect(Call::Add(*statement), 0)?;
     }
     session.expect(Call::Add([FIRST, bend, class]), 4)?;
-    // 256 properties and 257 classes.
-    ask_both(&mut session, [V0, V1, V2], &[V0, V1, V2], 256 + 257 + 512)?;
+    let typed = if bend == DOMAIN { THING } else { THING + 1 };
+    let properties = (FIRST..=FIRST + 255).map(|p| [THING, p, THING + 1]);
+    let classes = (class..=class + 256).map(|c| [typed, TYPE, c]);
+    let mut rows: Vec<Triple> = properties.chain(classes).collect();
+    rows.push([FIRST + 255, bend, class]);
+    rows.extend(pairs(SUBPROPERTY, FIRST, 255));
+    rows.extend(pairs(SUBCLASS, class, 256));
+    ask_known(&mut session, [V0, V1, V2], [V0, V1, V2], rows)?;
     ask_both(&mut session, [V0, TYPE, class + 256], &[V0], 1)?;
     let last = [V0, TYPE, class + 256];
     alternatives(&mut session, last, 1 + 256 + 256)?;
@@ -196,7 +240,12 @@ fn ring(harness: &mut Harness, property: u32) -> Result<(), Failure> {
     session.expect(Call::Withdraw(other), 0)?;
     alternatives(&mut session, [V0, V1, V2], size * (size - 1) + 1)?;
     session.expect(Call::Withdraw(statements[256]), 0)?;
-    ask_both(&mut session, [THING, V0, V1], &[V0, V1], 257)
+    ask_known(
+        &mut session,
+        [THING, V0, V1],
+        [V0, V1],
+        carried(property, 257),
+    )
 }
 
 /// A store that holds just this content, with spare words in each table.

@@ -5,6 +5,7 @@
 //!     trial [--part model|files|writing|jena|memory|readers] [--seed N] [--cases N] [--fault NAME] [--replay FILE]
 
 mod binding;
+mod closed;
 mod comparison;
 mod counts;
 mod entries;
@@ -59,7 +60,10 @@ const EXAMPLES: Directed = ("examples", |harness| {
 
 /// The part `Model`: calls on a store.
 fn store_plan() -> Plan {
-    let directed = limits::CASES.into_iter().chain(windows::CASES);
+    let directed = limits::CASES
+        .into_iter()
+        .chain(closed::CASES)
+        .chain(windows::CASES);
     Plan {
         faults: Fault::STORE.to_vec(),
         directed: [EXAMPLES]

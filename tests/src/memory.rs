@@ -1,5 +1,6 @@
 //! A sample of the trial under valgrind, each slice in a heap block of exactly its length.
 
+use crate::closed;
 use crate::entries;
 use crate::fence::Memory;
 use crate::histories;
@@ -123,5 +124,6 @@ pub fn sample(harness: &mut Harness, seed: u64) -> Result<(), (String, Failure)>
                 .map_err(|f| (format!("sample {number}, case {i}"), f))?;
         }
     }
+    closed::past_a_word(harness).map_err(|f| ("closed statements".to_string(), f))?;
     writing::past_the_places(harness).map_err(|f| ("many texts".to_string(), f))
 }

@@ -107,6 +107,8 @@ impl Output {
 }
 
 impl Way {
+    pub const BOTH: [Way; 2] = [Way::Kept, Way::Rewritten];
+
     pub fn name(self) -> &'static str {
         match self {
             Way::Kept => "kept",
@@ -323,9 +325,7 @@ fn parse_on(text: &str) -> Option<bool> {
 }
 
 fn parse_way(text: &str) -> Option<Way> {
-    [Way::Kept, Way::Rewritten]
-        .into_iter()
-        .find(|w| w.name() == text)
+    Way::BOTH.into_iter().find(|w| w.name() == text)
 }
 
 fn parse_expected(texts: &[&str]) -> Option<Expected> {

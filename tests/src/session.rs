@@ -8,7 +8,7 @@ use crate::model::questions::write_rows;
 use crate::model::{Model, IDLE};
 use crate::outcome::Outcome;
 use crate::peer::Peer;
-use crate::script::{self, Call, Command, Expected, Way};
+use crate::script::{self, Call, Command, Expected};
 use crate::store::{Store, Table};
 use std::fmt;
 use std::fs::File;
@@ -226,7 +226,7 @@ impl Model {
             }
             Call::Ask(way, question, output) => {
                 let width = question.get(1).map_or(1, |m| (*m).max(1) as usize);
-                let answer = self.ask_way(store, *way, question);
+                let answer = self.ask(store, *way, question);
                 rows_outcome(|words| write_rows(answer, width, words), output.lent())
             }
             Call::Alternatives(atom, output) => {
@@ -249,20 +249,6 @@ impl Model {
                 Outcome::of_writing(reply, lines)
             }
         }
-    }
-
-    /// The rows of a question by one of the two ways.
-    pub fn ask_way(
-        &self,
-        store: &Store,
-        way: Way,
-        question: &[u32],
-    ) -> Result<crate::model::questions::Rows, u32> {
-        let triples = match way {
-            Way::Kept => self.kept_triples(&store.statements, &store.kept),
-            Way::Rewritten => self.rewritten_triples(&store.statements, &store.facts),
-        };
-        self.ask(triples, question)
     }
 }
 

@@ -12,7 +12,7 @@ use crate::store::{Store, Table};
 use workload::question;
 
 /// The pairs of a key and a row that the library gathers at once.
-const PAIRS: u32 = 65_520;
+const PAIRS: u32 = 63_472;
 
 /// What a case has in place of it where the model judges.
 const FEW: u32 = 40;
@@ -39,7 +39,7 @@ const VU: u32 = VARIABLE + 4;
 type Case = fn(&mut Session, u32) -> Result<(), Failure>;
 
 /// All cases, by name.
-pub const CASES: [Directed; 22] = [
+pub const CASES: [Directed; 24] = [
     ("windows of objects, the kept way", |h| run(h, kept_objects)),
     ("windows of objects, the rewritten way", |h| run(h, objects)),
     ("windows of one object", |h| run(h, one_object)),
@@ -58,6 +58,8 @@ pub const CASES: [Directed; 22] = [
     ("windows of a property above others", |h| run(h, by_property_above)),
     ("windows of a class that two share", |h| run(h, shared_class)),
     ("windows of an object that two share", |h| run(h, shared_object)),
+    ("windows of classes that steps join", |h| run(h, joined_classes)),
+    ("windows of a property that can be a step", |h| run(h, named_step)),
     ("joins by what facts give", joins_of_given),
     ("a thing with many facts", many_facts),
     ("a thing with many properties", many_properties),
@@ -67,8 +69,17 @@ pub const CASES: [Directed; 22] = [
 /// Runs a case with little to gather beside the model, and with more than fits by itself.
 fn run(harness: &mut Harness, case: Case) -> Result<(), Failure> {
     case(&mut Session::new(harness), FEW)?;
+    run_alone(harness, case, PAIRS)
+}
+
+/// Runs a case of some size without the model.
+pub fn run_alone(
+    harness: &mut Harness,
+    case: impl Fn(&mut Session, u32) -> Result<(), Failure>,
+    size: u32,
+) -> Result<(), Failure> {
     harness.model_judges = false;
-    case(&mut Session::new(harness), PAIRS)?;
+    case(&mut Session::new(harness), size)?;
     harness.model_judges = true;
     Ok(())
 }
@@ -83,7 +94,7 @@ fn words(mut rows: Vec<Triple>) -> Vec<u32> {
 }
 
 /// Lends statements and the facts of a way, which have no spare words.
-fn lend(
+pub fn lend(
     session: &mut Session,
     statements: &[Triple],
     way: Way,
@@ -97,8 +108,8 @@ fn lend(
     session.run(Command::Lend(table, words(rows)))
 }
 
-/// Asks by a way for rows of so many words, with some words to spare and with one too few.
-fn ask<const N: usize>(
+/// Asks by a way for rows of so many words, in any order.
+pub fn ask<const N: usize>(
     session: &mut Session,
     way: Way,
     atoms: &[Triple],
@@ -106,13 +117,27 @@ fn ask<const N: usize>(
     mut rows: Vec<[u32; N]>,
 ) -> Result<(), Failure> {
     rows.sort();
-    let call = |words| Call::Ask(way, question(atoms, &head), Output { words, fill: 99 });
-    let mut expected = rows.concat();
-    let short = expected.len() - 1;
-    expected.extend([0; 7]);
-    session.expect(call(expected.len()), 0)?;
-    session.run(Command::Expect(Expected::Count(rows.len() as u32)))?;
-    session.run(Command::Expect(Expected::Output(expected)))?;
+    ask_words(session, way, &question(atoms, &head), &rows.concat())
+}
+
+/// Asks by a way for the words of rows, with some words to spare, with none and with one too few.
+pub fn ask_words(
+    session: &mut Session,
+    way: Way,
+    question: &[u32],
+    rows: &[u32],
+) -> Result<(), Failure> {
+    let call = |words| Call::Ask(way, question.to_vec(), Output { words, fill: 99 });
+    let count = rows.len() / question[1] as usize;
+    for spare in [7, 0] {
+        let expected = [rows, &[0; 7][..spare]].concat();
+        session.expect(call(expected.len()), 0)?;
+        session.run(Command::Expect(Expected::Count(count as u32)))?;
+        session.run(Command::Expect(Expected::Output(expected)))?;
+    }
+    let Some(short) = rows.len().checked_sub(1) else {
+        return Ok(());
+    };
     session.expect(call(short), 8)?;
     session.run(Command::Expect(Expected::Count(0)))?;
     session.run(Command::Expect(Expected::Output(vec![0; short])))
@@ -157,7 +182,7 @@ fn one_object(session: &mut Session, n: u32) -> Result<(), Failure> {
     facts.extend(of_b.map(|(j, z)| [Y + j, B, z]));
     let mut rows = vec![[X - 1, Y], [X - 2, Y + 3]];
     rows.extend((0..n + 2).flat_map(|i| [[X + i, Y + 1], [X + i, Y + 2]]));
-    for way in [Way::Kept, Way::Rewritten] {
+    for way in Way::BOTH {
         lend(session, &[], way, facts.clone())?;
         let atoms = [[VX, A, VZ], [VY, B, VZ]];
         ask(session, way, &atoms, [VX, VY], rows.clone())?;
@@ -455,6 +480,42 @@ fn shared_object(session: &mut Session, n: u32) -> Result<(), Failure> {
     Ok(())
 }
 
+/// The steps of a chain of subclasses.
+const STEPS: u32 = 12;
+
+/// A chain of subclasses from Z on.
+fn subclasses() -> Vec<Triple> {
+    (Z..Z + STEPS).map(|class| [class, SUBCLASS, class + 1]).collect()
+}
+
+/// Some of many facts have a class of a chain as their object, which the subclasses lead to, by their
+/// property and by any.
+fn joined_classes(session: &mut Session, n: u32) -> Result<(), Failure> {
+    for (way, n) in [(Way::Kept, n + n / 2), (Way::Rewritten, n - 9)] {
+        let object = |i: u32| if i % 16 == 0 { Z + i / 16 % (STEPS + 1) } else { Y + i / 2 };
+        let facts = (0..n).map(|i| [X + i, A, object(i)]).collect();
+        lend(session, &subclasses(), way, facts)?;
+        let rows: Vec<[u32; 2]> = (0..n).flat_map(|i| (Z..object(i)).map(move |class| [X + i, class])).collect();
+        ask(session, way, &[[VX, A, VZ], [VY, SUBCLASS, VZ]], [VX, VY], rows.clone())?;
+        let atoms = [[VX, A, VZ], [VY, VU, VZ], [VY, SUBCLASS, Z + STEPS]];
+        ask(session, way, &atoms, [VX, VY], rows)?;
+    }
+    Ok(())
+}
+
+/// A property is looked up that is named by facts: that of many facts, or that of steps.
+fn named_step(session: &mut Session, n: u32) -> Result<(), Failure> {
+    for (way, n) in [(Way::Kept, n + n / 2), (Way::Rewritten, n - 9)] {
+        let mut facts: Vec<Triple> = (0..n).map(|i| [X + i, A, Y + i / 2]).collect();
+        facts.extend([[W, B, A], [W + 1, B, SUBCLASS], [W + 2, B, SUBPROPERTY]]);
+        lend(session, &subclasses(), way, facts)?;
+        let pairs = (Z..Z + STEPS).flat_map(|a| (a + 1..=Z + STEPS).map(move |b| [W + 1, a, b]));
+        let rows = (0..n).map(|i| [W, X + i, Y + i / 2]).chain(pairs).collect();
+        ask(session, way, &[[VW, B, VU], [VX, VU, VY]], [VW, VX, VY], rows)?;
+    }
+    Ok(())
+}
+
 /// What facts give by properties above their own and by domains, ranges and classes above, looked up by
 /// its object, by its class and by its property, with each and with none named beside it.
 fn joins_of_given(harness: &mut Harness) -> Result<(), Failure> {
@@ -470,7 +531,7 @@ fn joins_of_given(harness: &mut Harness) -> Result<(), Failure> {
     facts.extend((0..30).map(|i| [Y + i, TYPE, CLASS + i % 5]));
     facts.extend((0..20).map(|i| [W + i, D, [A, B, C, TYPE, Z, CLASS, CLASS + 2, X][i as usize % 8]]));
     facts.extend([[X, TYPE, Z], [Z, A, Z], [Z, TYPE, A]]);
-    for way in [Way::Kept, Way::Rewritten] {
+    for way in Way::BOTH {
         let session = &mut Session::new(harness);
         lend(session, &statements, way, facts.clone())?;
         for other in [VU, TYPE, A, C] {
@@ -508,7 +569,7 @@ fn many_facts(harness: &mut Harness) -> Result<(), Failure> {
         let of = |p: u32| (0..each).map(move |i| [X, A + p, Z + i * 2]);
         facts.extend((0..properties).flat_map(of));
         facts.extend((0..each).map(|i| [X, TYPE, CLASS + 4 + i]));
-        for way in [Way::Kept, Way::Rewritten] {
+        for way in Way::BOTH {
             let session = &mut Session::new(harness);
             lend(session, &statements, way, facts.clone())?;
             for object in [Z - 2, Z, Z + 1, Z + each - each % 2, Z + each * 2 - 2, Z + each * 2, CLASS, CLASS + 4] {
@@ -538,7 +599,7 @@ fn many_properties(harness: &mut Harness) -> Result<(), Failure> {
     for n in [1, 2, 3, 30, 31, 150] {
         let mut facts: Vec<Triple> = (0..n).flat_map(|i| [[X, A, Z + i], [X, P + i, Z + i * 2]]).collect();
         facts.extend([[X, P, CLASS], [X, P + 1, CLASS + 3], [X, TYPE, CLASS + 4], [X, C, X], [X + 1, A, Z]]);
-        for way in [Way::Kept, Way::Rewritten] {
+        for way in Way::BOTH {
             let session = &mut Session::new(harness);
             lend(session, &statements, way, facts.clone())?;
             for object in [Z, Z + 1, Z + n * 2 - 2, Z + n * 2, X].into_iter().chain(CLASS..CLASS + 6) {

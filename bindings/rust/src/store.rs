@@ -199,7 +199,20 @@ where
     }
 
     /// Puts a question to the statements and the kept facts. The rows are written to the output,
-    /// and given: as many words each as the question has head variables.
+    /// and given: as many words each as the question has head variables. Subclasses and subproperties
+    /// match also where more than one step joins the two sides; domains and ranges match as explicit.
+    ///
+    /// ```
+    /// # let mut store = families::Store::empty(families::Capacities { statements: 8, facts: 8, kept: 8 });
+    /// store.add([16, 2, 17])?;
+    /// store.add([17, 2, 18])?;
+    /// // Which v0 lies under 18?
+    /// let question = [1, 1, 0xC000_0000, 2, 18, 0xC000_0000];
+    /// let mut output = [0; 8];
+    /// let rows: Vec<&[u32]> = store.ask_kept(&question, &mut output)?.collect();
+    /// assert_eq!(rows, [[16], [17]]);
+    /// # Ok::<(), families::Refusal>(())
+    /// ```
     pub fn ask_kept<'a>(
         &self,
         question: &[u32],
@@ -208,8 +221,8 @@ where
         self.ask(sys::families_ask_kept, &self.kept, question, output)
     }
 
-    /// Puts a question to the statements and the explicit facts, with all that follow from them.
-    /// The kept facts are not read.
+    /// Puts a question to the statements, which match as by the other way, and the explicit facts, with
+    /// all facts that follow from them. The kept facts are not read.
     pub fn ask_rewritten<'a>(
         &self,
         question: &[u32],

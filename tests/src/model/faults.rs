@@ -15,6 +15,18 @@ pub enum Fault {
     SkipStatements,
     /// Order 2 is POS: the columns rotated.
     OrderRotated,
+    /// A class or property with a step is joined to itself: zero or more steps.
+    ReflexivePairs,
+    /// A loop joins no class to itself.
+    LoopsLost,
+    /// Steps of subclass and of subproperty are joined.
+    StepsMixed,
+    /// A domain or a range is inherited by the classes above.
+    ClassInherited,
+    /// The rewritten way matches explicit statements alone.
+    ClosedKept,
+    /// A variable property that another atom has bound matches explicit statements alone.
+    BoundExplicit,
     /// A character below U+0080 may stand in two bytes.
     OverlongForm,
     /// An escape may give a surrogate.
@@ -88,14 +100,21 @@ pub enum Fault {
 }
 
 impl Fault {
-    /// Those that document 01 lists as the usual mistakes, and one of listings.
-    pub const STORE: [Fault; 6] = [
+    /// Those that document 01 lists as the usual mistakes, one of listings, and those of closed
+    /// statements.
+    pub const STORE: [Fault; 12] = [
         Fault::CountPaths,
         Fault::TypeLiterals,
         Fault::DropExplicit,
         Fault::LimitDepth,
         Fault::SkipStatements,
         Fault::OrderRotated,
+        Fault::ReflexivePairs,
+        Fault::LoopsLost,
+        Fault::StepsMixed,
+        Fault::ClassInherited,
+        Fault::ClosedKept,
+        Fault::BoundExplicit,
     ];
 
     /// Those of reading N-Triples.
@@ -150,6 +169,12 @@ impl Fault {
             Fault::LimitDepth => "limit-depth",
             Fault::SkipStatements => "skip-statements",
             Fault::OrderRotated => "order-rotated",
+            Fault::ReflexivePairs => "reflexive-pairs",
+            Fault::LoopsLost => "loops-lost",
+            Fault::StepsMixed => "steps-mixed",
+            Fault::ClassInherited => "class-inherited",
+            Fault::ClosedKept => "closed-kept",
+            Fault::BoundExplicit => "bound-explicit",
             Fault::OverlongForm => "overlong-form",
             Fault::SurrogateEscape => "surrogate-escape",
             Fault::BarredEscape => "barred-escape",

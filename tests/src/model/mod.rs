@@ -1,10 +1,11 @@
-//! An independent model of the store, written from document 01 alone, and of the reading and writing of
-//! N-Triples, written from W3C's grammar and document 02.
+//! An independent model of the store, written from documents 01 and 02 alone, and of the reading and
+//! writing of N-Triples, written from W3C's grammar and document 02.
 //!
 //! Quoted sentences are those of the documents. The model is naive on purpose: sets, fixpoints and joins
 //! over everything, so that it shares no algorithm with the library.
 
 pub mod alternatives;
+mod closure;
 pub mod deliveries;
 pub mod dictionary;
 mod faults;

@@ -1,4 +1,4 @@
-//! What follows: the four rules, to a fixpoint.
+//! Which facts follow: the four rules of document 01, to a fixpoint.
 
 use super::terms::*;
 use super::{Fault, Model};
