@@ -52,7 +52,8 @@ uint32_t families_deliver(uint32_t *statements, size_t statements_len, uint32_t 
                           const uint8_t *bytes, size_t bytes_len, uint32_t result[4]);
 
 /* A question (document 01, "Questions and their rewriting"), put to statements and kept facts or to statements and explicit facts:
- * 0, or the refusing number; *count: the rows written, 0 when refused. A question uses some 0.77 MB of stack. */
+ * 0, or the refusing number; *count: the rows written, 0 when refused. Atoms with property 2, 3 or a variable also match a pair of classes,
+ * or of properties, that one or more explicit steps join (document 02, slip 4). A question uses some 0.8 MB of stack. */
 uint32_t families_ask_kept(const uint32_t *statements, size_t statements_len, const uint32_t *kept, size_t kept_len,
                            const uint32_t *question, size_t question_len, uint32_t *rows, size_t rows_len, uint64_t *count);
 uint32_t families_ask_rewritten(const uint32_t *statements, size_t statements_len, const uint32_t *facts, size_t facts_len,
