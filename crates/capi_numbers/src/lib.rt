@@ -1,16 +1,16 @@
 // Answers, deliveries' results and replies as the numbers that the exported library gives (include/families.h).
 ghost use Rattle.std.specs.Prelude.{◌≡◌};
-ghost use Rattle.spec.specs.Outputs.{replyNumber, replyCount};
-ghost use Rattle.spec.specs.Updates.{answerNumber};
-ghost use Rattle.spec.specs.Exported.{resultWords};
-ghost use Rattle.spec_ntriples.specs.Exported.{byteReplyNumber, byteReplyLength};
+ghost use Rattle.spec.specs.Outputs.{reply_number, reply_count};
+ghost use Rattle.spec.specs.Updates.{answer_number};
+ghost use Rattle.spec.specs.Exported.{result_words};
+ghost use Rattle.spec_ntriples.specs.Exported.{byte_reply_number, byte_reply_length};
 
 use spec::{Answer, Delivered, Reply};
 use spec_ntriples::ByteReply;
 
 // The number of an answer.
 pub fn answer_number(answer: Answer) -> u32
-    ensures { result ≡ answerNumber answer }
+    ensures { result ≡ answer_number answer }
 {
     match answer {
         Answer::Applied => 0,
@@ -21,7 +21,7 @@ pub fn answer_number(answer: Answer) -> u32
 
 // Writes what a delivery gave: its number and tallies. Returns 0 or the number that refused it.
 pub fn write_result(delivered: Delivered, res: &mut [u32; 4]) -> u32
-    ensures { (result ≡ delivered.refusal) × (res.new ≡ resultWords delivered) }
+    ensures { (result ≡ delivered.refusal) × (res.new ≡ result_words delivered) }
 {
     *res = [
         delivered.number,
@@ -34,7 +34,7 @@ pub fn write_result(delivered: Delivered, res: &mut [u32; 4]) -> u32
 
 // The number of a reply, with its row count written to count, and 0 there where it is a refusal.
 pub fn reply_number(reply: Reply, count: &mut u64) -> u32
-    ensures { (result ≡ replyNumber reply) × (count.new ≡ replyCount reply) }
+    ensures { (result ≡ reply_number reply) × (count.new ≡ reply_count reply) }
 {
     match reply {
         Reply::Rows(n) => {
@@ -50,7 +50,7 @@ pub fn reply_number(reply: Reply, count: &mut u64) -> u32
 
 // The number of a reply with bytes, with its length written to length, and 0 there where it is a refusal.
 pub fn byte_reply_number(reply: ByteReply, length: &mut u64) -> u32
-    ensures { (result ≡ byteReplyNumber reply) × (length.new ≡ byteReplyLength reply) }
+    ensures { (result ≡ byte_reply_number reply) × (length.new ≡ byte_reply_length reply) }
 {
     match reply {
         ByteReply::Length(n) => {

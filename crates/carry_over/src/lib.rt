@@ -1,7 +1,7 @@
 // A store of document 01's form carried over into lent tables of the new form (document 02, slip 5).
 ghost use Rattle.std.specs.Prelude.{◌≡◌, length};
 ghost use Rattle.spec.specs.Tables.{tables};
-ghost use Rattle.old_store.specs.CarryingOver.{lengths, zeroTables, carriedTables, carried, carryOver};
+ghost use Rattle.old_store.specs.CarryingOver.{lengths, zero_tables, carried_tables, carried, carry_over};
 ghost use Rattle.old_store.specs.CarryingPromises.{CarryingAccepted};
 
 use old_store::{Lengths, refusal};
@@ -10,7 +10,7 @@ use table_copy::{copy_supports, copy_table};
 
 // Sets all words of four tables to zero.
 fn clear_tables(statements: &mut [u32], facts: &mut [u32], kept: &mut [u32], supports: &mut [u32])
-    ensures { tables statements.new facts.new kept.new supports.new ≡ zeroTables (lengths (length statements.old) (length facts.old) (length kept.old) (length supports.old)) }
+    ensures { tables statements.new facts.new kept.new supports.new ≡ zero_tables (lengths (length statements.old) (length facts.old) (length kept.old) (length supports.old)) }
 {
     clear(statements);
     clear(facts);
@@ -30,7 +30,7 @@ fn copy_tables(
     supports: &mut [u32],
 )
     requires { CarryingAccepted (tables s.now f.now k.now u.now) (lengths (length statements.old) (length facts.old) (length kept.old) (length supports.old)) }
-    ensures { tables statements.new facts.new kept.new supports.new ≡ carriedTables (tables s.now f.now k.now u.now) (lengths (length statements.old) (length facts.old) (length kept.old) (length supports.old)) }
+    ensures { tables statements.new facts.new kept.new supports.new ≡ carried_tables (tables s.now f.now k.now u.now) (lengths (length statements.old) (length facts.old) (length kept.old) (length supports.old)) }
 {
     copy_table(s, statements);
     copy_table(f, facts);
@@ -50,7 +50,7 @@ pub fn carry_over(
     kept: &mut [u32],
     supports: &mut [u32],
 ) -> u32
-    ensures { carried result (tables statements.new facts.new kept.new supports.new) ≡ carryOver (tables s.now f.now k.now u.now) (lengths (length statements.old) (length facts.old) (length kept.old) (length supports.old)) }
+    ensures { carried result (tables statements.new facts.new kept.new supports.new) ≡ carry_over (tables s.now f.now k.now u.now) (lengths (length statements.old) (length facts.old) (length kept.old) (length supports.old)) }
 {
     let new = Lengths {
         statements: statements.len(),

@@ -1,6 +1,6 @@
 // The words of a closure before its bits written: the counts and the terms of the columns.
 ghost use Rattle.std.specs.Prelude.{◌≡◌, ℕ, ◌^◌, ◌≤◌, ◌<◌, length, get_or};
-ghost use Rattle.closure_words.specs.inside.Layout.{classesOf, columnsOf, bit_at};
+ghost use Rattle.closure_words.specs.inside.Layout.{classes_of, columns_of, bit_at};
 ghost use Rattle.closure_columns.specs.inside.Headed.{Headed};
 
 use closure_words::{BITS, TERMS};
@@ -8,7 +8,7 @@ use closure_words::{BITS, TERMS};
 // Writes how many columns are classes, and how many there are.
 fn write_counts(nc: usize, ns: usize, closure: &mut [u32])
     requires { (length closure.old ≡ 8706) × (nc ≤ 512) × (ns ≤ 512) }
-    ensures closure_after { (classesOf closure.new ≡ nc) × (columnsOf closure.new ≡ ns) }
+    ensures closure_after { (classes_of closure.new ≡ nc) × (columns_of closure.new ≡ ns) }
     ensures by_index { (i c : ℕ) → bit_at closure.new i c ≡ bit_at closure.old i c }
 {
     closure[0] = nc as u32;

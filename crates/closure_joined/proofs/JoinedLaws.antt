@@ -9,10 +9,10 @@ use lib.ListN.{length, get_or, set}
 use lib.Seq.{get_or-set_same, get_or-set_other}
 use Rattle.query_keys.specs.inside.Bits.{bit_of}
 use Rattle.query_keys.proofs.BitLaws.{zero_bit}
-use Rattle.closure_words.specs.inside.Layout.{termAt, bit_at, firstColumn, endColumn, Shaped}
+use Rattle.closure_words.specs.inside.Layout.{term_at, bit_at, first_column, end_column, Shaped}
 use Rattle.closure_words.specs.inside.Closure.{IsStated, IsClosure}
 use Rattle.closure_joined.specs.inside.Joined.{Among, Rising, NextColumn, AllJoined}
-use Rattle.closure_words.proofs.Lookup.{leads-of, bit-of}
+use Rattle.closure_words.proofs.Lookup.{leads_of, bit_of_lem}
 
 -- The word of the column has no bit,
 pub next_word : (ws : List ℕ) (i c : ℕ) → c < 512 → get_or ws (514 + i * 16 + c / 32) 0 ≡ 0 → NextColumn ws i c ((c / 32 + 1) * 32)
@@ -37,21 +37,21 @@ pub record Source (ws : List ℕ) (i first last c x : ℕ) : Type 0 where
   pub within : column < last
   pub below : column < c
   pub joined : bit_at ws i column ≡ 1
-  pub term : termAt ws column ≡ x
+  pub term : term_at ws column ≡ x
 
 -- The first n words of out are the terms of the columns from first to before last whose bits are 1, as far as c.
 pub record Gathering (ws : List ℕ) (i first last c : ℕ) (out : List ℕ) (n : ℕ) : Type 0 where
   pub few : first + n ≤ c
   pub sources : (a : ℕ) → a < n → Source ws i first last c (get_or out a 0)
-  pub all : (d : ℕ) → first ≤ d → d < c → bit_at ws i d ≡ 1 → Among out n (termAt ws d)
+  pub all : (d : ℕ) → first ≤ d → d < c → bit_at ws i d ≡ 1 → Among out n (term_at ws d)
   pub rising : Rising out n
 
-pub gathering-start : (ws : List ℕ) (i first last c : ℕ) (out : List ℕ) → c ≡ first → Gathering ws i first last c out 0
-gathering-start ws i first last c out e = record { few = omega arith; sources = λ a l. absurd (omega arith); all = λ d f l. absurd (omega arith); rising = λ a b l h. absurd (omega arith) }
+pub gathering_start : (ws : List ℕ) (i first last c : ℕ) (out : List ℕ) → c ≡ first → Gathering ws i first last c out 0
+gathering_start ws i first last c out e = record { few = omega arith; sources = λ a l. absurd (omega arith); all = λ d f l. absurd (omega arith); rising = λ a b l h. absurd (omega arith) }
 
-module _ (ws : List ℕ) (i k c r : ℕ) (out : List ℕ) (n : ℕ) (g : Gathering ws i (firstColumn ws k) (endColumn ws k) c out n) (x : NextColumn ws i c r) where
+module _ (ws : List ℕ) (i k c r : ℕ) (out : List ℕ) (n : ℕ) (g : Gathering ws i (first_column ws k) (end_column ws k) c out n) (x : NextColumn ws i c r) where
   -- A source is one of more columns too.
-  later : (y : ℕ) → Source ws i (firstColumn ws k) (endColumn ws k) c y → Source ws i (firstColumn ws k) (endColumn ws k) r y
+  later : (y : ℕ) → Source ws i (first_column ws k) (end_column ws k) c y → Source ws i (first_column ws k) (end_column ws k) r y
   later y s = record { column = s.column; from = s.from; within = s.within; below = omega (arith, s.below, x.above); joined = s.joined; term = s.term }
 
   -- A column before the next with a bit is the column itself or before it.
@@ -59,8 +59,8 @@ module _ (ws : List ℕ) (i k c r : ℕ) (out : List ℕ) (n : ℕ) (g : Gatheri
   before-next d l q m = by_cases (dec_lt d c) (λ h. h) (λ h. absurd (x.none d (omega arith) l q))
 
   -- The bit of the column is not 1,
-  pub gathering-past : ¬ (bit_at ws i c ≡ 1) → Gathering ws i (firstColumn ws k) (endColumn ws k) r out n
-  gathering-past z =
+  pub gathering_past : ¬ (bit_at ws i c ≡ 1) → Gathering ws i (first_column ws k) (end_column ws k) r out n
+  gathering_past z =
       record {
         few = omega (arith, g.few, x.above);
         sources = λ a l. later (get_or out a 0) (g.sources a l);
@@ -69,8 +69,8 @@ module _ (ws : List ℕ) (i k c r : ℕ) (out : List ℕ) (n : ℕ) (g : Gatheri
       }
 
   -- or it is.
-  pub gathering-more : Shaped ws → c < endColumn ws k → n < length out → bit_at ws i c ≡ 1 → Gathering ws i (firstColumn ws k) (endColumn ws k) r (set out n (termAt ws c)) (n + 1)
-  gathering-more s l o q =
+  pub gathering_more : Shaped ws → c < end_column ws k → n < length out → bit_at ws i c ≡ 1 → Gathering ws i (first_column ws k) (end_column ws k) r (set out n (term_at ws c)) (n + 1)
+  gathering_more s l o q =
       record {
         few = omega (arith, g.few, x.above);
         sources = λ a h. by_cases (ℕ_discrete a n)
@@ -84,26 +84,26 @@ module _ (ws : List ℕ) (i k c r : ℕ) (out : List ℕ) (n : ℕ) (g : Gatheri
             (λ m. omega (arith, other a (λ u. omega arith), other b m, g.rising a b h (omega arith)));
       }
     where
-      same : get_or (set out n (termAt ws c)) n 0 ≡ termAt ws c
-      same = get_or-set_same out n (termAt ws c) 0 o
+      same : get_or (set out n (term_at ws c)) n 0 ≡ term_at ws c
+      same = get_or-set_same out n (term_at ws c) 0 o
 
-      at : (a : ℕ) → a ≡ n → get_or (set out n (termAt ws c)) a 0 ≡ termAt ws c
+      at : (a : ℕ) → a ≡ n → get_or (set out n (term_at ws c)) a 0 ≡ term_at ws c
       at a e = rw e same
 
-      other : (a : ℕ) → ¬ (a ≡ n) → get_or (set out n (termAt ws c)) a 0 ≡ get_or out a 0
-      other a m = get_or-set_other out n a (termAt ws c) 0 m
+      other : (a : ℕ) → ¬ (a ≡ n) → get_or (set out n (term_at ws c)) a 0 ≡ get_or out a 0
+      other a m = get_or-set_other out n a (term_at ws c) 0 m
 
 -- All columns of the property were gone through.
-pub gathered : (st ws : List ℕ) (i k c : ℕ) (out : List ℕ) (n : ℕ) → IsClosure st ws → IsStated st i k → Gathering ws i (firstColumn ws k) (endColumn ws k) c out n → endColumn ws k ≤ c → c ≤ 512 → AllJoined st i out n
+pub gathered : (st ws : List ℕ) (i k c : ℕ) (out : List ℕ) (n : ℕ) → IsClosure st ws → IsStated st i k → Gathering ws i (first_column ws k) (end_column ws k) c out n → end_column ws k ≤ c → c ≤ 512 → AllJoined st i out n
 gathered st ws i k c out n h s g e l =
     record {
       few = omega (arith, g.few);
       rising = g.rising;
       exactly = λ b. (
-        λ a. let o = g.sources a.place a.below in leads-of st ws i k h s o.column b o.within (o.term ∙ a.is) o.joined,
+        λ a. let o = g.sources a.place a.below in leads_of st ws i k h s o.column b o.within (o.term ∙ a.is) o.joined,
         λ p.
             let o = h.all i k b s p in
-            let a = g.all o.column o.of-property.from (omega (arith, o.of-property.below)) (bit-of st ws i k h s o.column b o.of-property o.term p) in
+            let a = g.all o.column o.of_property.from (omega (arith, o.of_property.below)) (bit_of_lem st ws i k h s o.column b o.of_property o.term p) in
             record { place = a.place; below = a.below; is = a.is ∙ o.term },
       );
     }

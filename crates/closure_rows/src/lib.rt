@@ -2,7 +2,7 @@
 ghost use Rattle.std.specs.Prelude.{◌≡◌, ◌≤◌, ◌<◌, length};
 ghost use Rattle.saturate_schema.specs.inside.Squares.{Joined, Gained};
 ghost use Rattle.closure_words.specs.inside.Layout.{bit_at};
-ghost use Rattle.closure_rows.specs.inside.Rows.{rowBit, AloneIn, GainedIn};
+ghost use Rattle.closure_rows.specs.inside.Rows.{row_bit, AloneIn, GainedIn};
 
 use closure_words::{BITS, ROW};
 
@@ -28,7 +28,7 @@ fn gain_word(closure: &[u32], go: usize, m: usize, so: usize, w: usize) -> u32
 // What a row that leads to a statement gains: its end, column so, and what row go of that end has, if it is one of m rows.
 pub fn gains(closure: &[u32], go: usize, m: usize, so: usize, gain: &mut [u32])
     requires { (length closure.now ≡ 8706) × (m ≤ 512) × (length gain.old ≡ 16) }
-    ensures { Gained (bit_at closure.now) (rowBit gain.new) go m so 512 }
+    ensures { Gained (bit_at closure.now) (row_bit gain.new) go m so 512 }
 {
     let mut w = 0;
     while w < ROW {
@@ -40,7 +40,7 @@ pub fn gains(closure: &[u32], go: usize, m: usize, so: usize, gain: &mut [u32])
 // Row a gets what gain has. No branch, so that many words are done at once.
 pub fn unite(closure: &mut [u32], a: usize, gain: &[u32])
     requires { (length closure.old ≡ 8706) × (a < 512) × (length gain.now ≡ 16) }
-    ensures { Joined (bit_at closure.old) (bit_at closure.new) (rowBit gain.now) a 512 }
+    ensures { Joined (bit_at closure.old) (bit_at closure.new) (row_bit gain.now) a 512 }
 {
     let mut w = 0;
     while w < ROW {

@@ -1,5 +1,5 @@
 // The column of a term, looked up in words that hold the closed pairs.
-ghost use Rattle.closure_words.specs.inside.Layout.{firstColumn, endColumn, Shaped};
+ghost use Rattle.closure_words.specs.inside.Layout.{first_column, end_column, Shaped};
 ghost use Rattle.closure_search.specs.inside.Search.{Placed, ColumnFor};
 
 use closure_words::{TERMS, end_column, first_column};
@@ -10,7 +10,7 @@ pub const NO_COLUMN: usize = 512;
 // The first column of a property whose term is not below x; where they end, if there is none. A binary search.
 fn column_of(closure: &[u32], property: u32, x: u32) -> usize
     requires { Shaped closure.now }
-    ensures { Placed closure.now (firstColumn closure.now property) (endColumn closure.now property) x result }
+    ensures { Placed closure.now (first_column closure.now property) (end_column closure.now property) x result }
 {
     let mut lo = first_column(closure, property);
     let mut hi = end_column(closure, property);

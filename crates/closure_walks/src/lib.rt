@@ -5,7 +5,7 @@ ghost use Rattle.table.specs.inside.Bounds.{Tells};
 ghost use Rattle.saturate_schema.specs.inside.Nodes.{edges, Columns};
 ghost use Rattle.saturate_schema.specs.inside.Squares.{Leads, Extended, Closed};
 ghost use Rattle.closure_words.specs.inside.Layout.{bit_at};
-ghost use Rattle.closure_rows.specs.inside.Rows.{rowBit};
+ghost use Rattle.closure_rows.specs.inside.Rows.{row_bit};
 
 use closure_rows::{gains, unite};
 use closure_words::{ROW, is_set};
@@ -46,7 +46,7 @@ fn close_statement(
     ns: usize,
 )
     requires { (m * 3 < length statements.now) × (length closure.old ≡ 8706) × (m ≤ 512) × (ns ≤ 512) × (length gain.now ≡ 16) }
-    ensures { Extended statements.now m (bit_at closure.old) (bit_at closure.new) (rowBit gain.now) s ss ns }
+    ensures { Extended statements.now m (bit_at closure.old) (bit_at closure.new) (row_bit gain.now) s ss ns }
 {
     let mut i = 0;
     while i < m {

@@ -2,7 +2,7 @@
 // classes, how many there are, the terms of the columns, and for each statement a bit for each column.
 ghost use Rattle.std.specs.Prelude.{◌≡◌, ◌<◌, length};
 ghost use Rattle.table.specs.inside.Bounds.{Tells};
-ghost use Rattle.closure_words.specs.inside.Layout.{bit_at, firstColumn, endColumn, Shaped};
+ghost use Rattle.closure_words.specs.inside.Layout.{bit_at, first_column, end_column, Shaped};
 
 use terms::Term;
 
@@ -29,7 +29,7 @@ pub fn is_set(closure: &[u32], i: usize, c: usize) -> bool
 // Where the columns of a property begin: of 2, the classes; of 3, the properties.
 pub fn first_column(closure: &[u32], property: u32) -> usize
     requires { Shaped closure.now }
-    ensures { result ≡ firstColumn closure.now property }
+    ensures { result ≡ first_column closure.now property }
 {
     if property == Term::SUB_CLASS_OF {
         0
@@ -41,7 +41,7 @@ pub fn first_column(closure: &[u32], property: u32) -> usize
 // Where they end.
 pub fn end_column(closure: &[u32], property: u32) -> usize
     requires { Shaped closure.now }
-    ensures { result ≡ endColumn closure.now property }
+    ensures { result ≡ end_column closure.now property }
 {
     if property == Term::SUB_CLASS_OF {
         closure[0] as usize

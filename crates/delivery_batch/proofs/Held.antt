@@ -7,69 +7,69 @@ use native.Mathlib.Omega.{arith}
 use lib.ListN.{length}
 use borrow.Author.Tests.{le-leb}
 use Rattle.spec.specs.declared.Triple.{Triple}
-use Rattle.spec.specs.Terms.{isTriple, isStatement}
-use Rattle.spec.specs.Refusals.{firstRefusal, tripleChecks}
-use Rattle.spec.specs.Tables.{capacity, Tables, tables, areFormed, Capacities, capacitiesOf, Contents, contentsOf, put}
+use Rattle.spec.specs.Terms.{is_triple, is_statement}
+use Rattle.spec.specs.Refusals.{first_refusal, triple_checks}
+use Rattle.spec.specs.Tables.{capacity, Tables, tables, are_formed, Capacities, capacities_of, Contents, contents_of, put}
 use Rattle.spec.specs.declared.Answer.TheVariants.{Applied, Idle, Refused}
 use Rattle.spec.specs.declared.Change.{Change}
-use Rattle.spec.specs.Updates.{isChange, isAdmitted, contentsAfter, isKeptFitting, update}
+use Rattle.spec.specs.Updates.{is_change, is_admitted, contents_after, is_kept_fitting, update}
 use Rattle.spec.specs.inside.Pairs.{outcome}
 use Rattle.spec.specs.inside.Laid.{FormedStore}
-use Rattle.spec.proofs.Outcomes.{Passes, update-no-triple, update-idle, update-applied}
-use Rattle.table.proofs.Store.{isStore-formed}
-use Rattle.update_kept.proofs.Formed.{keptRows-keptOf}
-use Rattle.store.proofs.Fitting.{contentsOf-put, Fitting, Worded, SameLengths, put-formed, put-lengths, supports-are}
+use Rattle.spec.proofs.Outcomes.{Passes, update_no_triple, update_idle, update-applied}
+use Rattle.table.proofs.Store.{is_store_formed}
+use Rattle.update_kept.proofs.Formed.{kept_rows_kept_of}
+use Rattle.store.proofs.Fitting.{contents_of-put, Fitting, Worded, SameLengths, put_formed, put-lengths, supports_are}
 
 -- ---- contents put into tables
 
 -- What well-formed tables hold, put into them again, is there.
-formed-put : {S F K U : List ℕ} → FormedStore S F K U → put (contentsOf (tables S F K U)) (tables S F K U) ≡ tables S F K U
-unfolding put contentsOf
+formed-put : {S F K U : List ℕ} → FormedStore S F K U → put (contents_of (tables S F K U)) (tables S F K U) ≡ tables S F K U
+unfolding put contents_of
 formed-put {S} {F} {K} {U} W =
-    rw (keptRows-keptOf W, supports-are W, ← W.statements.laid.is-layout, ← W.facts.laid.is-layout, ← W.kept.laid.is-layout, ← W.supports.is-layout) refl
+    rw (kept_rows_kept_of W, supports_are W, ← W.statements.laid.is_layout, ← W.facts.laid.is_layout, ← W.kept.laid.is_layout, ← W.supports.is_layout) refl
 
-pub put-held : (T : Tables) → areFormed T ≡ true → put (contentsOf T) T ≡ T
-put-held T e = formed-put (isStore-formed T.statements T.facts T.kept T.supports e)
+pub put_held : (T : Tables) → are_formed T ≡ true → put (contents_of T) T ≡ T
+put_held T e = formed-put (is_store_formed T.statements T.facts T.kept T.supports e)
 
 -- Tables of the same lengths hold the same,
 put_same : {T T' : Tables} → SameLengths T T' → (c : Contents) → put c T ≡ put c T'
 unfolding put
-put_same L c = rw (L.same-statements, L.same-facts, L.same_kept, L.same-supports) refl
+put_same L c = rw (L.same_statements, L.same_facts, L.same_kept, L.same_supports) refl
 
 -- and as much.
-capacities-same : {T T' : Tables} → SameLengths T T' → capacitiesOf T ≡ capacitiesOf T'
+capacities_same : {T T' : Tables} → SameLengths T T' → capacities_of T ≡ capacities_of T'
 unfolding capacity
-capacities-same L = rw (L.same-statements, L.same-facts, L.same_kept, L.same-supports) refl
+capacities_same L = rw (L.same_statements, L.same_facts, L.same_kept, L.same_supports) refl
 
-kept-fits : {T T' : Tables} → SameLengths T T' → (c : Contents) → length c.kept ≤ (capacitiesOf T').kept → isKeptFitting c T ≡ true
-unfolding isKeptFitting
-kept-fits {T} {T'} L c h = le-leb (length c.kept) (capacitiesOf T).kept (omega (arith, h, ap (λ (C : Capacities). C.kept) (capacities-same L)))
+kept_fits : {T T' : Tables} → SameLengths T T' → (c : Contents) → length c.kept ≤ (capacities_of T').kept → is_kept_fitting c T ≡ true
+unfolding is_kept_fitting
+kept_fits {T} {T'} L c h = le-leb (length c.kept) (capacities_of T).kept (omega (arith, h, ap (λ (C : Capacities). C.kept) (capacities_same L)))
 
 -- ---- updates
 
 -- 3 asks nothing of a fact.
-pub fact-passes : (t : Triple) → isTriple t ≡ true → isStatement t ≡ false → firstRefusal (tripleChecks t) ≡ 0
-unfolding firstRefusal
-fact-passes t e s = rw (e, s) refl
+pub fact_passes : (t : Triple) → is_triple t ≡ true → is_statement t ≡ false → first_refusal (triple_checks t) ≡ 0
+unfolding first_refusal
+fact_passes t e s = rw (e, s) refl
 
-module _ (d : Change) {c : Contents} {T : Tables} (X : Fitting c T) (H : Worded T) (t : Triple) (s : isStatement t ≡ false) where
+module _ (d : Change) {c : Contents} {T : Tables} (X : Fitting c T) (H : Worded T) (t : Triple) (s : is_statement t ≡ false) where
   -- What is no triple is refused.
-  pub held-refused : isTriple t ≡ false → update d (put c T) t ≡ outcome (Refused 2) (put c T)
-  held-refused e = update-no-triple d (put c T) t (put-formed X H) e
+  pub held_refused : is_triple t ≡ false → update d (put c T) t ≡ outcome (Refused 2) (put c T)
+  held_refused e = update_no_triple d (put c T) t (put_formed X H) e
 
-  held-passes : isTriple t ≡ true → Passes (put c T) t
-  held-passes e = record { formed = put-formed X H; is-triple = e; sides = rw s refl }
+  held_passes : is_triple t ≡ true → Passes (put c T) t
+  held_passes e = record { formed = put_formed X H; is_triple_lem = e; sides = rw s refl }
 
   -- What changes nothing is idle.
-  pub held-idle : isTriple t ≡ true → isChange d t c.explicit ≡ false → update d (put c T) t ≡ outcome Idle (put c T)
-  held-idle e b = update-idle d (held-passes e) (rw (contentsOf-put c T) b)
+  pub held_idle : is_triple t ≡ true → is_change d t c.explicit ≡ false → update d (put c T) t ≡ outcome Idle (put c T)
+  held_idle e b = update_idle d (held_passes e) (rw (contents_of-put c T) b)
 
   -- What changes something, is admitted and whose kept facts fit is applied.
-  pub held-applied : isTriple t ≡ true → isChange d t c.explicit ≡ true → isAdmitted (capacitiesOf T) d t c.explicit ≡ true → length (contentsAfter d t c).kept ≤ (capacitiesOf T).kept
-      → update d (put c T) t ≡ outcome Applied (put (contentsAfter d t c) T)
-  held-applied e b a f =
+  pub held_applied : is_triple t ≡ true → is_change d t c.explicit ≡ true → is_admitted (capacities_of T) d t c.explicit ≡ true → length (contents_after d t c).kept ≤ (capacities_of T).kept
+      → update d (put c T) t ≡ outcome Applied (put (contents_after d t c) T)
+  held_applied e b a f =
       let L : SameLengths (put c T) T = put-lengths X H in
-      let is : contentsOf (put c T) ≡ c = contentsOf-put c T in
-      let same : capacitiesOf (put c T) ≡ capacitiesOf T = capacities-same L in
-      update-applied d (held-passes e) (rw is b) (rw (is, same) a) (rw is (kept-fits L (contentsAfter d t c) f))
-      ∙ ap (outcome Applied) (rw is (put_same L (contentsAfter d t c)))
+      let is : contents_of (put c T) ≡ c = contents_of-put c T in
+      let same : capacities_of (put c T) ≡ capacities_of T = capacities_same L in
+      update-applied d (held_passes e) (rw is b) (rw (is, same) a) (rw is (kept_fits L (contents_after d t c) f))
+      ∙ ap (outcome Applied) (rw is (put_same L (contents_after d t c)))

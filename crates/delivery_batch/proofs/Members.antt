@@ -10,33 +10,33 @@ use lib.ListN.{length}
 use borrow.Author.Tests.{not-true}
 use Rattle.spec.specs.declared.Triple.{Triple}
 use Rattle.spec.specs.Lists.{select}
-use Rattle.spec.specs.Order.{isIn, insert, remove}
+use Rattle.spec.specs.Order.{is_in, insert, remove}
 use Rattle.spec.specs.computed.Carried.{ascend}
-use Rattle.spec.specs.inside.Comparison.{Ascending, equalTriples}
-use Rattle.spec.proofs.Lists.{true-not-false, by-test, select_in, select-out, select-length}
-use Rattle.spec.proofs.Tests.{isIn-iff, isIn-no, same-elim}
-use Rattle.spec.proofs.Ascending.{insert-asc, insert-old, insert-new, insert-cases, insert-length, remove-asc, remove-sub, remove-keeps, remove-gone, select-asc, ascend-asc, ascend-in, ascend-out, ascending-ext}
-use Rattle.update_raise.proofs.Missing.{insert-new-length}
-use Rattle.delivery_batch.specs.inside.Batches.{missing, present, insertAll, removeAll}
+use Rattle.spec.specs.inside.Comparison.{Ascending, equal_triples}
+use Rattle.spec.proofs.Lists.{true-not_false, by_test, select_in, select_out, select-length}
+use Rattle.spec.proofs.Tests.{is_in_iff, is_in_no, same_elim}
+use Rattle.spec.proofs.Ascending.{insert_asc, insert_old, insert_new, insert_cases, insert-length, remove_asc, remove_sub, remove_keeps, remove_gone, select_asc, ascend_asc, ascend_in, ascend_out, ascending_ext}
+use Rattle.update_raise.proofs.Missing.{insert_new-length}
+use Rattle.delivery_batch.specs.inside.Batches.{missing, present, insert_all, remove_all}
 
 -- ---- one row
 
 -- What is there already is not put in again.
-pub insert-known : (t : Triple) (F : List Triple) → Ascending F → Memᴰ t F → insert t F ≡ F
-insert-known t F a m =
-    ascending-ext (insert t F) F (insert-asc t F a) a (λ u. (λ i. ⊎_elim (λ (e : u ≡ t). Memᴰ.cast e m) (λ j. j) (insert-cases t F i), insert-old t F))
+pub insert_known : (t : Triple) (F : List Triple) → Ascending F → Memᴰ t F → insert t F ≡ F
+insert_known t F a m =
+    ascending_ext (insert t F) F (insert_asc t F a) a (λ u. (λ i. ⊎_elim (λ (e : u ≡ t). Memᴰ.cast e m) (λ j. j) (insert_cases t F i), insert_old t F))
 
 -- What is there and goes leaves one row fewer.
-pub remove-length-in : (t : Triple) (F : List Triple) → Memᴰ t F → length F ≡ suc (length (remove t F))
+pub remove-length_in : (t : Triple) (F : List Triple) → Memᴰ t F → length F ≡ suc (length (remove t F))
 unfolding remove
-remove-length-in t [] m = absurd (Memᴰ.not-nil m)
-remove-length-in t (u ∷ F) m =
-    same-elim (λ (r : List Triple). suc (length F) ≡ suc (length r)) t u (λ _. refl)
-    (λ n. omega (arith, remove-length-in t F (⊎_elim (λ e. absurd (n e)) (λ j. j) (Memᴰ.cases_cons m))))
+remove-length_in t [] m = absurd (Memᴰ.not-nil m)
+remove-length_in t (u ∷ F) m =
+    same_elim (λ (r : List Triple). suc (length F) ≡ suc (length r)) t u (λ _. refl)
+    (λ n. omega (arith, remove-length_in t F (⊎_elim (λ e. absurd (n e)) (λ j. j) (Memᴰ.cases_cons m))))
 
 -- A set has a row or lacks it.
-pub member-or : (t : Triple) (F : List Triple) → Memᴰ t F ⊎ (¬ Memᴰ t F)
-member-or t F = by-test (isIn t F) (λ e. inl ((isIn-iff t F).0 e)) (λ e. inr (λ m. true-not-false (sym ((isIn-iff t F).1 m) ∙ e)))
+pub member_or : (t : Triple) (F : List Triple) → Memᴰ t F ⊎ (¬ Memᴰ t F)
+member_or t F = by_test (is_in t F) (λ e. inl ((is_in_iff t F).0 e)) (λ e. inr (λ m. true-not_false (sym ((is_in_iff t F).1 m) ∙ e)))
 
 -- ---- those that pass a test, ascending
 
@@ -48,257 +48,257 @@ ascend-length (t ∷ ts) = omega (arith, ascend-length ts, insert-length t (asce
 -- Whether rows are put in order before they are tested or after it is the same.
 pub select-ascend : (test : Triple → Bool) (ts : List Triple) → select test (ascend ts) ≡ ascend (select test ts)
 select-ascend test ts =
-    ascending-ext (select test (ascend ts)) (ascend (select test ts)) (select-asc test (ascend ts) (ascend-asc ts)) (ascend-asc (select test ts)) (λ u. (
-      λ m. let r = select-out test (ascend ts) m in ascend-in (select test ts) (select_in test ts (ascend-out ts r.0) r.1),
-      λ m. let r = select-out test ts (ascend-out (select test ts) m) in select_in test (ascend ts) (ascend-in ts r.0) r.1,
+    ascending_ext (select test (ascend ts)) (ascend (select test ts)) (select_asc test (ascend ts) (ascend_asc ts)) (ascend_asc (select test ts)) (λ u. (
+      λ m. let r = select_out test (ascend ts) m in ascend_in (select test ts) (select_in test ts (ascend_out ts r.0) r.1),
+      λ m. let r = select_out test ts (ascend_out (select test ts) m) in select_in test (ascend ts) (ascend_in ts r.0) r.1,
     ))
 
 -- ---- rows that a set lacks
 
-lacks : (t : Triple) (F : List Triple) → not (isIn t F) ≡ true → ¬ Memᴰ t F
-lacks t F e m = true-not-false (sym ((isIn-iff t F).1 m) ∙ not-true (isIn t F) e)
+lacks : (t : Triple) (F : List Triple) → not (is_in t F) ≡ true → ¬ Memᴰ t F
+lacks t F e m = true-not_false (sym ((is_in_iff t F).1 m) ∙ not-true (is_in t F) e)
 
-pub missing-asc : (F ts : List Triple) → Ascending (missing F ts)
+pub missing_asc : (F ts : List Triple) → Ascending (missing F ts)
 unfolding missing
-missing-asc F ts = ascend-asc _
+missing_asc F ts = ascend_asc _
 
-pub missing-iff : (F ts : List Triple) (u : Triple) → Memᴰ u (missing F ts) ↔ (Memᴰ u ts × (¬ Memᴰ u F))
+pub missing_iff : (F ts : List Triple) (u : Triple) → Memᴰ u (missing F ts) ↔ (Memᴰ u ts × (¬ Memᴰ u F))
 unfolding missing
-missing-iff F ts u = (
-  λ m. let r = select-out (λ t. not (isIn t F)) ts (ascend-out (select (λ t. not (isIn t F)) ts) m) in (r.0, lacks u F r.1),
-  λ h. ascend-in (select (λ t. not (isIn t F)) ts) (select_in (λ t. not (isIn t F)) ts h.0 (ap not (isIn-no u F h.1))),
+missing_iff F ts u = (
+  λ m. let r = select_out (λ t. not (is_in t F)) ts (ascend_out (select (λ t. not (is_in t F)) ts) m) in (r.0, lacks u F r.1),
+  λ h. ascend_in (select (λ t. not (is_in t F)) ts) (select_in (λ t. not (is_in t F)) ts h.0 (ap not (is_in_no u F h.1))),
 )
 
 -- They can be sought once the rows are in order.
-pub missing-sorted : (F ts : List Triple) → missing F ts ≡ select (λ t. not (isIn t F)) (ascend ts)
+pub missing_sorted : (F ts : List Triple) → missing F ts ≡ select (λ t. not (is_in t F)) (ascend ts)
 unfolding missing
-missing-sorted F ts = sym (select-ascend (λ t. not (isIn t F)) ts)
+missing_sorted F ts = sym (select-ascend (λ t. not (is_in t F)) ts)
 
 -- They are no more than the rows.
-pub missing-few : (F ts : List Triple) → length (missing F ts) ≤ length ts
+pub missing_few : (F ts : List Triple) → length (missing F ts) ≤ length ts
 unfolding missing
-missing-few F ts = omega (arith, ascend-length (select (λ t. not (isIn t F)) ts), select-length (λ t. not (isIn t F)) ts)
+missing_few F ts = omega (arith, ascend-length (select (λ t. not (is_in t F)) ts), select-length (λ t. not (is_in t F)) ts)
 
-pub missing-nil : (F : List Triple) → missing F [] ≡ []
+pub missing_nil : (F : List Triple) → missing F [] ≡ []
 unfolding missing ascend select
-missing-nil F = refl
+missing_nil F = refl
 
 -- A row that is there is not missing,
-pub missing-known : (F : List Triple) (t : Triple) (ts : List Triple) → Memᴰ t F → missing F (t ∷ ts) ≡ missing F ts
+pub missing_known : (F : List Triple) (t : Triple) (ts : List Triple) → Memᴰ t F → missing F (t ∷ ts) ≡ missing F ts
 unfolding missing select
-missing-known F t ts m = rw ((isIn-iff t F).1 m)
+missing_known F t ts m = rw ((is_in_iff t F).1 m)
 
 -- one that is not is,
-missing-lacked : (F : List Triple) (t : Triple) (ts : List Triple) → ¬ Memᴰ t F → missing F (t ∷ ts) ≡ insert t (missing F ts)
+missing_lacked : (F : List Triple) (t : Triple) (ts : List Triple) → ¬ Memᴰ t F → missing F (t ∷ ts) ≡ insert t (missing F ts)
 unfolding missing select ascend
-missing-lacked F t ts n = rw (isIn-no t F n)
+missing_lacked F t ts n = rw (is_in_no t F n)
 
 -- and no longer once it is put in: a repeated row is missing once.
-pub missing-new : (F : List Triple) (t : Triple) (ts : List Triple) → ¬ Memᴰ t F → missing F (t ∷ ts) ≡ insert t (missing (insert t F) ts)
-missing-new F t ts n =
-    ascending-ext (missing F (t ∷ ts)) (insert t (missing (insert t F) ts)) (missing-asc F (t ∷ ts)) (insert-asc t (missing (insert t F) ts) (missing-asc (insert t F) ts)) (λ u. (
-      λ m. let r = (missing-iff F (t ∷ ts) u).0 m in
-          by_cases (equalTriples u t)
-          (λ (e : u ≡ t). Memᴰ.cast e (insert-new t (missing (insert t F) ts)))
-          (λ d. insert-old t (missing (insert t F) ts) ((missing-iff (insert t F) ts u).1 (
+pub missing_new : (F : List Triple) (t : Triple) (ts : List Triple) → ¬ Memᴰ t F → missing F (t ∷ ts) ≡ insert t (missing (insert t F) ts)
+missing_new F t ts n =
+    ascending_ext (missing F (t ∷ ts)) (insert t (missing (insert t F) ts)) (missing_asc F (t ∷ ts)) (insert_asc t (missing (insert t F) ts) (missing_asc (insert t F) ts)) (λ u. (
+      λ m. let r = (missing_iff F (t ∷ ts) u).0 m in
+          by_cases (equal_triples u t)
+          (λ (e : u ≡ t). Memᴰ.cast e (insert_new t (missing (insert t F) ts)))
+          (λ d. insert_old t (missing (insert t F) ts) ((missing_iff (insert t F) ts u).1 (
             ⊎_elim (λ e. absurd (d e)) (λ j. j) (Memᴰ.cases_cons r.0),
-            λ i. ⊎_elim d r.1 (insert-cases t F i),
+            λ i. ⊎_elim d r.1 (insert_cases t F i),
           ))),
       λ m. ⊎_elim
-          (λ (e : u ≡ t). (missing-iff F (t ∷ ts) u).1 (Memᴰ.head e, λ i. n (Memᴰ.cast (sym e) i)))
-          (λ j. let r = (missing-iff (insert t F) ts u).0 j in (missing-iff F (t ∷ ts) u).1 (Memᴰ.tail r.0, λ i. r.1 (insert-old t F i)))
-          (insert-cases t (missing (insert t F) ts) m),
+          (λ (e : u ≡ t). (missing_iff F (t ∷ ts) u).1 (Memᴰ.head e, λ i. n (Memᴰ.cast (sym e) i)))
+          (λ j. let r = (missing_iff (insert t F) ts u).0 j in (missing_iff F (t ∷ ts) u).1 (Memᴰ.tail r.0, λ i. r.1 (insert_old t F i)))
+          (insert_cases t (missing (insert t F) ts) m),
     ))
 
-pub missing-gone : (F : List Triple) (t : Triple) (ts : List Triple) → ¬ Memᴰ t (missing (insert t F) ts)
-missing-gone F t ts m = ((missing-iff (insert t F) ts t).0 m).1 (insert-new t F)
+pub missing_gone : (F : List Triple) (t : Triple) (ts : List Triple) → ¬ Memᴰ t (missing (insert t F) ts)
+missing_gone F t ts m = ((missing_iff (insert t F) ts t).0 m).1 (insert_new t F)
 
 -- ---- rows put into a set
 
-pub insertAll-asc : (ts F : List Triple) → Ascending F → Ascending (insertAll ts F)
-unfolding insertAll
-insertAll-asc [] F a = a
-insertAll-asc (t ∷ ts) F a = insert-asc t (insertAll ts F) (insertAll-asc ts F a)
+pub insert_all_asc : (ts F : List Triple) → Ascending F → Ascending (insert_all ts F)
+unfolding insert_all
+insert_all_asc [] F a = a
+insert_all_asc (t ∷ ts) F a = insert_asc t (insert_all ts F) (insert_all_asc ts F a)
 
-pub insertAll-iff : (ts F : List Triple) (u : Triple) → Memᴰ u (insertAll ts F) ↔ (Memᴰ u ts ⊎ Memᴰ u F)
-unfolding insertAll
-insertAll-iff [] F u = (inr, λ h. ⊎_elim (λ m. absurd (Memᴰ.not-nil m)) (λ m. m) h)
-insertAll-iff (t ∷ ts) F u =
-    let r = insertAll-iff ts F u in (
-      λ m. ⊎_elim (λ e. inl (Memᴰ.head e)) (λ j. ⊎_elim (λ i. inl (Memᴰ.tail i)) inr (r.0 j)) (insert-cases t (insertAll ts F) m),
+pub insert_all_iff : (ts F : List Triple) (u : Triple) → Memᴰ u (insert_all ts F) ↔ (Memᴰ u ts ⊎ Memᴰ u F)
+unfolding insert_all
+insert_all_iff [] F u = (inr, λ h. ⊎_elim (λ m. absurd (Memᴰ.not-nil m)) (λ m. m) h)
+insert_all_iff (t ∷ ts) F u =
+    let r = insert_all_iff ts F u in (
+      λ m. ⊎_elim (λ e. inl (Memᴰ.head e)) (λ j. ⊎_elim (λ i. inl (Memᴰ.tail i)) inr (r.0 j)) (insert_cases t (insert_all ts F) m),
       λ h. ⊎_elim
-          (λ m. ⊎_elim (λ (e : u ≡ t). Memᴰ.cast e (insert-new t (insertAll ts F))) (λ j. insert-old t (insertAll ts F) (r.1 (inl j))) (Memᴰ.cases_cons m))
-          (λ m. insert-old t (insertAll ts F) (r.1 (inr m)))
+          (λ m. ⊎_elim (λ (e : u ≡ t). Memᴰ.cast e (insert_new t (insert_all ts F))) (λ j. insert_old t (insert_all ts F) (r.1 (inl j))) (Memᴰ.cases_cons m))
+          (λ m. insert_old t (insert_all ts F) (r.1 (inr m)))
           h,
     )
 
 -- Lists with the same members give the same set.
-pub insertAll-same : (ts us F : List Triple) → Ascending F → ((u : Triple) → Memᴰ u ts ↔ Memᴰ u us) → insertAll ts F ≡ insertAll us F
-insertAll-same ts us F a h =
-    ascending-ext (insertAll ts F) (insertAll us F) (insertAll-asc ts F a) (insertAll-asc us F a) (λ u. (
-      λ m. (insertAll-iff us F u).1 (⊎_elim (λ i. inl ((h u).0 i)) inr ((insertAll-iff ts F u).0 m)),
-      λ m. (insertAll-iff ts F u).1 (⊎_elim (λ i. inl ((h u).1 i)) inr ((insertAll-iff us F u).0 m)),
+pub insert_all_same : (ts us F : List Triple) → Ascending F → ((u : Triple) → Memᴰ u ts ↔ Memᴰ u us) → insert_all ts F ≡ insert_all us F
+insert_all_same ts us F a h =
+    ascending_ext (insert_all ts F) (insert_all us F) (insert_all_asc ts F a) (insert_all_asc us F a) (λ u. (
+      λ m. (insert_all_iff us F u).1 (⊎_elim (λ i. inl ((h u).0 i)) inr ((insert_all_iff ts F u).0 m)),
+      λ m. (insert_all_iff ts F u).1 (⊎_elim (λ i. inl ((h u).1 i)) inr ((insert_all_iff us F u).0 m)),
     ))
 
 -- The first row can be put in first.
-pub insertAll-insert : (t : Triple) (ts F : List Triple) → Ascending F → insertAll (insert t ts) F ≡ insertAll ts (insert t F)
-insertAll-insert t ts F a =
-    ascending-ext (insertAll (insert t ts) F) (insertAll ts (insert t F)) (insertAll-asc (insert t ts) F a) (insertAll-asc ts (insert t F) (insert-asc t F a)) (λ u. (
-      λ m. (insertAll-iff ts (insert t F) u).1 (⊎_elim
-          (λ i. ⊎_elim (λ (e : u ≡ t). inr (Memᴰ.cast e (insert-new t F))) inl (insert-cases t ts i))
-          (λ i. inr (insert-old t F i)) ((insertAll-iff (insert t ts) F u).0 m)),
-      λ m. (insertAll-iff (insert t ts) F u).1 (⊎_elim
-          (λ i. inl (insert-old t ts i))
-          (λ i. ⊎_elim (λ (e : u ≡ t). inl (Memᴰ.cast e (insert-new t ts))) inr (insert-cases t F i)) ((insertAll-iff ts (insert t F) u).0 m)),
+pub insert_all-insert : (t : Triple) (ts F : List Triple) → Ascending F → insert_all (insert t ts) F ≡ insert_all ts (insert t F)
+insert_all-insert t ts F a =
+    ascending_ext (insert_all (insert t ts) F) (insert_all ts (insert t F)) (insert_all_asc (insert t ts) F a) (insert_all_asc ts (insert t F) (insert_asc t F a)) (λ u. (
+      λ m. (insert_all_iff ts (insert t F) u).1 (⊎_elim
+          (λ i. ⊎_elim (λ (e : u ≡ t). inr (Memᴰ.cast e (insert_new t F))) inl (insert_cases t ts i))
+          (λ i. inr (insert_old t F i)) ((insert_all_iff (insert t ts) F u).0 m)),
+      λ m. (insert_all_iff (insert t ts) F u).1 (⊎_elim
+          (λ i. inl (insert_old t ts i))
+          (λ i. ⊎_elim (λ (e : u ≡ t). inl (Memᴰ.cast e (insert_new t ts))) inr (insert_cases t F i)) ((insert_all_iff ts (insert t F) u).0 m)),
     ))
 
 -- One that is there changes nothing,
-insertAll-known : (t : Triple) (ts F : List Triple) → Ascending F → Memᴰ t ts ⊎ Memᴰ t F → length (insert t (insertAll ts F)) ≡ length (insertAll ts F)
-insertAll-known t ts F a h = ap length (insert-known t (insertAll ts F) (insertAll-asc ts F a) ((insertAll-iff ts F t).1 h))
+insert_all_known : (t : Triple) (ts F : List Triple) → Ascending F → Memᴰ t ts ⊎ Memᴰ t F → length (insert t (insert_all ts F)) ≡ length (insert_all ts F)
+insert_all_known t ts F a h = ap length (insert_known t (insert_all ts F) (insert_all_asc ts F a) ((insert_all_iff ts F t).1 h))
 
 -- and one that is neither there nor among the others is one more.
-insertAll-new : (t : Triple) (ts F : List Triple) → ¬ Memᴰ t ts → ¬ Memᴰ t F → length (insert t (insertAll ts F)) ≡ suc (length (insertAll ts F))
-insertAll-new t ts F n o = insert-new-length t (insertAll ts F) (λ m. ⊎_elim n o ((insertAll-iff ts F t).0 m))
+insert_all_new : (t : Triple) (ts F : List Triple) → ¬ Memᴰ t ts → ¬ Memᴰ t F → length (insert t (insert_all ts F)) ≡ suc (length (insert_all ts F))
+insert_all_new t ts F n o = insert_new-length t (insert_all ts F) (λ m. ⊎_elim n o ((insert_all_iff ts F t).0 m))
 
 -- A set grows by the rows that it lacks, each once.
-pub insertAll-length : (ts F : List Triple) → Ascending F → length (insertAll ts F) ≡ length F + length (missing F ts)
-unfolding insertAll
-insertAll-length [] F a = rw (missing-nil F) (omega arith)
-insertAll-length (t ∷ ts) F a =
-    let h = insertAll-length ts F a in
+pub insert_all-length : (ts F : List Triple) → Ascending F → length (insert_all ts F) ≡ length F + length (missing F ts)
+unfolding insert_all
+insert_all-length [] F a = rw (missing_nil F) (omega arith)
+insert_all-length (t ∷ ts) F a =
+    let h = insert_all-length ts F a in
     ⊎_elim
-    (λ m. rw (missing-known F t ts m) (omega (arith, insertAll-known t ts F a (inr m))))
-    (λ n. rw (missing-lacked F t ts n) (⊎_elim
-    (λ m. rw (insert-known t (missing F ts) (missing-asc F ts) m) (omega (arith, insertAll-known t ts F a (inl ((missing-iff F ts t).0 m).0))))
-    (λ o. omega (arith, insert-new-length t (missing F ts) o, insertAll-new t ts F (λ m. o ((missing-iff F ts t).1 (m, n))) n))
-    (member-or t (missing F ts))))
-    (member-or t F)
+    (λ m. rw (missing_known F t ts m) (omega (arith, insert_all_known t ts F a (inr m))))
+    (λ n. rw (missing_lacked F t ts n) (⊎_elim
+    (λ m. rw (insert_known t (missing F ts) (missing_asc F ts) m) (omega (arith, insert_all_known t ts F a (inl ((missing_iff F ts t).0 m).0))))
+    (λ o. omega (arith, insert_new-length t (missing F ts) o, insert_all_new t ts F (λ m. o ((missing_iff F ts t).1 (m, n))) n))
+    (member_or t (missing F ts))))
+    (member_or t F)
 
 -- ---- rows that a set has
 
-pub present-asc : (F ts : List Triple) → Ascending (present F ts)
+pub present_asc : (F ts : List Triple) → Ascending (present F ts)
 unfolding present
-present-asc F ts = ascend-asc _
+present_asc F ts = ascend_asc _
 
-pub present-iff : (F ts : List Triple) (u : Triple) → Memᴰ u (present F ts) ↔ (Memᴰ u ts × Memᴰ u F)
+pub present_iff : (F ts : List Triple) (u : Triple) → Memᴰ u (present F ts) ↔ (Memᴰ u ts × Memᴰ u F)
 unfolding present
-present-iff F ts u = (
-  λ m. let r = select-out (λ t. isIn t F) ts (ascend-out (select (λ t. isIn t F) ts) m) in (r.0, (isIn-iff u F).0 r.1),
-  λ h. ascend-in (select (λ t. isIn t F) ts) (select_in (λ t. isIn t F) ts h.0 ((isIn-iff u F).1 h.1)),
+present_iff F ts u = (
+  λ m. let r = select_out (λ t. is_in t F) ts (ascend_out (select (λ t. is_in t F) ts) m) in (r.0, (is_in_iff u F).0 r.1),
+  λ h. ascend_in (select (λ t. is_in t F) ts) (select_in (λ t. is_in t F) ts h.0 ((is_in_iff u F).1 h.1)),
 )
 
 -- They can be sought once the rows are in order.
-pub present-sorted : (F ts : List Triple) → present F ts ≡ select (λ t. isIn t F) (ascend ts)
+pub present_sorted : (F ts : List Triple) → present F ts ≡ select (λ t. is_in t F) (ascend ts)
 unfolding present
-present-sorted F ts = sym (select-ascend (λ t. isIn t F) ts)
+present_sorted F ts = sym (select-ascend (λ t. is_in t F) ts)
 
 -- They are no more than the rows.
-pub present-few : (F ts : List Triple) → length (present F ts) ≤ length ts
+pub present_few : (F ts : List Triple) → length (present F ts) ≤ length ts
 unfolding present
-present-few F ts = omega (arith, ascend-length (select (λ t. isIn t F) ts), select-length (λ t. isIn t F) ts)
+present_few F ts = omega (arith, ascend-length (select (λ t. is_in t F) ts), select-length (λ t. is_in t F) ts)
 
-pub present-nil : (F : List Triple) → present F [] ≡ []
+pub present_nil : (F : List Triple) → present F [] ≡ []
 unfolding present ascend select
-present-nil F = refl
+present_nil F = refl
 
 -- The set has them all.
-present-again : (F ts : List Triple) → present F (present F ts) ≡ present F ts
-present-again F ts =
-    ascending-ext (present F (present F ts)) (present F ts) (present-asc F (present F ts)) (present-asc F ts) (λ u. (
-      λ m. ((present-iff F (present F ts) u).0 m).0,
-      λ m. (present-iff F (present F ts) u).1 (m, ((present-iff F ts u).0 m).1),
+present_again : (F ts : List Triple) → present F (present F ts) ≡ present F ts
+present_again F ts =
+    ascending_ext (present F (present F ts)) (present F ts) (present_asc F (present F ts)) (present_asc F ts) (λ u. (
+      λ m. ((present_iff F (present F ts) u).0 m).0,
+      λ m. (present_iff F (present F ts) u).1 (m, ((present_iff F ts u).0 m).1),
     ))
 
 -- A row that is not there is not present,
-pub present-lacked : (F : List Triple) (t : Triple) (ts : List Triple) → ¬ Memᴰ t F → present F (t ∷ ts) ≡ present F ts
+pub present_lacked : (F : List Triple) (t : Triple) (ts : List Triple) → ¬ Memᴰ t F → present F (t ∷ ts) ≡ present F ts
 unfolding present select
-present-lacked F t ts n = rw (isIn-no t F n)
+present_lacked F t ts n = rw (is_in_no t F n)
 
 -- one that is there is,
-present-known : (F : List Triple) (t : Triple) (ts : List Triple) → Memᴰ t F → present F (t ∷ ts) ≡ insert t (present F ts)
+present_known : (F : List Triple) (t : Triple) (ts : List Triple) → Memᴰ t F → present F (t ∷ ts) ≡ insert t (present F ts)
 unfolding present select ascend
-present-known F t ts m = rw ((isIn-iff t F).1 m)
+present_known F t ts m = rw ((is_in_iff t F).1 m)
 
 -- and no longer once it is taken out: a repeated row is present once.
-pub present-first : (F : List Triple) (t : Triple) (ts : List Triple) → Ascending F → Memᴰ t F → present F (t ∷ ts) ≡ insert t (present (remove t F) ts)
-present-first F t ts a m =
-    ascending-ext (present F (t ∷ ts)) (insert t (present (remove t F) ts)) (present-asc F (t ∷ ts)) (insert-asc t (present (remove t F) ts) (present-asc (remove t F) ts)) (λ u. (
-      λ i. let r = (present-iff F (t ∷ ts) u).0 i in
-          by_cases (equalTriples u t)
-          (λ (e : u ≡ t). Memᴰ.cast e (insert-new t (present (remove t F) ts)))
-          (λ d. insert-old t (present (remove t F) ts) ((present-iff (remove t F) ts u).1 (
+pub present_first : (F : List Triple) (t : Triple) (ts : List Triple) → Ascending F → Memᴰ t F → present F (t ∷ ts) ≡ insert t (present (remove t F) ts)
+present_first F t ts a m =
+    ascending_ext (present F (t ∷ ts)) (insert t (present (remove t F) ts)) (present_asc F (t ∷ ts)) (insert_asc t (present (remove t F) ts) (present_asc (remove t F) ts)) (λ u. (
+      λ i. let r = (present_iff F (t ∷ ts) u).0 i in
+          by_cases (equal_triples u t)
+          (λ (e : u ≡ t). Memᴰ.cast e (insert_new t (present (remove t F) ts)))
+          (λ d. insert_old t (present (remove t F) ts) ((present_iff (remove t F) ts u).1 (
             ⊎_elim (λ e. absurd (d e)) (λ j. j) (Memᴰ.cases_cons r.0),
-            remove-keeps t F d r.1,
+            remove_keeps t F d r.1,
           ))),
       λ i. ⊎_elim
-          (λ (e : u ≡ t). (present-iff F (t ∷ ts) u).1 (Memᴰ.head e, Memᴰ.cast e m))
-          (λ j. let r = (present-iff (remove t F) ts u).0 j in (present-iff F (t ∷ ts) u).1 (Memᴰ.tail r.0, remove-sub t F r.1))
-          (insert-cases t (present (remove t F) ts) i),
+          (λ (e : u ≡ t). (present_iff F (t ∷ ts) u).1 (Memᴰ.head e, Memᴰ.cast e m))
+          (λ j. let r = (present_iff (remove t F) ts u).0 j in (present_iff F (t ∷ ts) u).1 (Memᴰ.tail r.0, remove_sub t F r.1))
+          (insert_cases t (present (remove t F) ts) i),
     ))
 
-pub present-gone : (F : List Triple) (t : Triple) (ts : List Triple) → Ascending F → ¬ Memᴰ t (present (remove t F) ts)
-present-gone F t ts a m = remove-gone t F a ((present-iff (remove t F) ts t).0 m).1
+pub present_gone : (F : List Triple) (t : Triple) (ts : List Triple) → Ascending F → ¬ Memᴰ t (present (remove t F) ts)
+present_gone F t ts a m = remove_gone t F a ((present_iff (remove t F) ts t).0 m).1
 
 -- ---- rows taken out of a set
 
-pub removeAll-asc : (ts F : List Triple) → Ascending F → Ascending (removeAll ts F)
-unfolding removeAll
-removeAll-asc [] F a = a
-removeAll-asc (t ∷ ts) F a = remove-asc t (removeAll ts F) (removeAll-asc ts F a)
+pub remove_all_asc : (ts F : List Triple) → Ascending F → Ascending (remove_all ts F)
+unfolding remove_all
+remove_all_asc [] F a = a
+remove_all_asc (t ∷ ts) F a = remove_asc t (remove_all ts F) (remove_all_asc ts F a)
 
-pub removeAll-iff : (ts F : List Triple) → Ascending F → (u : Triple) → Memᴰ u (removeAll ts F) ↔ (Memᴰ u F × (¬ Memᴰ u ts))
-unfolding removeAll
-removeAll-iff [] F a u = (λ m. (m, Memᴰ.not-nil), λ h. h.0)
-removeAll-iff (t ∷ ts) F a u =
-    let r = removeAll-iff ts F a u in (
-      λ m. let i = r.0 (remove-sub t (removeAll ts F) m) in
-          (i.0, λ j. ⊎_elim (λ (e : u ≡ t). remove-gone t (removeAll ts F) (removeAll-asc ts F a) (Memᴰ.cast (sym e) m)) i.1 (Memᴰ.cases_cons j)),
-      λ h. remove-keeps t (removeAll ts F) (λ e. h.1 (Memᴰ.head e)) (r.1 (h.0, λ j. h.1 (Memᴰ.tail j))),
+pub remove_all_iff : (ts F : List Triple) → Ascending F → (u : Triple) → Memᴰ u (remove_all ts F) ↔ (Memᴰ u F × (¬ Memᴰ u ts))
+unfolding remove_all
+remove_all_iff [] F a u = (λ m. (m, Memᴰ.not-nil), λ h. h.0)
+remove_all_iff (t ∷ ts) F a u =
+    let r = remove_all_iff ts F a u in (
+      λ m. let i = r.0 (remove_sub t (remove_all ts F) m) in
+          (i.0, λ j. ⊎_elim (λ (e : u ≡ t). remove_gone t (remove_all ts F) (remove_all_asc ts F a) (Memᴰ.cast (sym e) m)) i.1 (Memᴰ.cases_cons j)),
+      λ h. remove_keeps t (remove_all ts F) (λ e. h.1 (Memᴰ.head e)) (r.1 (h.0, λ j. h.1 (Memᴰ.tail j))),
     )
 
 -- Lists with the same members leave the same set.
-pub removeAll-same : (ts us F : List Triple) → Ascending F → ((u : Triple) → Memᴰ u ts ↔ Memᴰ u us) → removeAll ts F ≡ removeAll us F
-removeAll-same ts us F a h =
-    ascending-ext (removeAll ts F) (removeAll us F) (removeAll-asc ts F a) (removeAll-asc us F a) (λ u. (
-      λ m. let r = (removeAll-iff ts F a u).0 m in (removeAll-iff us F a u).1 (r.0, λ j. r.1 ((h u).1 j)),
-      λ m. let r = (removeAll-iff us F a u).0 m in (removeAll-iff ts F a u).1 (r.0, λ j. r.1 ((h u).0 j)),
+pub remove_all_same : (ts us F : List Triple) → Ascending F → ((u : Triple) → Memᴰ u ts ↔ Memᴰ u us) → remove_all ts F ≡ remove_all us F
+remove_all_same ts us F a h =
+    ascending_ext (remove_all ts F) (remove_all us F) (remove_all_asc ts F a) (remove_all_asc us F a) (λ u. (
+      λ m. let r = (remove_all_iff ts F a u).0 m in (remove_all_iff us F a u).1 (r.0, λ j. r.1 ((h u).1 j)),
+      λ m. let r = (remove_all_iff us F a u).0 m in (remove_all_iff ts F a u).1 (r.0, λ j. r.1 ((h u).0 j)),
     ))
 
 -- The first row can be taken out first.
-pub removeAll-insert : (t : Triple) (ts F : List Triple) → Ascending F → removeAll (insert t ts) F ≡ removeAll ts (remove t F)
-removeAll-insert t ts F a =
-    ascending-ext (removeAll (insert t ts) F) (removeAll ts (remove t F)) (removeAll-asc (insert t ts) F a) (removeAll-asc ts (remove t F) (remove-asc t F a)) (λ u. (
-      λ m. let r = (removeAll-iff (insert t ts) F a u).0 m in
-          (removeAll-iff ts (remove t F) (remove-asc t F a) u).1 (remove-keeps t F (λ (e : u ≡ t). r.1 (Memᴰ.cast e (insert-new t ts))) r.0, λ j. r.1 (insert-old t ts j)),
-      λ m. let r = (removeAll-iff ts (remove t F) (remove-asc t F a) u).0 m in
-          (removeAll-iff (insert t ts) F a u).1 (remove-sub t F r.0, λ j. ⊎_elim (λ (e : u ≡ t). remove-gone t F a (Memᴰ.cast (sym e) r.0)) r.1 (insert-cases t ts j)),
+pub remove_all-insert : (t : Triple) (ts F : List Triple) → Ascending F → remove_all (insert t ts) F ≡ remove_all ts (remove t F)
+remove_all-insert t ts F a =
+    ascending_ext (remove_all (insert t ts) F) (remove_all ts (remove t F)) (remove_all_asc (insert t ts) F a) (remove_all_asc ts (remove t F) (remove_asc t F a)) (λ u. (
+      λ m. let r = (remove_all_iff (insert t ts) F a u).0 m in
+          (remove_all_iff ts (remove t F) (remove_asc t F a) u).1 (remove_keeps t F (λ (e : u ≡ t). r.1 (Memᴰ.cast e (insert_new t ts))) r.0, λ j. r.1 (insert_old t ts j)),
+      λ m. let r = (remove_all_iff ts (remove t F) (remove_asc t F a) u).0 m in
+          (remove_all_iff (insert t ts) F a u).1 (remove_sub t F r.0, λ j. ⊎_elim (λ (e : u ≡ t). remove_gone t F a (Memᴰ.cast (sym e) r.0)) r.1 (insert_cases t ts j)),
     ))
 
 -- One that is not there changes nothing,
-remove-lacked : (t : Triple) (F : List Triple) → Ascending F → ¬ Memᴰ t F → remove t F ≡ F
-remove-lacked t F a n =
-    ascending-ext (remove t F) F (remove-asc t F a) a (λ u. (remove-sub t F, λ m. remove-keeps t F (λ (e : u ≡ t). n (Memᴰ.cast (sym e) m)) m))
+remove_lacked : (t : Triple) (F : List Triple) → Ascending F → ¬ Memᴰ t F → remove t F ≡ F
+remove_lacked t F a n =
+    ascending_ext (remove t F) F (remove_asc t F a) a (λ u. (remove_sub t F, λ m. remove_keeps t F (λ (e : u ≡ t). n (Memᴰ.cast (sym e) m)) m))
 
-removeAll-lacked : (t : Triple) (ts F : List Triple) → Ascending F → ¬ Memᴰ t (removeAll ts F) → length (remove t (removeAll ts F)) ≡ length (removeAll ts F)
-removeAll-lacked t ts F a n = ap length (remove-lacked t (removeAll ts F) (removeAll-asc ts F a) n)
+remove_all_lacked : (t : Triple) (ts F : List Triple) → Ascending F → ¬ Memᴰ t (remove_all ts F) → length (remove t (remove_all ts F)) ≡ length (remove_all ts F)
+remove_all_lacked t ts F a n = ap length (remove_lacked t (remove_all ts F) (remove_all_asc ts F a) n)
 
 -- and one that is there and not among the others is one fewer.
-removeAll-known : (t : Triple) (ts F : List Triple) → Ascending F → Memᴰ t F → ¬ Memᴰ t ts → length (removeAll ts F) ≡ suc (length (remove t (removeAll ts F)))
-removeAll-known t ts F a m n = remove-length-in t (removeAll ts F) ((removeAll-iff ts F a t).1 (m, n))
+remove_all_known : (t : Triple) (ts F : List Triple) → Ascending F → Memᴰ t F → ¬ Memᴰ t ts → length (remove_all ts F) ≡ suc (length (remove t (remove_all ts F)))
+remove_all_known t ts F a m n = remove-length_in t (remove_all ts F) ((remove_all_iff ts F a t).1 (m, n))
 
 -- A set shrinks by the rows that it has, each once.
-pub removeAll-length : (ts F : List Triple) → Ascending F → length F ≡ length (removeAll ts F) + length (present F ts)
-unfolding removeAll
-removeAll-length [] F a = rw (present-nil F) (omega arith)
-removeAll-length (t ∷ ts) F a =
-    let h = removeAll-length ts F a in
+pub remove_all-length : (ts F : List Triple) → Ascending F → length F ≡ length (remove_all ts F) + length (present F ts)
+unfolding remove_all
+remove_all-length [] F a = rw (present_nil F) (omega arith)
+remove_all-length (t ∷ ts) F a =
+    let h = remove_all-length ts F a in
     ⊎_elim
-    (λ m. rw (present-known F t ts m) (⊎_elim
-    (λ i. rw (insert-known t (present F ts) (present-asc F ts) i) (omega (arith, removeAll-lacked t ts F a (λ j. ((removeAll-iff ts F a t).0 j).1 ((present-iff F ts t).0 i).0))))
-    (λ o. omega (arith, insert-new-length t (present F ts) o, removeAll-known t ts F a m (λ j. o ((present-iff F ts t).1 (j, m)))))
-    (member-or t (present F ts))))
-    (λ n. rw (present-lacked F t ts n) (omega (arith, removeAll-lacked t ts F a (λ j. n ((removeAll-iff ts F a t).0 j).0))))
-    (member-or t F)
+    (λ m. rw (present_known F t ts m) (⊎_elim
+    (λ i. rw (insert_known t (present F ts) (present_asc F ts) i) (omega (arith, remove_all_lacked t ts F a (λ j. ((remove_all_iff ts F a t).0 j).1 ((present_iff F ts t).0 i).0))))
+    (λ o. omega (arith, insert_new-length t (present F ts) o, remove_all_known t ts F a m (λ j. o ((present_iff F ts t).1 (j, m)))))
+    (member_or t (present F ts))))
+    (λ n. rw (present_lacked F t ts n) (omega (arith, remove_all_lacked t ts F a (λ j. n ((remove_all_iff ts F a t).0 j).0))))
+    (member_or t F)
 
-pub removeAll-present : (ts F : List Triple) → Ascending F → length F ≡ length (removeAll (present F ts) F) + length (present F ts)
-removeAll-present ts F a = rw (present-again F ts) at (removeAll-length (present F ts) F a)
+pub remove_all-present : (ts F : List Triple) → Ascending F → length F ≡ length (remove_all (present F ts) F) + length (present F ts)
+remove_all-present ts F a = rw (present_again F ts) at (remove_all-length (present F ts) F a)

@@ -5,14 +5,14 @@ use mathlib.Core.List.{List, [], ◌∷◌, ◌++◌}
 use native.Mathlib.Omega.{arith}
 use lib.ListN.{length}
 use Rattle.spec.specs.declared.Triple.{Triple}
-use Rattle.spec.specs.Messages.{Field, Message, shortBytes, word_bytes, entryBytes, entriesBytes, sectionBytes, fieldBytes, fieldsBytes, encode}
+use Rattle.spec.specs.Messages.{Field, Message, short_bytes, word_bytes, entry_bytes, entries_bytes, section_bytes, field_bytes, fields_bytes, encode}
 use Rattle.spec.specs.inside.Each.{Each}
-use Rattle.spec.proofs.Each.{each_append, each-front, each_back}
+use Rattle.spec.proofs.Each.{each_append, each_front, each_back}
 use Rattle.delivery_format.specs.inside.Encodable.{IsByte, IsShort, IsEntry, IsSection, IsField, Encodable}
 
 -- Two lists are bytes exactly where each of them is.
 both : (xs ys : List ℕ) → Each IsByte (xs ++ ys) ↔ (Each IsByte xs × Each IsByte ys)
-both xs ys = (λ e. (each-front IsByte xs ys e, each_back IsByte xs ys e), λ e. each_append IsByte xs ys e.0 e.1)
+both xs ys = (λ e. (each_front IsByte xs ys e, each_back IsByte xs ys e), λ e. each_append IsByte xs ys e.0 e.1)
 
 -- Two lists are bytes exactly where P and Q hold, of which each is what makes one of them so.
 join : {P Q : Type 0} (xs ys : List ℕ) → Each IsByte xs ↔ P → Each IsByte ys ↔ Q → Each IsByte (xs ++ ys) ↔ (P × Q)
@@ -21,68 +21,68 @@ join xs ys p q =
 
 -- ---- numbers
 
-short-fits : (n : ℕ) → Each IsByte (shortBytes n) ↔ IsShort n
-unfolding shortBytes
-short-fits n = (λ e. let a : n / 256 < 256 = e.1.0 in omega arith, λ h. (omega arith, (omega arith, tt)))
+short_fits : (n : ℕ) → Each IsByte (short_bytes n) ↔ IsShort n
+unfolding short_bytes
+short_fits n = (λ e. let a : n / 256 < 256 = e.1.0 in omega arith, λ h. (omega arith, (omega arith, tt)))
 
 word_fits : (w : ℕ) → Each IsByte (word_bytes w) ↔ (w < 2 ^ 32)
 unfolding word_bytes
 word_fits w =
-    let j = join (shortBytes (w % 65536)) (shortBytes (w / 65536)) (short-fits (w % 65536)) (short-fits (w / 65536)) in
+    let j = join (short_bytes (w % 65536)) (short_bytes (w / 65536)) (short_fits (w % 65536)) (short_fits (w / 65536)) in
     (λ e. let a : w / 65536 < 65536 = (j.0 e).1 in omega arith, λ h. j.1 (omega arith, omega arith))
 
 -- ---- sections
 
-entry-fits : (t : Triple) → Each IsByte (entryBytes t) ↔ IsEntry t
-unfolding entryBytes
-entry-fits t =
+entry_fits : (t : Triple) → Each IsByte (entry_bytes t) ↔ IsEntry t
+unfolding entry_bytes
+entry_fits t =
     let j = join (word_bytes t.subject) _ (word_fits t.subject) (join (word_bytes t.property) (word_bytes t.object) (word_fits t.property) (word_fits t.object)) in
     (λ e. let r = j.0 e in record { subject = r.0; property = r.1.0; object = r.1.1 }, λ h. j.1 (h.subject, (h.property, h.object)))
 
-entries_fit : (ts : List Triple) → Each IsByte (entriesBytes ts) ↔ Each IsEntry ts
-unfolding entriesBytes
+entries_fit : (ts : List Triple) → Each IsByte (entries_bytes ts) ↔ Each IsEntry ts
+unfolding entries_bytes
 entries_fit [] = (λ e. tt, λ h. tt)
-entries_fit (t ∷ ts) = join (entryBytes t) (entriesBytes ts) (entry-fits t) (entries_fit ts)
+entries_fit (t ∷ ts) = join (entry_bytes t) (entries_bytes ts) (entry_fits t) (entries_fit ts)
 
-section-fits : (ts : List Triple) → Each IsByte (sectionBytes ts) ↔ IsSection ts
-unfolding sectionBytes
-section-fits ts =
-    let j = join (shortBytes (length ts)) (entriesBytes ts) (short-fits (length ts)) (entries_fit ts) in
+section_fits : (ts : List Triple) → Each IsByte (section_bytes ts) ↔ IsSection ts
+unfolding section_bytes
+section_fits ts =
+    let j = join (short_bytes (length ts)) (entries_bytes ts) (short_fits (length ts)) (entries_fit ts) in
     (λ e. let r = j.0 e in record { count = r.0; entries = r.1 }, λ h. j.1 (h.count, h.entries))
 
 -- ---- fields
 
-field_fits : (f : Field) → Each IsByte (fieldBytes f) ↔ IsField f
-unfolding fieldBytes
+field_fits : (f : Field) → Each IsByte (field_bytes f) ↔ IsField f
+unfolding field_bytes
 field_fits f =
-    let j = join (shortBytes f.tag) _ (short-fits f.tag) (join (shortBytes (length f.bytes)) f.bytes (short-fits (length f.bytes)) ((λ e. e), (λ h. h))) in
+    let j = join (short_bytes f.tag) _ (short_fits f.tag) (join (short_bytes (length f.bytes)) f.bytes (short_fits (length f.bytes)) ((λ e. e), (λ h. h))) in
     (λ e. let r = j.0 e in record { tag = r.0; length = r.1.0; bytes = r.1.1 }, λ h. j.1 (h.tag, (h.length, h.bytes)))
 
-fields_fit : (fs : List Field) → Each IsByte (fieldsBytes fs) ↔ Each IsField fs
-unfolding fieldsBytes
+fields_fit : (fs : List Field) → Each IsByte (fields_bytes fs) ↔ Each IsField fs
+unfolding fields_bytes
 fields_fit [] = (λ e. tt, λ h. tt)
-fields_fit (f ∷ fs) = join (fieldBytes f) (fieldsBytes fs) (field_fits f) (fields_fit fs)
+fields_fit (f ∷ fs) = join (field_bytes f) (fields_bytes fs) (field_fits f) (fields_fit fs)
 
 -- ---- the whole
 
 -- Each number that is written of a message is a byte exactly where the message fits the layout.
-pub encodable-iff : (m : Message) → Each IsByte (encode m) ↔ Encodable m
+pub encodable_iff : (m : Message) → Each IsByte (encode m) ↔ Encodable m
 unfolding encode
-encodable-iff m =
-    let last = join (shortBytes (length m.fields)) (fieldsBytes m.fields) (short-fits (length m.fields)) (fields_fit m.fields) in
-    let fourth = join (sectionBytes m.factsAdded) _ (section-fits m.factsAdded) last in
-    let third = join (sectionBytes m.statementsAdded) _ (section-fits m.statementsAdded) fourth in
-    let second = join (sectionBytes m.factsWithdrawn) _ (section-fits m.factsWithdrawn) third in
-    let j = join (sectionBytes m.statementsWithdrawn) _ (section-fits m.statementsWithdrawn) second in (
+encodable_iff m =
+    let last = join (short_bytes (length m.fields)) (fields_bytes m.fields) (short_fits (length m.fields)) (fields_fit m.fields) in
+    let fourth = join (section_bytes m.facts_added) _ (section_fits m.facts_added) last in
+    let third = join (section_bytes m.statements_added) _ (section_fits m.statements_added) fourth in
+    let second = join (section_bytes m.facts_withdrawn) _ (section_fits m.facts_withdrawn) third in
+    let j = join (section_bytes m.statements_withdrawn) _ (section_fits m.statements_withdrawn) second in (
       λ e.
           let r = j.0 e in
           record {
-            statementsWithdrawn = r.0;
-            factsWithdrawn = r.1.0;
-            statementsAdded = r.1.1.0;
-            factsAdded = r.1.1.1.0;
+            statements_withdrawn = r.0;
+            facts_withdrawn = r.1.0;
+            statements_added = r.1.1.0;
+            facts_added = r.1.1.1.0;
             count = r.1.1.1.1.0;
             fields = r.1.1.1.1.1;
           },
-      λ h. j.1 (h.statementsWithdrawn, (h.factsWithdrawn, (h.statementsAdded, (h.factsAdded, (h.count, h.fields))))),
+      λ h. j.1 (h.statements_withdrawn, (h.facts_withdrawn, (h.statements_added, (h.facts_added, (h.count, h.fields))))),
     )

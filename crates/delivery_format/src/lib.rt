@@ -1,9 +1,9 @@
 // Deliveries as bytes (document 01, "Deliveries").
 ghost use Rattle.std.specs.Prelude.{◌≡◌, true, ◌+◌, ◌*◌, ◌^◌, ◌≤◌, ◌<◌, length, get_or};
 ghost use Rattle.spec.specs.Lists.{all};
-ghost use Rattle.spec.specs.Deliveries.{areSectionsRight};
-ghost use Rattle.spec.specs.computed.Decoded.{short, word, entry_at, entriesFrom, sectionAt, sectionEnd, sectionStart, fieldEnd, read, is_whole};
-ghost use Rattle.delivery_format.specs.inside.Sections.{isRightIn};
+ghost use Rattle.spec.specs.Deliveries.{are_sections_right};
+ghost use Rattle.spec.specs.computed.Decoded.{short, word, entry_at, entries_from, section_at, section_end, section_start, field_end, read, is_whole};
+ghost use Rattle.delivery_format.specs.inside.Sections.{is_right_in};
 
 use spec::Triple;
 use terms::is_statement;
@@ -57,7 +57,7 @@ pub fn entry_at(bytes: &[u8], at: usize) -> Triple
 // Where the section of entries that begins at an index ends.
 pub fn section_end(bytes: &[u8], at: usize) -> usize
     requires { at < 2 ^ 62 }
-    ensures value { result ≡ sectionEnd bytes.now at }
+    ensures value { result ≡ section_end bytes.now at }
     ensures upper_bound { result ≤ at + 786422 }
 {
     at + 2 + short_at(bytes, at) * ENTRY_BYTES
@@ -66,7 +66,7 @@ pub fn section_end(bytes: &[u8], at: usize) -> usize
 // Where section k begins.
 pub fn section_start(bytes: &[u8], k: usize) -> usize
     requires { k ≤ 4 }
-    ensures value { result ≡ sectionStart bytes.now k }
+    ensures value { result ≡ section_start bytes.now k }
     ensures upper_bound { result ≤ k * 786422 }
 {
     let mut at = 0;
@@ -81,7 +81,7 @@ pub fn section_start(bytes: &[u8], k: usize) -> usize
 // Where the field that begins at an index ends.
 pub fn field_end(bytes: &[u8], at: usize) -> usize
     requires { at < 2 ^ 62 }
-    ensures value { result ≡ fieldEnd bytes.now at }
+    ensures value { result ≡ field_end bytes.now at }
     ensures upper_bound { result ≤ at + 65539 }
 {
     at + 4 + short_at(bytes, at + 2)
@@ -89,7 +89,7 @@ pub fn field_end(bytes: &[u8], at: usize) -> usize
 
 // Whether an entry is right for a section of statements, or of facts.
 fn is_right_in(statements: bool, x: Triple) -> bool
-    ensures { result ≡ isRightIn statements x }
+    ensures { result ≡ is_right_in statements x }
 {
     if statements {
         is_statement(x)
@@ -101,7 +101,7 @@ fn is_right_in(statements: bool, x: Triple) -> bool
 // Whether each of the n entries from an index on is right for a section of statements, or of facts.
 fn are_entries_right(bytes: &[u8], at: usize, n: usize, statements: bool) -> bool
     requires { at + n * 12 ≤ length bytes.now }
-    ensures { result ≡ all (isRightIn statements) (entriesFrom bytes.now at n) }
+    ensures { result ≡ all (is_right_in statements) (entries_from bytes.now at n) }
 {
     let mut place = at;
     let mut left = n;
@@ -119,7 +119,7 @@ fn are_entries_right(bytes: &[u8], at: usize, n: usize, statements: bool) -> boo
 fn is_section_right(bytes: &[u8], k: usize, statements: bool) -> bool
     requires k_bound { k < 4 }
     requires bytes_value { is_whole bytes.now ≡ true }
-    ensures { result ≡ all (isRightIn statements) (sectionAt bytes.now (sectionStart bytes.now k)) }
+    ensures { result ≡ all (is_right_in statements) (section_at bytes.now (section_start bytes.now k)) }
 {
     let at = section_start(bytes, k);
     are_entries_right(bytes, at + 2, short_at(bytes, at), statements)
@@ -128,7 +128,7 @@ fn is_section_right(bytes: &[u8], k: usize, statements: bool) -> bool
 // Question 10: whether each entry's property is right for its section.
 pub fn are_sections_right(bytes: &[u8]) -> bool
     requires { is_whole bytes.now ≡ true }
-    ensures { result ≡ areSectionsRight (read bytes.now) }
+    ensures { result ≡ are_sections_right (read bytes.now) }
 {
     is_section_right(bytes, 0, true)
         & (is_section_right(bytes, 1, false)

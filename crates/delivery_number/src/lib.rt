@@ -1,7 +1,7 @@
 // The delivery number, among the extra fields of a delivery's bytes (document 01, "Deliveries").
 ghost use Rattle.std.specs.Prelude.{◌≡◌, true, ◌≤◌};
-ghost use Rattle.spec.specs.Deliveries.{numberFields, isNumberRight, number_of};
-ghost use Rattle.spec.specs.computed.Decoded.{fieldsEnd, read, is_whole};
+ghost use Rattle.spec.specs.Deliveries.{number_fields, is_number_right, number_of};
+ghost use Rattle.spec.specs.computed.Decoded.{fields_end, read, is_whole};
 ghost use Rattle.delivery_number.specs.inside.Found.{ExtraFields, FromNumber};
 
 use delivery_format::{field_end, section_start, short_at, word_at};
@@ -31,7 +31,7 @@ fn extra_fields(bytes: &[u8]) -> Fields
 
 // Of the n fields from an index on, those from the first with tag 1 on: all other tags are stepped over.
 fn from_number(bytes: &[u8], at: usize, n: usize) -> Fields
-    requires { fieldsEnd bytes.now at n ≤ 65536 }
+    requires { fields_end bytes.now at n ≤ 65536 }
     ensures { FromNumber bytes.now at n result }
 {
     let mut place = at;
@@ -55,7 +55,7 @@ fn from_number(bytes: &[u8], at: usize, n: usize) -> Fields
 // Question 11: whether tag 1 is there at most once, and of length 4.
 pub fn is_number_right(bytes: &[u8]) -> bool
     requires { is_whole bytes.now ≡ true }
-    ensures { result ≡ isNumberRight (numberFields (read bytes.now).fields) }
+    ensures { result ≡ is_number_right (number_fields (read bytes.now).fields) }
 {
     let f = extra_fields(bytes);
     let found = from_number(bytes, f.at, f.count);
@@ -73,8 +73,8 @@ pub fn is_number_right(bytes: &[u8]) -> bool
 // The delivery number, 0 where there is none.
 pub fn number(bytes: &[u8]) -> u32
     requires bytes_value { is_whole bytes.now ≡ true }
-    requires bytes_value_2 { isNumberRight (numberFields (read bytes.now).fields) ≡ true }
-    ensures { result ≡ number_of (numberFields (read bytes.now).fields) }
+    requires bytes_value_2 { is_number_right (number_fields (read bytes.now).fields) ≡ true }
+    ensures { result ≡ number_of (number_fields (read bytes.now).fields) }
 {
     let f = extra_fields(bytes);
     let found = from_number(bytes, f.at, f.count);

@@ -3,7 +3,7 @@ ghost use Rattle.std.specs.Prelude.{◌≡◌, true};
 ghost use Rattle.spec.specs.inside.Laid.{FormedStore};
 ghost use Rattle.spec.specs.Tables.{tables};
 ghost use Rattle.spec.specs.Updates.{update};
-ghost use Rattle.spec.specs.Deliveries.{areSectionsRight, tally, runMessage, delivered, deliver};
+ghost use Rattle.spec.specs.Deliveries.{are_sections_right, tally, run_message, delivered, deliver};
 ghost use Rattle.spec.specs.inside.Pairs.{progress};
 ghost use Rattle.spec.specs.computed.Decoded.{read, is_whole};
 
@@ -23,8 +23,8 @@ fn run_message(
 ) -> Tally
     requires formed_store { FormedStore statements.old facts.old kept.old supports.old }
     requires bytes_value { is_whole bytes.now ≡ true }
-    requires bytes_value_2 { areSectionsRight (read bytes.now) ≡ true }
-    ensures { progress (tables statements.new facts.new kept.new supports.new) result ≡ runMessage update (read bytes.now) (progress (tables statements.old facts.old kept.old supports.old) (tally 0 0 0)) }
+    requires bytes_value_2 { are_sections_right (read bytes.now) ≡ true }
+    ensures { progress (tables statements.new facts.new kept.new supports.new) result ≡ run_message update (read bytes.now) (progress (tables statements.old facts.old kept.old supports.old) (tally 0 0 0)) }
 {
     let first = run_section(
         statements,

@@ -1,13 +1,13 @@
 // The entries of a section, run in order (document 01, "Deliveries").
 ghost use Rattle.std.specs.Prelude.{◌≡◌, true};
-ghost use Rattle.spec.specs.Tables.{tables, areFormed};
+ghost use Rattle.spec.specs.Tables.{tables, are_formed};
 ghost use Rattle.spec.specs.Lists.{all};
 ghost use Rattle.spec.specs.inside.Laid.{FormedStore};
 ghost use Rattle.spec.specs.declared.Change.TheVariants.{Addition};
 ghost use Rattle.spec.specs.Updates.{update};
-ghost use Rattle.spec.specs.Deliveries.{runEntries};
+ghost use Rattle.spec.specs.Deliveries.{run_entries};
 ghost use Rattle.spec.specs.inside.Pairs.{progress};
-ghost use Rattle.delivery_section.specs.inside.Running.{keepsFormed, section, Next};
+ghost use Rattle.delivery_section.specs.inside.Running.{keeps_formed, section, Next};
 
 use delivery_tally::{refused, tallied};
 use spec::{Change, Tally};
@@ -25,8 +25,8 @@ pub fn run_section(
 ) -> Tally
     requires formed_store { FormedStore statements.old facts.old kept.old supports.old }
     requires next { Next bytes.now k counted }
-    requires k_value { all (keepsFormed change) (section bytes.now k) ≡ true }
-    ensures result_after { progress (tables statements.new facts.new kept.new supports.new) result ≡ runEntries (update change) (section bytes.now k) (progress (tables statements.old facts.old kept.old supports.old) counted) }
+    requires k_value { all (keeps_formed change) (section bytes.now k) ≡ true }
+    ensures result_after { progress (tables statements.new facts.new kept.new supports.new) result ≡ run_entries (update change) (section bytes.now k) (progress (tables statements.old facts.old kept.old supports.old) counted) }
     ensures formed_store_2 { FormedStore statements.new facts.new kept.new supports.new }
 {
     let start = delivery_format::section_start(bytes, k);
@@ -55,9 +55,9 @@ pub fn add_section(
     formed: bool,
     counted: Tally,
 ) -> Tally
-    requires formed_value { formed ≡ areFormed (tables statements.old facts.old kept.old supports.old) }
+    requires formed_value { formed ≡ are_formed (tables statements.old facts.old kept.old supports.old) }
     requires next { Next bytes.now k counted }
-    ensures { progress (tables statements.new facts.new kept.new supports.new) result ≡ runEntries (update Addition) (section bytes.now k) (progress (tables statements.old facts.old kept.old supports.old) counted) }
+    ensures { progress (tables statements.new facts.new kept.new supports.new) result ≡ run_entries (update Addition) (section bytes.now k) (progress (tables statements.old facts.old kept.old supports.old) counted) }
 {
     if !formed {
         let start = delivery_format::section_start(bytes, k);

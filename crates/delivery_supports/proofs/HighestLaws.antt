@@ -26,16 +26,16 @@ highest-within b (u ∷ us) h = rw (le-leb u b (omega arith)) (highest-within b 
 
 -- The scan: the highest of what is left, with that of what is passed.
 module _ (n : ℕ) (us : List ℕ) (fits : n ≤ length us) (i h : ℕ) where
-  pub highest-more : i < n → max h (highest (drop i (take n us))) ≡ highest (take n us) → max (max h (get_or us i 0)) (highest (drop (i + 1) (take n us))) ≡ highest (take n us)
+  pub highest_more : i < n → max h (highest (drop i (take n us))) ≡ highest (take n us) → max (max h (get_or us i 0)) (highest (drop (i + 1) (take n us))) ≡ highest (take n us)
   unfolding highest
-  highest-more k e =
+  highest_more k e =
       let inside : i < length (take n us) = rw (length-take-le n us fits) k in
       let f = rw (drop-cons (take n us) i 0 inside, get_or-take n us i 0 k) at e in
       rw (add-one i) (omega (arith, f))
 
-  pub highest-end : n ≤ i → max h (highest (drop i (take n us))) ≡ highest (take n us) → h ≡ highest (take n us)
+  pub highest_end : n ≤ i → max h (highest (drop i (take n us))) ≡ highest (take n us) → h ≡ highest (take n us)
   unfolding highest
-  highest-end k e =
+  highest_end k e =
       let past : length (take n us) ≤ i = rw (length-take-le n us fits) k in
       let f = rw (drop_of_length-le (take n us) past) at e in
       omega (arith, f)

@@ -1,7 +1,7 @@
 // Question 9: whether a delivery is whole, by a reader that walks the extra fields (document 01, "Deliveries").
 ghost use Rattle.std.specs.Prelude.{◌≡◌, ◌^◌, ◌<◌};
-ghost use Rattle.spec.specs.computed.Decoded.{fieldsEnd, is_whole};
-ghost use Rattle.delivery_walk.specs.inside.Walked.{countedEnd};
+ghost use Rattle.spec.specs.computed.Decoded.{fields_end, is_whole};
+ghost use Rattle.delivery_walk.specs.inside.Walked.{counted_end};
 
 use delivery_format::{field_end, section_start, short_at};
 
@@ -12,7 +12,7 @@ pub const MOST_BYTES: usize = 65536;
 fn fields_end(bytes: &[u8], at: usize, n: usize) -> usize
     requires at_bound { at < 2 ^ 32 }
     requires n_bound { n < 65536 }
-    ensures { result ≡ fieldsEnd bytes.now at n }
+    ensures { result ≡ fields_end bytes.now at n }
 {
     let mut end = at;
     let mut left = n;
@@ -26,7 +26,7 @@ fn fields_end(bytes: &[u8], at: usize, n: usize) -> usize
 // Where the fields end whose count stands at an index.
 fn counted_end(bytes: &[u8], at: usize) -> usize
     requires { at < 2 ^ 31 }
-    ensures { result ≡ countedEnd bytes.now at }
+    ensures { result ≡ counted_end bytes.now at }
 {
     fields_end(bytes, at + 2, short_at(bytes, at))
 }
@@ -49,7 +49,7 @@ impl<'a> Reader<'a> {
     // The reader moved past the fields whose count stands at its cursor.
     fn past_fields(self) -> Reader<'a>
         requires { self.at < 2 ^ 31 }
-        ensures { (result.bytes ≡ self.entry.bytes) × (result.at ≡ countedEnd self.entry.bytes.now self.entry.at) }
+        ensures { (result.bytes ≡ self.entry.bytes) × (result.at ≡ counted_end self.entry.bytes.now self.entry.at) }
     {
         Reader {
             bytes: self.bytes,
@@ -68,7 +68,7 @@ impl<'a> Reader<'a> {
 // Where a reader ends that walks the fields whose count stands at an index.
 pub fn walked_end(bytes: &[u8], at: usize) -> usize
     requires { at < 2 ^ 31 }
-    ensures { result ≡ countedEnd bytes.now at }
+    ensures { result ≡ counted_end bytes.now at }
 {
     Reader::new(bytes, at).past_fields().cursor()
 }

@@ -1,11 +1,11 @@
 // A section of facts that are withdrawn: each can spoil the store.
 ghost use Rattle.std.specs.Prelude.{◌≡◌, true, ◌≤◌, take};
-ghost use Rattle.spec.specs.Tables.{tables, areFormed, count};
+ghost use Rattle.spec.specs.Tables.{tables, are_formed, count};
 ghost use Rattle.spec.specs.Lists.{all};
 ghost use Rattle.spec.specs.inside.Laid.{FormedStore};
 ghost use Rattle.spec.specs.declared.Change.TheVariants.{Withdrawal};
 ghost use Rattle.spec.specs.Updates.{update};
-ghost use Rattle.spec.specs.Deliveries.{isFact, runEntries};
+ghost use Rattle.spec.specs.Deliveries.{is_fact, run_entries};
 ghost use Rattle.spec.specs.inside.Pairs.{progress};
 ghost use Rattle.delivery_supports.specs.inside.Highest.{highest};
 ghost use Rattle.delivery_section.specs.inside.Running.{section, Next};
@@ -40,11 +40,11 @@ fn withdraw_fact(
     known: usize,
 ) -> WithdrawnFact
     requires formed_store { FormedStore statements.old facts.old kept.old supports.old }
-    requires fact_value { isFact fact ≡ true }
+    requires fact_value { is_fact fact ≡ true }
     requires supports_bound { highest (take (count kept.old) supports.old) ≤ known }
     ensures supports_after { (result.answer, tables statements.new facts.new kept.new supports.new) ≡ update Withdrawal (tables statements.old facts.old kept.old supports.old) fact }
     ensures supports_bound_2 { highest (take (count kept.new) supports.new) ≤ result.bound }
-    ensures formed_value { result.formed ≡ areFormed (tables statements.new facts.new kept.new supports.new) }
+    ensures formed_value { result.formed ≡ are_formed (tables statements.new facts.new kept.new supports.new) }
 {
     let answer = store::update_formed(statements, facts, kept, supports, Change::Withdrawal, fact);
     let n = facts[0] as usize;
@@ -69,9 +69,9 @@ pub fn withdraw_facts(
 ) -> Withdrawals
     requires formed_store { FormedStore statements.old facts.old kept.old supports.old }
     requires next { Next bytes.now k counted }
-    requires k_value { all isFact (section bytes.now k) ≡ true }
-    ensures counted_after { progress (tables statements.new facts.new kept.new supports.new) result.counted ≡ runEntries (update Withdrawal) (section bytes.now k) (progress (tables statements.old facts.old kept.old supports.old) counted) }
-    ensures formed_value { result.formed ≡ areFormed (tables statements.new facts.new kept.new supports.new) }
+    requires k_value { all is_fact (section bytes.now k) ≡ true }
+    ensures counted_after { progress (tables statements.new facts.new kept.new supports.new) result.counted ≡ run_entries (update Withdrawal) (section bytes.now k) (progress (tables statements.old facts.old kept.old supports.old) counted) }
+    ensures formed_value { result.formed ≡ are_formed (tables statements.new facts.new kept.new supports.new) }
 {
     let start = delivery_format::section_start(bytes, k);
     let mut at = start + 2;

@@ -9,7 +9,7 @@ use lib.Dec.{eqb}
 use lib.ListN.{length, get_or, take, drop, length-take, length-drop}
 use lib.Seq.{drop-cons, take-add, drop-drop}
 use borrow.Author.Tests.{eqb-true, eq-eqb, ne_eqb}
-use Rattle.spec_ntriples.specs.Texts.{isSameText}
+use Rattle.spec_ntriples.specs.Texts.{is_same_text}
 
 -- ---- parts
 
@@ -19,8 +19,8 @@ part-cons bs at zero h k = absurd (omega arith)
 part-cons bs at (suc n) h k = let e : suc n - 1 ≡ n = omega arith in rw (e, add-one at, drop-cons bs at 0 h)
 
 -- A part in two.
-pub part-split : (bs : List ℕ) (at m n : ℕ) → m ≤ n → take n (drop at bs) ≡ take m (drop at bs) ++ take (n - m) (drop (at + m) bs)
-part-split bs at m n h = let e : n ≡ m + (n - m) = omega arith in ap (λ (j : ℕ). take j (drop at bs)) e ∙ take-add m (n - m) (drop at bs) ∙ rw (drop-drop m at bs)
+pub part_split : (bs : List ℕ) (at m n : ℕ) → m ≤ n → take n (drop at bs) ≡ take m (drop at bs) ++ take (n - m) (drop (at + m) bs)
+part_split bs at m n h = let e : n ≡ m + (n - m) = omega arith in ap (λ (j : ℕ). take j (drop at bs)) e ∙ take-add m (n - m) (drop at bs) ∙ rw (drop-drop m at bs)
 
 -- The length of a part.
 pub part_length : (bs : List ℕ) (at n : ℕ) → at + n ≤ length bs → length (take n (drop at bs)) ≡ n
@@ -29,8 +29,8 @@ part_length bs at n h = simp (length-take, length-drop) (omega arith)
 -- ---- equal texts
 
 -- A text is the same as itself.
-pub same_refl : (s : List ℕ) → isSameText s s ≡ true
-unfolding isSameText
+pub same_refl : (s : List ℕ) → is_same_text s s ≡ true
+unfolding is_same_text
 same_refl [] = refl
 same_refl (a ∷ s) = rw (eq-eqb a a refl) (same_refl s)
 
@@ -39,32 +39,32 @@ and_both true b e = (refl, e)
 and_both false b e = let z : ◌≡◌ {A = ℕ} 0 1 = cc in absurd (omega arith)
 
 -- Texts that are the same are equal.
-pub same-equal : (s t : List ℕ) → isSameText s t ≡ true → s ≡ t
-unfolding isSameText
-same-equal [] [] e = refl
-same-equal [] (b ∷ t) e = let z : ◌≡◌ {A = ℕ} 0 1 = cc in absurd (omega arith)
-same-equal (a ∷ s) [] e = let z : ◌≡◌ {A = ℕ} 0 1 = cc in absurd (omega arith)
-same-equal (a ∷ s) (b ∷ t) e = ap₂ ◌∷◌ (eqb-true a b (and_both (eqb a b) (isSameText s t) e).0) (same-equal s t (and_both (eqb a b) (isSameText s t) e).1)
+pub same_equal : (s t : List ℕ) → is_same_text s t ≡ true → s ≡ t
+unfolding is_same_text
+same_equal [] [] e = refl
+same_equal [] (b ∷ t) e = let z : ◌≡◌ {A = ℕ} 0 1 = cc in absurd (omega arith)
+same_equal (a ∷ s) [] e = let z : ◌≡◌ {A = ℕ} 0 1 = cc in absurd (omega arith)
+same_equal (a ∷ s) (b ∷ t) e = ap₂ ◌∷◌ (eqb-true a b (and_both (eqb a b) (is_same_text s t) e).0) (same_equal s t (and_both (eqb a b) (is_same_text s t) e).1)
 
 -- Equal texts are the same.
-pub equal-same : (s t : List ℕ) → s ≡ t → isSameText s t ≡ true
-equal-same s t e = rw e (same_refl t)
+pub equal_same : (s t : List ℕ) → s ≡ t → is_same_text s t ≡ true
+equal_same s t e = rw e (same_refl t)
 
 -- Texts that are not the same are not equal.
-pub other_differ : (s t : List ℕ) → isSameText s t ≡ false → s ≡ t → ⊥
-other_differ s t e q = let z : true ≡ false = sym (equal-same s t q) ∙ e in let y : ◌≡◌ {A = ℕ} 0 1 = cc in absurd (omega arith)
+pub other_differ : (s t : List ℕ) → is_same_text s t ≡ false → s ≡ t → ⊥
+other_differ s t e q = let z : true ≡ false = sym (equal_same s t q) ∙ e in let y : ◌≡◌ {A = ℕ} 0 1 = cc in absurd (omega arith)
 
 -- Texts that are not equal are not the same.
-pub differ-other : (s t : List ℕ) → (s ≡ t → ⊥) → isSameText s t ≡ false
-differ-other s t h = go (isSameText s t) refl
+pub differ_other : (s t : List ℕ) → (s ≡ t → ⊥) → is_same_text s t ≡ false
+differ_other s t h = go (is_same_text s t) refl
   where
-    go : (b : Bool) → isSameText s t ≡ b → isSameText s t ≡ false
-    go true e = absurd (h (same-equal s t e))
+    go : (b : Bool) → is_same_text s t ≡ b → is_same_text s t ≡ false
+    go true e = absurd (h (same_equal s t e))
     go false e = e
 
 -- Texts of different lengths are not the same.
-pub lengths_differ : (s t : List ℕ) → (length s ≡ length t → ⊥) → isSameText s t ≡ false
-lengths_differ s t h = differ-other s t (λ e. h (ap length e))
+pub lengths_differ : (s t : List ℕ) → (length s ≡ length t → ⊥) → is_same_text s t ≡ false
+lengths_differ s t h = differ_other s t (λ e. h (ap length e))
 
 -- ---- comparing from indices on
 
@@ -77,14 +77,14 @@ module _ (s t : List ℕ) (from at n i : ℕ) (h : i < n) (hs : from + n ≤ len
   right-cons = let a : at + i + 1 ≡ at + (i + 1) = omega arith in let b : n - i - 1 ≡ n - (i + 1) = omega arith in part-cons t (at + i) (n - i) (omega arith) (omega arith) ∙ rw (a, b)
 
   pub parts_more : get_or s (from + i) 0 ≡ get_or t (at + i) 0
-      → isSameText (take (n - i) (drop (from + i) s)) (take (n - i) (drop (at + i) t)) ≡ isSameText (take (n - (i + 1)) (drop (from + (i + 1)) s)) (take (n - (i + 1)) (drop (at + (i + 1)) t))
-  unfolding isSameText
+      → is_same_text (take (n - i) (drop (from + i) s)) (take (n - i) (drop (at + i) t)) ≡ is_same_text (take (n - (i + 1)) (drop (from + (i + 1)) s)) (take (n - (i + 1)) (drop (at + (i + 1)) t))
+  unfolding is_same_text
   parts_more e = rw (left-cons, right-cons, eq-eqb _ _ e)
 
-  pub parts-stop : (get_or s (from + i) 0 ≡ get_or t (at + i) 0 → ⊥) → isSameText (take (n - i) (drop (from + i) s)) (take (n - i) (drop (at + i) t)) ≡ false
-  unfolding isSameText
-  parts-stop e = rw (left-cons, right-cons, ne_eqb _ _ e)
+  pub parts_stop : (get_or s (from + i) 0 ≡ get_or t (at + i) 0 → ⊥) → is_same_text (take (n - i) (drop (from + i) s)) (take (n - i) (drop (at + i) t)) ≡ false
+  unfolding is_same_text
+  parts_stop e = rw (left-cons, right-cons, ne_eqb _ _ e)
 
-pub parts-end : (s t : List ℕ) (from at n i : ℕ) → n ≤ i → isSameText (take (n - i) (drop (from + i) s)) (take (n - i) (drop (at + i) t)) ≡ true
-unfolding isSameText
-parts-end s t from at n i h = let e : n - i ≡ 0 = omega arith in rw e
+pub parts_end : (s t : List ℕ) (from at n i : ℕ) → n ≤ i → is_same_text (take (n - i) (drop (from + i) s)) (take (n - i) (drop (at + i) t)) ≡ true
+unfolding is_same_text
+parts_end s t from at n i h = let e : n - i ≡ 0 = omega arith in rw e

@@ -1,8 +1,8 @@
 // Texts and entries in the bytes of a dictionary.
 ghost use Rattle.std.specs.Prelude.{◌≡◌, ◌+◌, ◌^◌, ◌≤◌, ◌<◌, length, take, drop};
-ghost use Rattle.spec_ntriples.specs.Texts.{isSameText};
-ghost use Rattle.spec_ntriples.specs.Dictionary.{bytesNumber, frontTerm};
-ghost use Rattle.dictionary_bytes.specs.inside.Entries.{lengthAt, textAt};
+ghost use Rattle.spec_ntriples.specs.Texts.{is_same_text};
+ghost use Rattle.spec_ntriples.specs.Dictionary.{bytes_number, front_term};
+ghost use Rattle.dictionary_bytes.specs.inside.Entries.{length_at, text_at};
 
 // The bytes of an entry in front of its text: its term and the text's length.
 pub const HEADER: usize = 12;
@@ -24,7 +24,7 @@ pub const LENGTH_BYTES: usize = 8;
 pub fn is_same(a: &[u8], from: usize, b: &[u8], at: usize, n: usize) -> bool
     requires n_in_bounds { from + n ≤ length a.now }
     requires n_in_bounds_2 { at + n ≤ length b.now }
-    ensures { result ≡ isSameText (take n (drop from a.now)) (take n (drop at b.now)) }
+    ensures { result ≡ is_same_text (take n (drop from a.now)) (take n (drop at b.now)) }
 {
     let mut i = 0;
     while i < n {
@@ -40,7 +40,7 @@ pub fn is_same(a: &[u8], from: usize, b: &[u8], at: usize, n: usize) -> bool
 fn number_at(bytes: &[u8], at: usize, n: usize) -> usize
     requires n_in_bounds { at + n ≤ length bytes.now }
     requires n_bound { n ≤ 8 }
-    ensures value { result ≡ bytesNumber (take n (drop at bytes.now)) }
+    ensures value { result ≡ bytes_number (take n (drop at bytes.now)) }
     ensures upper_bound { result < 256 ^ n }
 {
     let mut number = 0;
@@ -56,16 +56,16 @@ fn number_at(bytes: &[u8], at: usize, n: usize) -> usize
 // The length of the text of the entry at an index, in eight bytes.
 pub fn length_at(dictionary: &[u8], at: usize) -> usize
     requires { at + 12 ≤ length dictionary.now }
-    ensures { result ≡ lengthAt dictionary.now at }
+    ensures { result ≡ length_at dictionary.now at }
 {
     number_at(dictionary, at + TERM_BYTES, LENGTH_BYTES)
 }
 
 // Whether the entry at an index has as text the n bytes from an index on.
 pub fn has_text(dictionary: &[u8], at: usize, bytes: &[u8], from: usize, n: usize) -> bool
-    requires at_in_bounds { at + 12 + lengthAt dictionary.now at ≤ length dictionary.now }
+    requires at_in_bounds { at + 12 + length_at dictionary.now at ≤ length dictionary.now }
     requires n_in_bounds { from + n ≤ length bytes.now }
-    ensures { result ≡ isSameText (textAt dictionary.now at) (take n (drop from bytes.now)) }
+    ensures { result ≡ is_same_text (text_at dictionary.now at) (take n (drop from bytes.now)) }
 {
     if length_at(dictionary, at) != n {
         return false;
@@ -76,7 +76,7 @@ pub fn has_text(dictionary: &[u8], at: usize, bytes: &[u8], from: usize, n: usiz
 // The term of the entry at an index: four bytes, the lowest first.
 pub fn term_at(dictionary: &[u8], at: usize) -> u32
     requires { at + 4 ≤ length dictionary.now }
-    ensures { result ≡ frontTerm (drop at dictionary.now) }
+    ensures { result ≡ front_term (drop at dictionary.now) }
 {
     number_at(dictionary, at, TERM_BYTES) as u32
 }

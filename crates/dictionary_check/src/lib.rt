@@ -1,6 +1,6 @@
 // Question 1 for a dictionary: whether lent bytes are one, and how far it is filled.
 ghost use Rattle.std.specs.Prelude.{◌≡◌, drop};
-ghost use Rattle.spec.specs.Tables.{areZero};
+ghost use Rattle.spec.specs.Tables.{are_zero};
 ghost use Rattle.dictionary_walk.specs.inside.Walked.{Walked};
 ghost use Rattle.dictionary_check.specs.inside.Checked.{IsChecked};
 
@@ -11,7 +11,7 @@ use dictionary_walk::walk;
 
 // Whether the bytes from an index on are all zero. The loop has no exit, so that many bytes are read at once.
 fn are_bytes_zero(bytes: &[u8], from: usize) -> bool
-    ensures { result ≡ areZero (drop from bytes.now) }
+    ensures { result ≡ are_zero (drop from bytes.now) }
 {
     let mut ok = true;
     let mut i = from;

@@ -6,36 +6,36 @@ use native.Mathlib.Numerals.{add-one}
 use native.Mathlib.Omega.{arith}
 use lib.ListN.{length, drop, set, replicate, length-append, length-replicate, replicate-append-replicate}
 use lib.Seq.{sets, sets-eq, length-sets, take_at, drop_at, drop-append-add}
-use Rattle.spec_ntriples.specs.Dictionary.{Entry, entry, numberBytes, bytesOfEntry, bytesOfEntries, dictionaryBytes}
+use Rattle.spec_ntriples.specs.Dictionary.{Entry, entry, number_bytes, bytes_of_entry, bytes_of_entries, dictionary_bytes}
 use Rattle.spec_ntriples.specs.inside.Entries.{Writable, Holds}
-use Rattle.spec.proofs.Each.{each_append, each-front}
+use Rattle.spec.proofs.Each.{each_append, each_front}
 use Rattle.spec_ntriples.proofs.EntryBytes.{length-number, length-entry}
 use Rattle.ntriples_text.proofs.Writing.{sets-append}
 use Rattle.dictionary_entries.proofs.Standing.{entries-append, entries-length}
-use Rattle.dictionary_entries.proofs.Held.{held-within, held-split}
+use Rattle.dictionary_entries.proofs.Held.{held-within, held_split}
 
 -- ---- byte by byte
 
 -- A number's lowest byte, and the others behind it.
-pub number_more : (out : List ℕ) (at n k rest : ℕ) → k < n → sets (set out (at + k) (rest % 256)) (at + (k + 1)) (numberBytes (n - (k + 1)) (rest / 256)) ≡ sets out (at + k) (numberBytes (n - k) rest)
-unfolding numberBytes
+pub number_more : (out : List ℕ) (at n k rest : ℕ) → k < n → sets (set out (at + k) (rest % 256)) (at + (k + 1)) (number_bytes (n - (k + 1)) (rest / 256)) ≡ sets out (at + k) (number_bytes (n - k) rest)
+unfolding number_bytes
 number_more out at n k rest h =
     let a : at + (k + 1) ≡ suc (at + k) = omega arith in
     let b : n - k ≡ suc (n - (k + 1)) = omega arith in
     rw (a, b)
 
-pub number-end : (out : List ℕ) (at n k rest : ℕ) → n ≤ k → sets out (at + k) (numberBytes (n - k) rest) ≡ out
-unfolding numberBytes
-number-end out at n k rest h = let e : n - k ≡ 0 = omega arith in rw e
+pub number_end : (out : List ℕ) (at n k rest : ℕ) → n ≤ k → sets out (at + k) (number_bytes (n - k) rest) ≡ out
+unfolding number_bytes
+number_end out at n k rest h = let e : n - k ≡ 0 = omega arith in rw e
 
 -- One zero, and the others behind it.
-pub zeros-more : (bs : List ℕ) (i end : ℕ) → i < end → sets (set bs i 0) (i + 1) (replicate (end - (i + 1)) 0) ≡ sets bs i (replicate (end - i) 0)
-zeros-more bs i end h =
+pub zeros_more : (bs : List ℕ) (i end : ℕ) → i < end → sets (set bs i 0) (i + 1) (replicate (end - (i + 1)) 0) ≡ sets bs i (replicate (end - i) 0)
+zeros_more bs i end h =
     let b : end - i ≡ suc (end - suc i) = omega arith in
     rw (add-one i, b)
 
-pub zeros-end : (bs : List ℕ) (i end : ℕ) → end ≤ i → sets bs i (replicate (end - i) 0) ≡ bs
-zeros-end bs i end h = let e : end - i ≡ 0 = omega arith in rw e
+pub zeros_end : (bs : List ℕ) (i end : ℕ) → end ≤ i → sets bs i (replicate (end - i) 0) ≡ bs
+zeros_end bs i end h = let e : end - i ≡ 0 = omega arith in rw e
 
 -- ---- bytes over others
 
@@ -50,79 +50,79 @@ sets_over front bs cs vs at p q =
 -- ---- an entry behind others
 
 -- The parts of an entry, written one behind the other.
-pub entry-parts : (bs : List ℕ) (end : ℕ) (e : Entry) → sets (sets (sets bs end (numberBytes 4 e.term)) (end + 4) (numberBytes 8 (length e.text))) (end + 12) e.text ≡ sets bs end (bytesOfEntry e)
-unfolding bytesOfEntry
-entry-parts bs end e =
-    let a : end + length (numberBytes 4 e.term) ≡ end + 4 = omega (arith, length-number 4 e.term) in
-    let b : end + 4 + length (numberBytes 8 (length e.text)) ≡ end + 12 = omega (arith, length-number 8 (length e.text)) in
+pub entry_parts : (bs : List ℕ) (end : ℕ) (e : Entry) → sets (sets (sets bs end (number_bytes 4 e.term)) (end + 4) (number_bytes 8 (length e.text))) (end + 12) e.text ≡ sets bs end (bytes_of_entry e)
+unfolding bytes_of_entry
+entry_parts bs end e =
+    let a : end + length (number_bytes 4 e.term) ≡ end + 4 = omega (arith, length-number 4 e.term) in
+    let b : end + 4 + length (number_bytes 8 (length e.text)) ≡ end + 12 = omega (arith, length-number 8 (length e.text)) in
     sym
-    (sets-append bs end (numberBytes 4 e.term) (numberBytes 8 (length e.text) ++ e.text)
-    ∙ rw a (sets-append (sets bs end (numberBytes 4 e.term)) (end + 4) (numberBytes 8 (length e.text)) e.text ∙ rw b))
+    (sets-append bs end (number_bytes 4 e.term) (number_bytes 8 (length e.text) ++ e.text)
+    ∙ rw a (sets-append (sets bs end (number_bytes 4 e.term)) (end + 4) (number_bytes 8 (length e.text)) e.text ∙ rw b))
 
 module _ (bs : List ℕ) (end : ℕ) (es : List Entry) (H : Holds bs end es) (e : Entry) (w : Writable e) (room : end + 12 + length e.text ≤ length bs) where
   abbrev after : List ℕ
-  after = sets bs end (bytesOfEntry e)
+  after = sets bs end (bytes_of_entry e)
 
   abbrev free : ℕ
-  free = length bs - length (bytesOfEntries es)
+  free = length bs - length (bytes_of_entries es)
 
-  zeros-split : replicate {A = ℕ} free 0 ≡ replicate {A = ℕ} (length (bytesOfEntry e)) 0 ++ replicate {A = ℕ} (free - length (bytesOfEntry e)) 0
-  zeros-split =
-      let q : free ≡ length (bytesOfEntry e) + (free - length (bytesOfEntry e)) = omega (arith, length-entry e, H.ends) in
-      ap (λ (n : ℕ). replicate {A = ℕ} n 0) q ∙ sym (replicate-append-replicate {A = ℕ} (length (bytesOfEntry e)) (free - length (bytesOfEntry e)) 0)
+  zeros_split : replicate {A = ℕ} free 0 ≡ replicate {A = ℕ} (length (bytes_of_entry e)) 0 ++ replicate {A = ℕ} (free - length (bytes_of_entry e)) 0
+  zeros_split =
+      let q : free ≡ length (bytes_of_entry e) + (free - length (bytes_of_entry e)) = omega (arith, length-entry e, H.ends) in
+      ap (λ (n : ℕ). replicate {A = ℕ} n 0) q ∙ sym (replicate-append-replicate {A = ℕ} (length (bytes_of_entry e)) (free - length (bytes_of_entry e)) 0)
 
-  split : bs ≡ bytesOfEntries es ++ (replicate {A = ℕ} (length (bytesOfEntry e)) 0 ++ replicate {A = ℕ} (free - length (bytesOfEntry e)) 0)
-  unfolding dictionaryBytes
-  split = H.same ∙ ap (λ (l : List ℕ). bytesOfEntries es ++ l) zeros-split
+  split : bs ≡ bytes_of_entries es ++ (replicate {A = ℕ} (length (bytes_of_entry e)) 0 ++ replicate {A = ℕ} (free - length (bytes_of_entry e)) 0)
+  unfolding dictionary_bytes
+  split = H.same ∙ ap (λ (l : List ℕ). bytes_of_entries es ++ l) zeros_split
 
-  with-entry : bytesOfEntries (es ++ (e ∷ [])) ≡ bytesOfEntries es ++ bytesOfEntry e
-  unfolding bytesOfEntries
-  with-entry = entries-append es (e ∷ []) ∙ ap (λ (l : List ℕ). bytesOfEntries es ++ l) (append-nil (bytesOfEntry e))
+  with-entry : bytes_of_entries (es ++ (e ∷ [])) ≡ bytes_of_entries es ++ bytes_of_entry e
+  unfolding bytes_of_entries
+  with-entry = entries-append es (e ∷ []) ∙ ap (λ (l : List ℕ). bytes_of_entries es ++ l) (append-nil (bytes_of_entry e))
 
-  after_is : after ≡ bytesOfEntries es ++ (bytesOfEntry e ++ replicate {A = ℕ} (free - length (bytesOfEntry e)) 0)
+  after_is : after ≡ bytes_of_entries es ++ (bytes_of_entry e ++ replicate {A = ℕ} (free - length (bytes_of_entry e)) 0)
   after_is =
-      ap (λ (l : List ℕ). sets l end (bytesOfEntry e)) split
-      ∙ sets_over (bytesOfEntries es) (replicate {A = ℕ} (length (bytesOfEntry e)) 0) (replicate {A = ℕ} (free - length (bytesOfEntry e)) 0) (bytesOfEntry e) end H.ends (sym (length-replicate {A = ℕ} (length (bytesOfEntry e)) 0))
+      ap (λ (l : List ℕ). sets l end (bytes_of_entry e)) split
+      ∙ sets_over (bytes_of_entries es) (replicate {A = ℕ} (length (bytes_of_entry e)) 0) (replicate {A = ℕ} (free - length (bytes_of_entry e)) 0) (bytes_of_entry e) end H.ends (sym (length-replicate {A = ℕ} (length (bytes_of_entry e)) 0))
 
   -- With the entry written behind them, the bytes hold the entries and this one.
   pub held_more : Holds after (end + 12 + length e.text) (es ++ (e ∷ []))
-  unfolding dictionaryBytes
+  unfolding dictionary_bytes
   held_more =
-      let l : length after ≡ length bs = length-sets bs end (bytesOfEntry e) in
-      let n : length (bytesOfEntries (es ++ (e ∷ []))) ≡ length (bytesOfEntries es) + length (bytesOfEntry e) = ap length with-entry ∙ length-append (bytesOfEntries es) (bytesOfEntry e) in
-      let z : free - length (bytesOfEntry e) ≡ length after - length (bytesOfEntries (es ++ (e ∷ []))) = omega arith in
+      let l : length after ≡ length bs = length-sets bs end (bytes_of_entry e) in
+      let n : length (bytes_of_entries (es ++ (e ∷ []))) ≡ length (bytes_of_entries es) + length (bytes_of_entry e) = ap length with-entry ∙ length-append (bytes_of_entries es) (bytes_of_entry e) in
+      let z : free - length (bytes_of_entry e) ≡ length after - length (bytes_of_entries (es ++ (e ∷ []))) = omega arith in
       record {
-        same = after_is ∙ sym (append_assoc (bytesOfEntries es) (bytesOfEntry e) (replicate {A = ℕ} (free - length (bytesOfEntry e)) 0)) ∙ rw (z, with-entry);
+        same = after_is ∙ sym (append_assoc (bytes_of_entries es) (bytes_of_entry e) (replicate {A = ℕ} (free - length (bytes_of_entry e)) 0)) ∙ rw (z, with-entry);
         ends = omega (arith, n, length-entry e, H.ends);
         writable = each_append Writable es (e ∷ []) H.writable (w, tt);
       }
 
 -- The same by the parts of the entry.
 pub entry-written : (bs first second third : List ℕ) (end term n r : ℕ) (text : List ℕ) (es : List Entry) → Holds bs end es → 0 < term → term < 2 ^ 32 → n < 2 ^ 64 → n ≡ length text → end + 12 + n ≤ length bs
-    → first ≡ sets bs end (numberBytes 4 term) → second ≡ sets first (end + 4) (numberBytes 8 n) → third ≡ sets second (end + 12) text → r ≡ end + 12 + length text
+    → first ≡ sets bs end (number_bytes 4 term) → second ≡ sets first (end + 4) (number_bytes 8 n) → third ≡ sets second (end + 12) text → r ≡ end + 12 + length text
     → Holds third r (es ++ (entry term text ∷ []))
 entry-written bs first second third end term n r text es H a b c q room f s t i =
     let e : Entry = entry term text in
     let w : Writable e = record { some = a; word = b; size = omega arith } in
-    let u : third ≡ sets bs end (bytesOfEntry e) = t ∙ rw (s, f, q) (entry-parts bs end e) in
+    let u : third ≡ sets bs end (bytes_of_entry e) = t ∙ rw (s, f, q) (entry_parts bs end e) in
     rw (u, i) (held_more bs end es H e w (omega arith))
 
 -- ---- entries taken away
 
 -- With zeros over the last, the bytes hold the entries before them.
-pub held-less : (bs : List ℕ) (end from : ℕ) (ds fs : List Entry) → Holds bs end (ds ++ fs) → from ≡ length (bytesOfEntries ds) → Holds (sets bs from (replicate (end - from) 0)) from ds
-unfolding dictionaryBytes
+pub held-less : (bs : List ℕ) (end from : ℕ) (ds fs : List Entry) → Holds bs end (ds ++ fs) → from ≡ length (bytes_of_entries ds) → Holds (sets bs from (replicate (end - from) 0)) from ds
+unfolding dictionary_bytes
 held-less bs end from ds fs H p =
-    let n : length (bytesOfEntries (ds ++ fs)) ≡ length (bytesOfEntries ds) + length (bytesOfEntries fs) = entries-length ds fs in
-    let free : ℕ = length bs - length (bytesOfEntries (ds ++ fs)) in
-    let m : length (replicate {A = ℕ} (end - from) 0) ≡ length (bytesOfEntries fs) = length-replicate (end - from) zero ∙ omega (arith, H.ends) in
+    let n : length (bytes_of_entries (ds ++ fs)) ≡ length (bytes_of_entries ds) + length (bytes_of_entries fs) = entries-length ds fs in
+    let free : ℕ = length bs - length (bytes_of_entries (ds ++ fs)) in
+    let m : length (replicate {A = ℕ} (end - from) 0) ≡ length (bytes_of_entries fs) = length-replicate (end - from) zero ∙ omega (arith, H.ends) in
     let l : length (sets bs from (replicate (end - from) 0)) ≡ length bs = length-sets bs from (replicate (end - from) 0) in
-    let z : (end - from) + free ≡ length (sets bs from (replicate (end - from) 0)) - length (bytesOfEntries ds) = omega (arith, H.ends, held-within bs end (ds ++ fs) H) in
+    let z : (end - from) + free ≡ length (sets bs from (replicate (end - from) 0)) - length (bytes_of_entries ds) = omega (arith, H.ends, held-within bs end (ds ++ fs) H) in
     record {
       same =
-          ap (λ (b : List ℕ). sets b from (replicate (end - from) 0)) (held-split bs end ds fs H from p)
-          ∙ sets_over (bytesOfEntries ds) (bytesOfEntries fs) (replicate free 0) (replicate (end - from) 0) from p m
-          ∙ ap (λ (b : List ℕ). bytesOfEntries ds ++ b) (replicate-append-replicate (end - from) free 0 ∙ ap (λ (k : ℕ). replicate k 0) z);
+          ap (λ (b : List ℕ). sets b from (replicate (end - from) 0)) (held_split bs end ds fs H from p)
+          ∙ sets_over (bytes_of_entries ds) (bytes_of_entries fs) (replicate free 0) (replicate (end - from) 0) from p m
+          ∙ ap (λ (b : List ℕ). bytes_of_entries ds ++ b) (replicate-append-replicate (end - from) free 0 ∙ ap (λ (k : ℕ). replicate k 0) z);
       ends = p;
-      writable = each-front Writable ds fs H.writable;
+      writable = each_front Writable ds fs H.writable;
     }

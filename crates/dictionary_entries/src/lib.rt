@@ -2,7 +2,7 @@
 ghost use Rattle.std.specs.Prelude.{◌≡◌, List, [], ◌∷◌, ◌++◌, ◌+◌, ◌≤◌, ◌<◌, length};
 ghost use Rattle.std.proofs.lemmas.List.Edits.{sets};
 ghost use Rattle.spec_ntriples.specs.Texts.{Text};
-ghost use Rattle.spec_ntriples.specs.Dictionary.{Entry, entry, numberBytes, bytesOfEntries};
+ghost use Rattle.spec_ntriples.specs.Dictionary.{Entry, entry, number_bytes, bytes_of_entries};
 ghost use Rattle.spec_ntriples.specs.inside.Entries.{Holds};
 ghost use Rattle.ntriples_bytes.specs.inside.Places.{HasText};
 ghost use Rattle.ntriples_text.specs.inside.Tokens.{HasRoom};
@@ -14,7 +14,7 @@ use ntriples_text_written::write_text;
 // Writes a number in n bytes from an index on, the lowest first.
 fn write_number(out: &mut [u8], at: usize, n: usize, number: usize)
     requires { at + n ≤ length out.old }
-    ensures { out.new ≡ sets out.old at (numberBytes n number) }
+    ensures { out.new ≡ sets out.old at (number_bytes n number) }
 {
     let mut rest = number;
     let mut k = 0;
@@ -47,7 +47,7 @@ pub fn write_entry(
 // Takes away the entries of a dictionary that stand between an index and their end: their bytes are zero again.
 pub fn take_back(dictionary: &mut [u8], from: usize, end: usize)
     requires { end ≤ length dictionary.old }
-    ensures { (ds fs : List Entry) → Holds dictionary.old end (ds ++ fs) → from ≡ length (bytesOfEntries ds) → Holds dictionary.new from ds }
+    ensures { (ds fs : List Entry) → Holds dictionary.old end (ds ++ fs) → from ≡ length (bytes_of_entries ds) → Holds dictionary.new from ds }
 {
     let mut i = from;
     while i < end {

@@ -5,10 +5,10 @@ use mathlib.Core.List.{List}
 use native.Mathlib.Decide.{ℕ_discrete}
 use native.Mathlib.Omega.{arith}
 use lib.ListN.{length, get_or}
-use Rattle.dictionary_bytes.specs.inside.Entries.{textAt}
+use Rattle.dictionary_bytes.specs.inside.Entries.{text_at}
 use Rattle.dictionary_index.specs.inside.Index.{Passed, entry_of}
 use mathlib.Core.Bool.{Bool, true, false}
-use Rattle.spec_ntriples.specs.Texts.{isSameText}
+use Rattle.spec_ntriples.specs.Texts.{is_same_text}
 use Rattle.dictionary_bytes.proofs.Same.{other_differ}
 
 module _ (slots bs : List ℕ) (first : ℕ) (text : List ℕ) (home : ℕ) where
@@ -17,8 +17,8 @@ module _ (slots bs : List ℕ) (first : ℕ) (text : List ℕ) (home : ℕ) wher
   passed_none j h k = absurd (omega arith)
 
   -- A slot more, which leads to another text.
-  pub passed-more : (s : ℕ) → Passed slots bs first text home s → 0 < get_or slots s 0 → (textAt bs (entry_of first (get_or slots s 0)) ≡ text → ⊥) → Passed slots bs first text home (s + 1)
-  passed-more s p h e j k l = elim (ℕ_discrete j s) [
+  pub passed_more : (s : ℕ) → Passed slots bs first text home s → 0 < get_or slots s 0 → (text_at bs (entry_of first (get_or slots s 0)) ≡ text → ⊥) → Passed slots bs first text home (s + 1)
+  passed_more s p h e j k l = elim (ℕ_discrete j s) [
     | yes q ↦ rw q (h, e)
     | no n ↦ p j k (omega (arith, n))
   ]

@@ -1,9 +1,9 @@
 // The index of a segment of a dictionary's entries: words that lead from a text to its entry, by open addressing without wrapping around.
 ghost use Rattle.std.specs.Prelude.{◌≡◌, ℕ, ◌+◌, ◌≤◌, length, take, drop};
-ghost use Rattle.spec_ntriples.specs.Texts.{Text, isSameText};
+ghost use Rattle.spec_ntriples.specs.Texts.{Text, is_same_text};
 ghost use Rattle.ntriples_bytes.specs.inside.Places.{HasText};
 ghost use Rattle.ntriples_text.specs.inside.Tokens.{IsToken};
-ghost use Rattle.dictionary_bytes.specs.inside.Entries.{lengthAt, textAt, placeAt};
+ghost use Rattle.dictionary_bytes.specs.inside.Entries.{length_at, text_at, place_at};
 ghost use Rattle.dictionary_index.specs.inside.Index.{LeadWithin, Searched, Index, IndexTo, EnteredAt, AreZero, AreEntries, IsSegment};
 
 use dictionary_bytes::{HEADER, has_text, length_at};
@@ -75,7 +75,7 @@ pub fn find_text(
 pub fn enter(slots: &mut [u32], dictionary: &[u8], first: usize, at: usize) -> Entered
     requires { IndexTo slots.old dictionary.now first at }
     ensures same_length { length slots.new ≡ length slots.old }
-    ensures entered { (k : ℕ) → Index slots.old dictionary.now first k → at ≡ placeAt dictionary.now first k → EnteredAt slots.old slots.new dictionary.now first k at result }
+    ensures entered { (k : ℕ) → Index slots.old dictionary.now first k → at ≡ place_at dictionary.now first k → EnteredAt slots.old slots.new dictionary.now first k at result }
 {
     let n = length_at(dictionary, at);
     let from = at + HEADER;
@@ -92,9 +92,9 @@ pub fn enter(slots: &mut [u32], dictionary: &[u8], first: usize, at: usize) -> E
 
 // Whether the entry at an index has the text of a term in a line.
 fn has_token(dictionary: &[u8], at: usize, line: &[u8], from: usize, end: usize) -> bool
-    requires at_in_bounds { at + 12 + lengthAt dictionary.now at ≤ length dictionary.now }
+    requires at_in_bounds { at + 12 + length_at dictionary.now at ≤ length dictionary.now }
     requires token { IsToken line.now from end }
-    ensures { (t : Text) → HasText line.now from end t → result ≡ isSameText t.bytes (textAt dictionary.now at) }
+    ensures { (t : Text) → HasText line.now from end t → result ≡ is_same_text t.bytes (text_at dictionary.now at) }
 {
     let n = length_at(dictionary, at);
     is_text(line, from, end, dictionary, at + HEADER, n)

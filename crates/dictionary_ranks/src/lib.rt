@@ -2,11 +2,11 @@
 // for every so many entries.
 ghost use Rattle.std.specs.Prelude.{◌≡◌, true, List, ℕ, ◌≤◌, ◌<◌, ltb, length};
 ghost use Rattle.spec.specs.Terms.{kind, number};
-ghost use Rattle.spec_ntriples.specs.Dictionary.{entries, isDictionary, firstNumber};
-ghost use Rattle.spec_ntriples.specs.Sights.{textIn};
+ghost use Rattle.spec_ntriples.specs.Dictionary.{entries, is_dictionary, first_number};
+ghost use Rattle.spec_ntriples.specs.Sights.{text_in};
 ghost use Rattle.dictionary_bytes.specs.inside.Entries.{FilledBy};
 ghost use Rattle.dictionary_numbers.specs.inside.Numbers.{number_of};
-ghost use Rattle.dictionary_ranks.specs.inside.Ranks.{rank_of, stride_of, slotFor, HasNumber};
+ghost use Rattle.dictionary_ranks.specs.inside.Ranks.{rank_of, stride_of, slot_for, HasNumber};
 
 use dictionary_bytes::Filled;
 use dictionary_numbers::{NUMBERS, number_of};
@@ -33,7 +33,7 @@ pub fn no_places() -> [usize; ALL_PLACES]
 
 // The first number of a kind.
 fn first_number(kind: u32) -> u32
-    ensures { result ≡ firstNumber kind }
+    ensures { result ≡ first_number kind }
 {
     if kind == 0 {
         return FIRST_URI;
@@ -43,7 +43,7 @@ fn first_number(kind: u32) -> u32
 
 // Whether an entry has a term, by the numbers of its kind that are taken.
 pub fn has_entry(f: Filled, term: u32) -> bool
-    ensures { (bs : List ℕ) → isDictionary bs ≡ true → FilledBy bs f (entries bs) → result ≡ ltb 0 (length (textIn (entries bs) term)) }
+    ensures { (bs : List ℕ) → is_dictionary bs ≡ true → FilledBy bs f (entries bs) → result ≡ ltb 0 (length (text_in (entries bs) term)) }
 {
     let kind = term / NUMBERS;
     let number = term % NUMBERS;
@@ -58,7 +58,7 @@ pub fn has_entry(f: Filled, term: u32) -> bool
 
 // The rank of a term: how many terms of its kind are before it.
 pub fn rank_of(term: u32) -> usize
-    requires { firstNumber (kind term) ≤ number term }
+    requires { first_number (kind term) ≤ number term }
     ensures { result ≡ rank_of term }
 {
     (term % NUMBERS - first_number(term / NUMBERS)) as usize
@@ -66,7 +66,7 @@ pub fn rank_of(term: u32) -> usize
 
 // For how many entries of a kind that has some one place is kept: the fewest for which the places suffice.
 pub fn stride_of(f: Filled, kind: u32) -> usize
-    requires { firstNumber kind < number_of f kind }
+    requires { first_number kind < number_of f kind }
     ensures { result ≡ stride_of f kind }
 {
     (number_of(f, kind) - first_number(kind) - 1) as usize / PLACES + 1
@@ -75,7 +75,7 @@ pub fn stride_of(f: Filled, kind: u32) -> usize
 // The slot for a term: it has the place of the last entry of its kind with one that is not behind the term's.
 pub fn slot_for(f: Filled, term: u32) -> usize
     requires { HasNumber f term }
-    ensures { (result ≡ slotFor f term) × (result < 49152) }
+    ensures { (result ≡ slot_for f term) × (result < 49152) }
 {
     let kind = term / NUMBERS;
     kind as usize * PLACES + rank_of(term) / stride_of(f, kind)

@@ -1,6 +1,6 @@
 // Whether the texts of entries stand in an indexed segment before them.
 ghost use Rattle.std.specs.Prelude.{ℕ, ◌+◌, ◌≤◌, length};
-ghost use Rattle.dictionary_bytes.specs.inside.Entries.{lengthAt};
+ghost use Rattle.dictionary_bytes.specs.inside.Entries.{length_at};
 ghost use Rattle.dictionary_index.specs.inside.Index.{LeadWithin, Index, AreEntries};
 ghost use Rattle.dictionary_repeats.specs.inside.Repeated.{IsRepeated, AreRepeated};
 
@@ -11,7 +11,7 @@ use dictionary_index::{Search, find_text};
 // Whether an entry of an indexed segment that begins at first has the text of the entry at an index.
 fn is_repeated(slots: &[u32], dictionary: &[u8], first: usize, at: usize) -> bool
     requires lead_within { LeadWithin slots.now dictionary.now first }
-    requires at_in_bounds { at + 12 + lengthAt dictionary.now at ≤ length dictionary.now }
+    requires at_in_bounds { at + 12 + length_at dictionary.now at ≤ length dictionary.now }
     ensures { (k : ℕ) → Index slots.now dictionary.now first k → IsRepeated dictionary.now first k at result }
 {
     let n = length_at(dictionary, at);

@@ -1,7 +1,7 @@
 // A text searched for in the index of one segment of a dictionary's entries, and the term of the entry that has it.
 ghost use Rattle.std.specs.Prelude.{◌≡◌, List};
 ghost use Rattle.spec_ntriples.specs.Texts.{Text};
-ghost use Rattle.spec_ntriples.specs.Dictionary.{Entry, termIn};
+ghost use Rattle.spec_ntriples.specs.Dictionary.{Entry, term_in};
 ghost use Rattle.ntriples_bytes.specs.inside.Places.{HasText};
 ghost use Rattle.ntriples_text.specs.inside.Tokens.{IsToken};
 ghost use Rattle.dictionary_hash.specs.inside.Hashes.{home_of};
@@ -41,7 +41,7 @@ pub fn find_term(
 ) -> u32
     requires lead_within { LeadWithin slots.now dictionary.now first }
     requires token { IsToken line.now from to }
-    ensures { (es : List Entry) (t : Text) → IndexOf slots.now dictionary.now first es → HasText line.now from to t → result ≡ termIn es t.bytes }
+    ensures { (es : List Entry) (t : Text) → IndexOf slots.now dictionary.now first es → HasText line.now from to t → result ≡ term_in es t.bytes }
 {
     match search_index(slots, dictionary, first, line, from, to) {
         Search::Found(at) => term_at(dictionary, at),

@@ -10,16 +10,16 @@ use lib.Dec.{eqb, ltb}
 use borrow.Author.Tests.{ltb-true}
 use Rattle.spec_ntriples.specs.computed.Decoded.{Decoded, broken, decoded, decode}
 use Rattle.spec_ntriples.specs.Characters.{codes}
-use Rattle.spec_ntriples.specs.Texts.{Text, isSameText}
-use Rattle.spec_ntriples.specs.computed.Lines.{readObject}
-use Rattle.spec_ntriples.specs.Dictionary.{kind_of, vocabularyOf}
-use Rattle.spec_ntriples.specs.computed.Canonical.{is_none, givesItself, decodesToItself, isCanonical}
+use Rattle.spec_ntriples.specs.Texts.{Text, is_same_text}
+use Rattle.spec_ntriples.specs.computed.Lines.{read_object}
+use Rattle.spec_ntriples.specs.Dictionary.{kind_of, vocabulary_of}
+use Rattle.spec_ntriples.specs.computed.Canonical.{is_none, gives_itself, decodes_to_itself, is_canonical}
 use Rattle.spec_ntriples.proofs.Canonical.{canonical-text, text-kind}
-use Rattle.ntriples_bytes.specs.inside.Places.{charsAt, HasText}
-use Rattle.ntriples_bytes.specs.inside.Whole.{areChars}
-use Rattle.ntriples_bytes.proofs.Decoding.{at-start, first-at, chars-stand, chars-end}
-use Rattle.ntriples_terminals.specs.inside.Ends.{nowhere, behindRead, Ended}
-use Rattle.ntriples_lines.proofs.Lines.{Term, no-term, term_found, object-object}
+use Rattle.ntriples_bytes.specs.inside.Places.{chars_at, HasText}
+use Rattle.ntriples_bytes.specs.inside.Whole.{are_chars}
+use Rattle.ntriples_bytes.proofs.Decoding.{at_start, first-at, chars_stand, chars_end}
+use Rattle.ntriples_terminals.specs.inside.Ends.{nowhere, behind_read, Ended}
+use Rattle.ntriples_lines.proofs.Lines.{Term, no_term, term_found, object-object}
 use Rattle.ntriples_document.proofs.Counting.{CharsOf}
 use Rattle.ntriples_text.specs.inside.Tokens.{IsToken}
 use Rattle.ntriples_text_kind.proofs.Vocabulary.{place_none}
@@ -27,38 +27,38 @@ use Rattle.dictionary_bytes.proofs.Same.{lengths_differ}
 
 -- ---- whether a text is canonical
 
-no-chars : (t : List ℕ) (d : Decoded) → areChars d ≡ false → false ≡ decodesToItself t d
-unfolding areChars decodesToItself
-no-chars t broken h = refl
-no-chars t (decoded cs) h = let z : ◌≡◌ {A = ℕ} 0 1 = cc in absurd (omega arith)
+no_chars : (t : List ℕ) (d : Decoded) → are_chars d ≡ false → false ≡ decodes_to_itself t d
+unfolding are_chars decodes_to_itself
+no_chars t broken h = refl
+no_chars t (decoded cs) h = let z : ◌≡◌ {A = ℕ} 0 1 = cc in absurd (omega arith)
 
 -- A text that is not UTF-8 is not canonical.
-pub broken-text : (t : List ℕ) → areChars (decode t) ≡ false → false ≡ isCanonical t
-unfolding isCanonical
-broken-text t h = no-chars t (decode t) h
+pub broken-text : (t : List ℕ) → are_chars (decode t) ≡ false → false ≡ is_canonical t
+unfolding is_canonical
+broken-text t h = no_chars t (decode t) h
 
 module _ (t : List ℕ) (C : CharsOf (decode t)) where
   -- Nor is one from which no term is read.
-  pub no_text : behindRead (readObject (charsAt t 0)) ≡ nowhere → false ≡ isCanonical t
-  unfolding isCanonical decodesToItself givesItself
-  no_text e = rw (C.same, no-term readObject t 0 C.chars (at-start t C.chars C.same) e)
+  pub no_text_lem : behind_read (read_object (chars_at t 0)) ≡ nowhere → false ≡ is_canonical t
+  unfolding is_canonical decodes_to_itself gives_itself
+  no_text_lem e = rw (C.same, no_term read_object t 0 C.chars (at_start t C.chars C.same) e)
 
-  module _ (end : ℕ) (E : Ended t (behindRead (readObject (charsAt t 0))) end) where
+  module _ (end : ℕ) (E : Ended t (behind_read (read_object (chars_at t 0))) end) where
     -- The term that is read from it.
-    pub term-read : Term readObject t 0 end C.chars
-    term-read = term_found readObject t 0 C.chars (at-start t C.chars C.same) object-object end E
+    pub term-read : Term read_object t 0 end C.chars
+    term-read = term_found read_object t 0 C.chars (at_start t C.chars C.same) object-object end E
 
     -- Nor is one behind whose term others stand.
-    pub more-text : end < length t → false ≡ isCanonical t
-    unfolding isCanonical decodesToItself givesItself is_none
+    pub more-text : end < length t → false ≡ is_canonical t
+    unfolding is_canonical decodes_to_itself gives_itself is_none
     more-text h =
-        let F = first-at t end (charsAt t end) h (chars-stand E.from) in
+        let F = first-at t end (chars_at t end) h (chars_stand E.from) in
         rw (C.same, term-read.reads, F.same)
 
     -- One whose term goes to its end is canonical where that has its text.
-    pub whole-text : length t ≤ end → isSameText term-read.text.bytes (take (length t) (drop 0 t)) ≡ isCanonical t
-    unfolding isCanonical decodesToItself givesItself is_none
-    whole-text h = rw (C.same, term-read.reads, chars-end t end h, take-length t)
+    pub whole-text : length t ≤ end → is_same_text term-read.text.bytes (take (length t) (drop 0 t)) ≡ is_canonical t
+    unfolding is_canonical decodes_to_itself gives_itself is_none
+    whole-text h = rw (C.same, term-read.reads, chars_end t end h, take-length t)
 
 -- ---- canonical texts
 
@@ -69,28 +69,28 @@ pub record Itself (t : List ℕ) : Type 0 where
   pub same : term.bytes ≡ t
   pub kind : kind_of t ≡ term.kind
 
-pub itself : (t : List ℕ) → isCanonical t ≡ true → Itself t
+pub itself : (t : List ℕ) → is_canonical t ≡ true → Itself t
 unfolding decode
 itself t h =
     let C = (canonical-text t).0 h in
     let e : length t ≤ length t = omega arith in
     record {
       term = C.term;
-      has = record { chars = C.chars; rest = []; starts = at-start t C.chars C.decodes; reads = C.reads; behind = record { within = e; chars = rw (drop_of_length-le t e) } };
+      has = record { chars = C.chars; rest = []; starts = at_start t C.chars C.decodes; reads = C.reads; behind = record { within = e; chars = rw (drop_of_length-le t e) } };
       same = C.same;
       kind = rw C.same at (text-kind C.chars C.term [] C.reads);
     }
 
-pub is-token : (t : List ℕ) → isCanonical t ≡ true → IsToken t 0 (length t)
-is-token t h = let I = itself t h in record { text = I.term; has = I.has }
+pub is_token : (t : List ℕ) → is_canonical t ≡ true → IsToken t 0 (length t)
+is_token t h = let I = itself t h in record { text = I.term; has = I.has }
 
-module _ (t : List ℕ) (h : isCanonical t ≡ true) where
+module _ (t : List ℕ) (h : is_canonical t ≡ true) where
   -- What holds of its term's text holds of it.
   pub own-kind : (r : ℕ) → ((u : Text) → HasText t 0 (length t) u → r ≡ u.kind) → r ≡ kind_of t
   own-kind r f = let I = itself t h in f I.term I.has ∙ sym I.kind
 
-  pub own-vocabulary : (r : ℕ) → ((u : Text) → HasText t 0 (length t) u → r ≡ vocabularyOf u.bytes) → eqb r 0 ≡ eqb (vocabularyOf t) 0
-  own-vocabulary r f = let I = itself t h in ap (λ (n : ℕ). eqb n 0) (f I.term I.has ∙ ap vocabularyOf I.same)
+  pub own_vocabulary : (r : ℕ) → ((u : Text) → HasText t 0 (length t) u → r ≡ vocabulary_of u.bytes) → eqb r 0 ≡ eqb (vocabulary_of t) 0
+  own_vocabulary r f = let I = itself t h in ap (λ (n : ℕ). eqb n 0) (f I.term I.has ∙ ap vocabulary_of I.same)
 
 -- ---- texts of other lengths than the vocabulary's
 
@@ -99,11 +99,11 @@ either true b n e f g m h k q = omega (arith, f refl, h, q)
 either false b n e f g m h k q = omega (arith, g e, k, q)
 
 -- A text that is shorter or longer is none of it.
-pub no-vocabulary : (t : List ℕ) → (ltb (length t) 44 || ltb 52 (length t)) ≡ true → true ≡ eqb (vocabularyOf t) 0
+pub no_vocabulary : (t : List ℕ) → (ltb (length t) 44 || ltb 52 (length t)) ≡ true → true ≡ eqb (vocabulary_of t) 0
 unfolding codes
-no-vocabulary t e =
+no_vocabulary t e =
     let other : (m : ℕ) → 44 ≤ m → m ≤ 52 → length t ≡ m → ⊥ = either (ltb (length t) 44) (ltb 52 (length t)) (length t) e (ltb-true (length t) 44) (ltb-true 52 (length t)) in
-    let differ : (u : List ℕ) → 44 ≤ length u → length u ≤ 52 → isSameText t u ≡ false = λ u h k. lengths_differ t u (other (length u) h k) in
+    let differ : (u : List ℕ) → 44 ≤ length u → length u ≤ 52 → is_same_text t u ≡ false = λ u h k. lengths_differ t u (other (length u) h k) in
     ap (λ (n : ℕ). eqb n 0)
     (place_none t _ _ _ _ _
     (differ (codes "<http://www.w3.org/1999/02/22-rdf-syntax-ns#type>") (omega arith) (omega arith))

@@ -1,7 +1,7 @@
 // The texts of a dictionary's entries: whether a text is canonical, its kind, and whether it is one of the vocabulary.
 ghost use Rattle.std.specs.Prelude.{◌≡◌, true, ◌&&◌, eqb};
-ghost use Rattle.spec_ntriples.specs.Dictionary.{vocabularyOf, kind_of};
-ghost use Rattle.spec_ntriples.specs.computed.Canonical.{isCanonical};
+ghost use Rattle.spec_ntriples.specs.Dictionary.{vocabulary_of, kind_of};
+ghost use Rattle.spec_ntriples.specs.computed.Canonical.{is_canonical};
 
 use ntriples_bytes::is_utf8;
 use ntriples_ends::object_end;
@@ -16,7 +16,7 @@ const LONGEST: usize = 52;
 
 // Whether a text is canonical: read as a term, it is whole and gives itself.
 pub fn is_canonical(text: &[u8]) -> bool
-    ensures { result ≡ isCanonical text.now }
+    ensures { result ≡ is_canonical text.now }
 {
     if !is_utf8(text) {
         return false;
@@ -34,8 +34,8 @@ pub fn is_canonical(text: &[u8]) -> bool
 
 // Whether a canonical text is none of the vocabulary. Most are by their length alone.
 fn is_no_vocabulary(text: &[u8]) -> bool
-    requires { isCanonical text.now ≡ true }
-    ensures { result ≡ eqb (vocabularyOf text.now) 0 }
+    requires { is_canonical text.now ≡ true }
+    ensures { result ≡ eqb (vocabulary_of text.now) 0 }
 {
     if (text.len() < SHORTEST) | (LONGEST < text.len()) {
         return true;
@@ -45,7 +45,7 @@ fn is_no_vocabulary(text: &[u8]) -> bool
 
 // Whether a text is canonical and none of the vocabulary: one that an entry may have.
 pub fn is_own_text(text: &[u8]) -> bool
-    ensures { result ≡ (isCanonical text.now && eqb (vocabularyOf text.now) 0) }
+    ensures { result ≡ (is_canonical text.now && eqb (vocabulary_of text.now) 0) }
 {
     if is_canonical(text) {
         return is_no_vocabulary(text);
@@ -55,7 +55,7 @@ pub fn is_own_text(text: &[u8]) -> bool
 
 // The kind of a canonical text: 0 URI, 1 blank, 2 literal.
 pub fn text_kind(text: &[u8]) -> u32
-    requires { isCanonical text.now ≡ true }
+    requires { is_canonical text.now ≡ true }
     ensures { result ≡ kind_of text.now }
 {
     kind_of(text, 0, text.len())

@@ -3,6 +3,6 @@ use mathlib.Core.Path.{refl}
 use Rattle.examples.specs.inside.Compute.{compute}
 use Rattle.examples.specs.Examples.{AllShown, examples}
 
-pub examples-shown : AllShown examples
+pub examples_shown : AllShown examples
 unfolding compute
-examples-shown = (refl, ((refl, refl), ((refl, refl), (refl, (refl, (refl, (refl, (refl, ((refl, refl), ((refl, refl), (refl, tt)))))))))))
+examples_shown = (refl, ((refl, refl), ((refl, refl), (refl, (refl, (refl, (refl, (refl, ((refl, refl), ((refl, refl), (refl, tt)))))))))))

@@ -3,13 +3,13 @@
 use Rattle.std.specs.Prelude.{◌≡◌, List, [], ◌∷◌, ℕ, ◌+◌, ◌*◌, ◌^◌}
 use Rattle.spec.specs.declared.Triple.{Triple}
 use Rattle.spec.specs.Terms.{triple}
-use Rattle.spec.specs.Refusals.{firstRefusal, tripleChecks}
+use Rattle.spec.specs.Refusals.{first_refusal, triple_checks}
 use Rattle.spec.specs.Order.{remove}
-use Rattle.spec.specs.Saturation.{Kept, lowerAll}
+use Rattle.spec.specs.Saturation.{Kept, lower_all}
 use Rattle.spec.specs.computed.Saturated.{saturation}
 use Rattle.spec.specs.computed.Carried.{carried, support}
 use Rattle.spec.specs.inside.Counts.{lookup}
-use Rattle.spec.specs.Questions.{rewrittenGraph}
+use Rattle.spec.specs.Questions.{rewritten_graph}
 use Rattle.spec.specs.computed.Solutions.{answers}
 use Rattle.spec.specs.computed.Reformulated.{alternatives}
 
@@ -18,15 +18,15 @@ pub data Example : Type 0 where
   -- Under the statements S and the facts F, these facts are kept, with these supports.
   keeps : (S F : List Triple) → Kept → Example
   -- Under S and F, with the fact f withdrawn, these facts stay, with these supports.
-  keepsWithout : (S F : List Triple) → Triple → Kept → Example
+  keeps_without : (S F : List Triple) → Triple → Kept → Example
   -- Under S and F, a triple has this support.
   supports : (S F : List Triple) → Triple → ℕ → Example
   -- Under S, a fact carries these facts.
   carries : List Triple → Triple → List Triple → Example
   -- Under S and F, these atoms and head variables give these rows.
-  answersWith : (S F : List Triple) → List Triple → List ℕ → List (List ℕ) → Example
+  answers_with : (S F : List Triple) → List Triple → List ℕ → List (List ℕ) → Example
   -- Under S, an atom has these alternatives.
-  hasAlternatives : List Triple → Triple → List Triple → Example
+  has_alternatives : List Triple → Triple → List Triple → Example
   -- Of the questions 2 and 3, which an update is asked of its triple alone, the first "no" has this number. An update is asked 1
   -- before them, so that on a malformed store it gets 1, and is asked nothing behind the first "no".
   is_refused : Triple → ℕ → Example
@@ -34,12 +34,12 @@ pub data Example : Type 0 where
 -- What is claimed of an example.
 abbrev pub Shown : Example → Type 0
 Shown (keeps S F k) = saturation S F ≡ k
-Shown (keepsWithout S F f k) = (lowerAll (carried S f) (saturation S F) ≡ k) × (saturation S (remove f F) ≡ k)
+Shown (keeps_without S F f k) = (lower_all (carried S f) (saturation S F) ≡ k) × (saturation S (remove f F) ≡ k)
 Shown (supports S F t n) = (support S F t ≡ n) × (lookup (saturation S F) t ≡ n)
 Shown (carries S f ts) = carried S f ≡ ts
-Shown (answersWith S F ps vs rows) = answers (rewrittenGraph S F) ps vs ≡ rows
-Shown (hasAlternatives S a ts) = alternatives S a ≡ ts
-Shown (is_refused t n) = firstRefusal (tripleChecks t) ≡ n
+Shown (answers_with S F ps vs rows) = answers (rewritten_graph S F) ps vs ≡ rows
+Shown (has_alternatives S a ts) = alternatives S a ≡ ts
+Shown (is_refused t n) = first_refusal (triple_checks t) ≡ n
 
 -- What is claimed of a table of examples.
 abbrev pub AllShown : List Example → Type 0
@@ -73,16 +73,16 @@ examples =
     -- "32 1 17 has support 2."
     ∷ supports S F (triple 32 1 17) 2
     -- "With 32 1 16 withdrawn 7 rows stay, 32 1 17 with 1."
-    ∷ keepsWithout S F (triple 32 1 16) (
+    ∷ keeps_without S F (triple 32 1 16) (
     (triple 32 1 17, 1) ∷ (triple 32 1 18, 1) ∷ (triple 32 19 33, 1) ∷ (triple 32 20 33, 1)
     ∷ (triple 33 1 16, 1) ∷ (triple 33 1 17, 1) ∷ (triple 33 1 18, 1) ∷ []
     )
     -- "Variable 0 in "v0 1 17" gives 32, 33."
-    ∷ answersWith S F (triple v0 1 17 ∷ []) (v0 ∷ []) ((32 ∷ []) ∷ (33 ∷ []) ∷ [])
+    ∷ answers_with S F (triple v0 1 17 ∷ []) (v0 ∷ []) ((32 ∷ []) ∷ (33 ∷ []) ∷ [])
     -- "Alternatives: 0 0 0; 1 16 17; 2 19 17; 2 20 17; 3 19 17; 3 20 17."
-    ∷ hasAlternatives S (triple v0 1 17) (triple 0 0 0 ∷ triple 1 16 17 ∷ triple 2 19 17 ∷ triple 2 20 17 ∷ triple 3 19 17 ∷ triple 3 20 17 ∷ [])
+    ∷ has_alternatives S (triple v0 1 17) (triple 0 0 0 ∷ triple 1 16 17 ∷ triple 2 19 17 ∷ triple 2 20 17 ∷ triple 3 19 17 ∷ triple 3 20 17 ∷ [])
     -- ""v0 2 v1" gives 16 17 and 17 18", and document 02: it "gains 16 18."
-    ∷ answersWith S F (triple v0 2 v1 ∷ []) (v0 ∷ v1 ∷ []) ((16 ∷ 17 ∷ []) ∷ (16 ∷ 18 ∷ []) ∷ (17 ∷ 18 ∷ []) ∷ [])
+    ∷ answers_with S F (triple v0 2 v1 ∷ []) (v0 ∷ v1 ∷ []) ((16 ∷ 17 ∷ []) ∷ (16 ∷ 18 ∷ []) ∷ (17 ∷ 18 ∷ []) ∷ [])
     -- "32 20 0x80000001 carries three facts, none about the literal."
     ∷ carries S (triple 32 20 0x80000001) (triple 32 1 17 ∷ triple 32 1 18 ∷ triple 32 20 0x80000001 ∷ [])
     -- "Under 16 2 17 and 17 2 16, 32 1 16 carries two facts."

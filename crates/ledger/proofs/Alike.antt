@@ -6,7 +6,7 @@ use Rattle.spec.specs.declared.Triple.{Triple}
 use Rattle.spec.specs.declared.Tally.{Tally}
 use Rattle.spec.specs.declared.Change.{Change}
 use Rattle.spec.specs.declared.Change.TheVariants.{Addition, Withdrawal}
-use Rattle.spec.specs.Deliveries.{numberFields, number_of, tally, tallied, Update, runEntries, runMessage, delivered, conclude}
+use Rattle.spec.specs.Deliveries.{number_fields, number_of, tally, tallied, Update, run_entries, run_message, delivered, conclude}
 use Rattle.spec.specs.inside.Pairs.{progress}
 use Rattle.spec.specs.Messages.{Message}
 use Rattle.spec.specs.Ledger.{Call, lone, delivery, answered, resulted, Run, Entries, call, calls}
@@ -27,24 +27,24 @@ module _ {A B : Type 0} (R : A → B → Type 0) where
     pub tallies : g.1 ≡ h.1
 
   -- Entries keep them so.
-  entries-alike : (f : Update A) (g : Update B) → UpdatesAlike f g → (d : Change) (ts : List Triple) (p : A × Tally) (q : B × Tally) → StandAlike p q → StandAlike (runEntries (f d) ts p) (runEntries (g d) ts q)
-  unfolding runEntries
-  entries-alike f g u d [] p q s = s
-  entries-alike f g u d (t ∷ ts) p q s =
+  entries_alike : (f : Update A) (g : Update B) → UpdatesAlike f g → (d : Change) (ts : List Triple) (p : A × Tally) (q : B × Tally) → StandAlike p q → StandAlike (run_entries (f d) ts p) (run_entries (g d) ts q)
+  unfolding run_entries
+  entries_alike f g u d [] p q s = s
+  entries_alike f g u d (t ∷ ts) p q s =
       let a = f d p.0 t in
       let b = g d q.0 t in
       let r = u d p.0 q.0 t s.holders in
-      entries-alike f g u d ts (a.1, tallied a.0 p.1) (b.1, tallied b.0 q.1) (record { holders = r.leaves; tallies = ap₂ tallied r.gives s.tallies })
+      entries_alike f g u d ts (a.1, tallied a.0 p.1) (b.1, tallied b.0 q.1) (record { holders = r.leaves; tallies = ap₂ tallied r.gives s.tallies })
 
   module _ (f : Update A) (g : Update B) (u : UpdatesAlike f g) where
     -- So do the four sections of a message.
-    message-alike : (m : Message) (p : A × Tally) (q : B × Tally) → StandAlike p q → StandAlike (runMessage f m p) (runMessage g m q)
-    unfolding runMessage
+    message-alike : (m : Message) (p : A × Tally) (q : B × Tally) → StandAlike p q → StandAlike (run_message f m p) (run_message g m q)
+    unfolding run_message
     message-alike m p q s =
-        entries-alike f g u Addition m.factsAdded _ _
-        (entries-alike f g u Addition m.statementsAdded _ _
-        (entries-alike f g u Withdrawal m.factsWithdrawn _ _
-        (entries-alike f g u Withdrawal m.statementsWithdrawn p q s)))
+        entries_alike f g u Addition m.facts_added _ _
+        (entries_alike f g u Addition m.statements_added _ _
+        (entries_alike f g u Withdrawal m.facts_withdrawn _ _
+        (entries_alike f g u Withdrawal m.statements_withdrawn p q s)))
 
     -- A delivery that is asked the same, of the same message, gives the same and leaves related holders.
     pub conclude-alike : (n : ℕ) (m : Message) (a : A) (b : B) → R a b → Same (conclude f n m a) (conclude g n m b)
@@ -52,7 +52,7 @@ module _ {A B : Type 0} (R : A → B → Type 0) where
     conclude-alike (suc n) m a b r = record { gives = refl; leaves = r }
     conclude-alike zero m a b r =
         let s = message-alike m (progress a (tally 0 0 0)) (progress b (tally 0 0 0)) (record { holders = r; tallies = refl }) in
-        record { gives = ap (delivered 0 (number_of (numberFields m.fields))) s.tallies; leaves = s.holders }
+        record { gives = ap (delivered 0 (number_of (number_fields m.fields))) s.tallies; leaves = s.holders }
 
   -- Updates and deliveries go alike on related holders.
   pub record EntriesAlike (E : Entries A) (F : Entries B) : Type 0 where

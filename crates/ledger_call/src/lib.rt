@@ -3,7 +3,7 @@ ghost use Rattle.std.specs.Prelude.{◌≡◌, min, take, drop};
 ghost use Rattle.spec.specs.Tables.{tables};
 ghost use Rattle.spec.specs.Deliveries.{deliver};
 ghost use Rattle.spec.specs.Ledger.{answered, resulted};
-ghost use Rattle.ledger_call.specs.inside.Calls.{changeOf, call_of, givenWords, wordedCall};
+ghost use Rattle.ledger_call.specs.inside.Calls.{change_of, call_of, given_words, worded_call};
 
 use spec::{Answer, Change, Delivered, Triple};
 
@@ -14,7 +14,7 @@ const WITHDRAWAL: u32 = 1;
 
 // The words of an update's answer.
 fn update_words(answer: Answer) -> [u32; 5]
-    ensures { result ≡ givenWords (answered answer) }
+    ensures { result ≡ given_words (answered answer) }
 {
     match answer {
         Answer::Applied => [0, 0, 0, 0, 0],
@@ -25,7 +25,7 @@ fn update_words(answer: Answer) -> [u32; 5]
 
 // The words of a delivery's result.
 fn delivery_words(d: Delivered) -> [u32; 5]
-    ensures { result ≡ givenWords (resulted d) }
+    ensures { result ≡ given_words (resulted d) }
 {
     [d.refusal, d.number, d.applied, d.idle, d.refused]
 }
@@ -59,7 +59,7 @@ fn deliver_part(
 
 // The update that a kind of call asks for.
 fn change_of(kind: u32) -> Change
-    ensures { result ≡ changeOf kind }
+    ensures { result ≡ change_of kind }
 {
     if kind == ADDITION {
         return Change::Addition;
@@ -79,7 +79,7 @@ pub fn run_call(
     b: u32,
     c: u32,
 ) -> [u32; 5]
-    ensures { (result, tables statements.new facts.new kept.new supports.new) ≡ wordedCall (tables statements.old facts.old kept.old supports.old) (call_of bytes.now kind a b c) }
+    ensures { (result, tables statements.new facts.new kept.new supports.new) ≡ worded_call (tables statements.old facts.old kept.old supports.old) (call_of bytes.now kind a b c) }
 {
     if kind <= WITHDRAWAL {
         let triple = Triple {

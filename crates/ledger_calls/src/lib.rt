@@ -3,8 +3,8 @@ ghost use Rattle.std.specs.Prelude.{◌≡◌, ◌+◌, ◌*◌, ◌/◌, ◌≤
 ghost use Rattle.std.proofs.lemmas.List.Edits.{sets};
 ghost use Rattle.spec.specs.Tables.{tables};
 ghost use Rattle.spec.specs.Ledger.{calls};
-ghost use Rattle.spec.specs.Demand3.{storeEntries};
-ghost use Rattle.ledger_call.specs.inside.Calls.{encoded, replyWords};
+ghost use Rattle.spec.specs.Demand3.{store_entries};
+ghost use Rattle.ledger_call.specs.inside.Calls.{encoded, reply_words};
 
 use ledger_call::run_call;
 
@@ -31,8 +31,8 @@ pub fn run_calls(
     replies: &mut [u32],
 )
     requires { length words.now / 4 * 5 ≤ length replies.old }
-    ensures supports_after { tables statements.new facts.new kept.new supports.new ≡ (calls storeEntries (encoded words.now bytes.now) (tables statements.old facts.old kept.old supports.old)).after }
-    ensures replies_after { replies.new ≡ sets replies.old 0 (replyWords (calls storeEntries (encoded words.now bytes.now) (tables statements.old facts.old kept.old supports.old)).given) }
+    ensures supports_after { tables statements.new facts.new kept.new supports.new ≡ (calls store_entries (encoded words.now bytes.now) (tables statements.old facts.old kept.old supports.old)).after }
+    ensures replies_after { replies.new ≡ sets replies.old 0 (reply_words (calls store_entries (encoded words.now bytes.now) (tables statements.old facts.old kept.old supports.old)).given) }
 {
     let mut left = words.len() / 4;
     let mut at = 0;

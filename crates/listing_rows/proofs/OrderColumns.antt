@@ -6,28 +6,28 @@ use native.Mathlib.Omega.{arith}
 use lib.ListN.{length, get_or}
 use borrow.Author.Tests.{eq-eqb, ne_eqb}
 use Rattle.spec.specs.Lists.{select}
-use Rattle.spec.specs.Listings.{others, columnOrder}
+use Rattle.spec.specs.Listings.{others, column_order}
 
 -- The two columns beside one.
-pub others-are : (c : ℕ) → c ≤ 2 → (2 - c) / 2 ∷ (3 - c - (2 - c) / 2) ∷ [] ≡ others c
+pub others_are : (c : ℕ) → c ≤ 2 → (2 - c) / 2 ∷ (3 - c - (2 - c) / 2) ∷ [] ≡ others c
 unfolding others select
-others-are zero h = refl
-others-are (suc zero) h = refl
-others-are (suc (suc zero)) h = refl
-others-are (suc (suc (suc c))) h = absurd (omega arith)
+others_are zero h = refl
+others_are (suc zero) h = refl
+others_are (suc (suc zero)) h = refl
+others_are (suc (suc (suc c))) h = absurd (omega arith)
 
 -- An even order has the other two as they are.
-pub even-order : (k : ℕ) (r : List ℕ) → r ≡ others (k / 2) → length r ≡ 2 → k % 2 ≡ 0 → k / 2 ∷ get_or r 0 0 ∷ get_or r 1 0 ∷ [] ≡ columnOrder k
-unfolding columnOrder
-even-order k (a ∷ b ∷ []) e l h = rw (eq-eqb (k % 2) 0 h, ← e) refl
-even-order k [] e l h = absurd (omega arith)
-even-order k (a ∷ []) e l h = absurd (omega arith)
-even-order k (a ∷ b ∷ c ∷ r) e l h = absurd (omega arith)
+pub even_order : (k : ℕ) (r : List ℕ) → r ≡ others (k / 2) → length r ≡ 2 → k % 2 ≡ 0 → k / 2 ∷ get_or r 0 0 ∷ get_or r 1 0 ∷ [] ≡ column_order k
+unfolding column_order
+even_order k (a ∷ b ∷ []) e l h = rw (eq-eqb (k % 2) 0 h, ← e) refl
+even_order k [] e l h = absurd (omega arith)
+even_order k (a ∷ []) e l h = absurd (omega arith)
+even_order k (a ∷ b ∷ c ∷ r) e l h = absurd (omega arith)
 
 -- An odd order has them reversed.
-pub odd-order : (k : ℕ) (r : List ℕ) → r ≡ others (k / 2) → length r ≡ 2 → (k % 2 ≡ 0 → ⊥) → k / 2 ∷ get_or r 1 0 ∷ get_or r 0 0 ∷ [] ≡ columnOrder k
-unfolding columnOrder
-odd-order k (a ∷ b ∷ []) e l h = rw (ne_eqb (k % 2) 0 h, ← e) refl
-odd-order k [] e l h = absurd (omega arith)
-odd-order k (a ∷ []) e l h = absurd (omega arith)
-odd-order k (a ∷ b ∷ c ∷ r) e l h = absurd (omega arith)
+pub odd_order : (k : ℕ) (r : List ℕ) → r ≡ others (k / 2) → length r ≡ 2 → (k % 2 ≡ 0 → ⊥) → k / 2 ∷ get_or r 1 0 ∷ get_or r 0 0 ∷ [] ≡ column_order k
+unfolding column_order
+odd_order k (a ∷ b ∷ []) e l h = rw (ne_eqb (k % 2) 0 h, ← e) refl
+odd_order k [] e l h = absurd (omega arith)
+odd_order k (a ∷ []) e l h = absurd (omega arith)
+odd_order k (a ∷ b ∷ c ∷ r) e l h = absurd (omega arith)

@@ -8,25 +8,25 @@ use lib.ListN.{length, get_or, set, length-set}
 use lib.Seq.{get_or-set_same, get_or-set_other}
 use Rattle.spec.specs.declared.Triple.{Triple}
 use Rattle.spec.specs.Tables as table
-use Rattle.rows.specs.inside.Rows.{row, rowAt}
-use Rattle.rows.proofs.RowWords.{row-ext}
-use Rattle.rows.proofs.Tables.{eq-or}
+use Rattle.rows.specs.inside.Rows.{row, row_at}
+use Rattle.rows.proofs.RowWords.{row_ext}
+use Rattle.rows.proofs.Tables.{eq_or}
 use Rattle.spec.specs.Listings.{column}
 use Rattle.listing_rows.specs.inside.Written.{RowWritten, RowsWritten}
 
 -- The third column.
-pub column-last : (t : Triple) (c : ℕ) → (c ≡ 0 → ⊥) → (c ≡ 1 → ⊥) → t.object ≡ column t c
-column-last t zero h k = absurd (h refl)
-column-last t (suc zero) h k = absurd (k refl)
-column-last t (suc (suc c)) h k = refl
+pub column_last : (t : Triple) (c : ℕ) → (c ≡ 0 → ⊥) → (c ≡ 1 → ⊥) → t.object ≡ column t c
+column_last t zero h k = absurd (h refl)
+column_last t (suc zero) h k = absurd (k refl)
+column_last t (suc (suc c)) h k = refl
 
 -- Three columns of a triple.
-pub three-columns : (t : Triple) (cs : List ℕ) → length cs ≡ 3 → map (column t) cs ≡ column t (get_or cs 0 0) ∷ column t (get_or cs 1 0) ∷ column t (get_or cs 2 0) ∷ []
-three-columns t [] h = absurd (omega arith)
-three-columns t (a ∷ []) h = absurd (omega arith)
-three-columns t (a ∷ b ∷ []) h = absurd (omega arith)
-three-columns t (a ∷ b ∷ c ∷ []) h = refl
-three-columns t (a ∷ b ∷ c ∷ d ∷ cs) h = absurd (omega arith)
+pub three_columns : (t : Triple) (cs : List ℕ) → length cs ≡ 3 → map (column t) cs ≡ column t (get_or cs 0 0) ∷ column t (get_or cs 1 0) ∷ column t (get_or cs 2 0) ∷ []
+three_columns t [] h = absurd (omega arith)
+three_columns t (a ∷ []) h = absurd (omega arith)
+three_columns t (a ∷ b ∷ []) h = absurd (omega arith)
+three_columns t (a ∷ b ∷ c ∷ []) h = refl
+three_columns t (a ∷ b ∷ c ∷ d ∷ cs) h = absurd (omega arith)
 
 -- The words after three stores.
 abbrev stored : (at x y z : ℕ) → List ℕ → List ℕ
@@ -56,7 +56,7 @@ module _ (at x y z : ℕ) (t : List ℕ) where
 pub row_written : (t : Triple) (cs : List ℕ) (i x y z : ℕ) (out : List ℕ) → length cs ≡ 3 → i * 3 + 3 ≤ length out
     → x ≡ column t (get_or cs 0 0) → y ≡ column t (get_or cs 1 0) → z ≡ column t (get_or cs 2 0) → RowWritten i (map (column t) cs) out (stored (i * 3) x y z out)
 row_written t cs i x y z out l h p q r = record {
-  here = stored_row (i * 3) x y z out h ∙ rw (three-columns t cs l, p, q, r) refl;
+  here = stored_row (i * 3) x y z out h ∙ rw (three_columns t cs l, p, q, r) refl;
   before = λ w k. stored_other (i * 3) x y z out w (λ e. omega arith) (λ e. omega arith) (λ e. omega arith);
   after = λ w k. stored_other (i * 3) x y z out w (λ e. omega arith) (λ e. omega arith) (λ e. omega arith);
 }
@@ -68,15 +68,15 @@ pub none_written : (cs ws t : List ℕ) → RowsWritten cs 0 ws t t
 none_written cs ws t = record { each = λ j h. absurd (omega arith); after = λ w h. refl }
 
 -- One row more is written.
-pub more-written : (cs : List ℕ) (i : ℕ) (r : Triple) (ws t s u : List ℕ) → RowsWritten cs i ws t s → r ≡ table.rowAt ws i → RowWritten i (map (column r) cs) s u → RowsWritten cs (i + 1) ws t u
+pub more-written : (cs : List ℕ) (i : ℕ) (r : Triple) (ws t s u : List ℕ) → RowsWritten cs i ws t s → r ≡ table.row_at ws i → RowWritten i (map (column r) cs) s u → RowsWritten cs (i + 1) ws t u
 more-written cs i r ws t s u R q W = record {
   each = λ j h. ⊎_elim
       (λ (e : j ≡ i). rw (e, ← q) W.here)
-      (λ (k : j ≡ i → ⊥). row-ext 3 (j * 3) (j * 3) s u (λ w g. W.before (j * 3 + w) (omega arith)) ∙ R.each j (omega arith))
-      (eq-or j i);
+      (λ (k : j ≡ i → ⊥). row_ext 3 (j * 3) (j * 3) s u (λ w g. W.before (j * 3 + w) (omega arith)) ∙ R.each j (omega arith))
+      (eq_or j i);
   after = λ w h. W.after w (omega arith) ∙ R.after w (omega arith);
 }
 
 -- All rows are written.
-pub written-whole : (cs : List ℕ) (i n : ℕ) (ws t s : List ℕ) → RowsWritten cs i ws t s → i ≡ n → RowsWritten cs n ws t s
-written-whole cs i n ws t s R e = rw e at R
+pub written_whole : (cs : List ℕ) (i n : ℕ) (ws t s : List ℕ) → RowsWritten cs i ws t s → i ≡ n → RowsWritten cs n ws t s
+written_whole cs i n ws t s R e = rw e at R

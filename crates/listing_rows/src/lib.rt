@@ -2,7 +2,7 @@
 ghost use Rattle.std.specs.Prelude.{◌≡◌, map, ◌+◌, ◌*◌, ◌≤◌, ◌<◌, length, replicate};
 ghost use Rattle.spec.specs.Tables.{count, rows};
 ghost use Rattle.spec.specs.Outputs.{filled};
-ghost use Rattle.spec.specs.Listings.{others, columnOrder, column, listingRows};
+ghost use Rattle.spec.specs.Listings.{others, column_order, column, listing_rows};
 ghost use Rattle.listing_rows.specs.inside.Asked.{Listable};
 ghost use Rattle.listing_rows.specs.inside.Written.{RowWritten, RowsWritten};
 
@@ -23,7 +23,7 @@ fn others(c: u32) -> [u32; 2]
 // The columns of an order: column order / 2 first, and the other two ascending where the order is even, else descending.
 fn columns(order: u32) -> [u32; 3]
     requires { order ≤ 5 }
-    ensures { result ≡ columnOrder order }
+    ensures { result ≡ column_order order }
 {
     let first = order / 2;
     let rest = others(first);
@@ -77,7 +77,7 @@ pub fn fill_rows(table: &[u32], order: u32, out: &mut [u32])
     requires order_bound { order ≤ 5 }
     requires table_in_bounds { count table.now * 3 ≤ length out.old }
     requires out_value { out.old ≡ replicate (length out.old) 0 }
-    ensures { out.new ≡ filled (length out.old) (listingRows order (rows table.now)) }
+    ensures { out.new ≡ filled (length out.old) (listing_rows order (rows table.now)) }
 {
     let n = table[0] as usize;
     write_rows(table, n, columns(order), out);

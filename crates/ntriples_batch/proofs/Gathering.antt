@@ -9,22 +9,22 @@ use lib.ListN.{length, get_or, take, drop, set, drop_of_length-le, length-drop}
 use lib.Seq.{get_or-set_same, get_or-set_other}
 use lib.Dec.{ltb}
 use borrow.Author.Tests.{ltb-true, ltb-false, lt-ltb}
-use Rattle.spec.proofs.Lists.{le-or}
+use Rattle.spec.proofs.Lists.{le_or}
 use Rattle.spec_ntriples.specs.computed.Decoded.{Decoded, broken, decoded, decode}
 use Rattle.spec_ntriples.specs.Texts.{TextTriple}
-use Rattle.spec_ntriples.specs.computed.Lines.{Line, wrong, empty, full, readLine, Document, refused, triples, withTriple, withLine, document}
+use Rattle.spec_ntriples.specs.computed.Lines.{Line, wrong, empty, full, read_line, Document, refused, triples, with_triple, with_line, document}
 use Rattle.ntriples_bytes.specs.inside.Places.{Utf8From}
-use Rattle.ntriples_bytes.proofs.Decoding.{at-start}
+use Rattle.ntriples_bytes.proofs.Decoding.{at_start}
 use Rattle.ntriples_lines.specs.declared.Tokens.{Tokens}
 use Rattle.ntriples_lines.specs.declared.Line as code-line
 use Rattle.ntriples_lines.specs.declared.Line.TheVariants.{Wrong, Empty, Full}
 use Rattle.ntriples_lines.specs.inside.Reading.{IsFull, IsLine}
 use Rattle.ntriples_lines.proofs.Lines.{line_same}
-use Rattle.ntriples_breaks.specs.inside.Breaks.{lineLength, IsNext}
+use Rattle.ntriples_breaks.specs.inside.Breaks.{line_length, IsNext}
 use Rattle.ntriples_document.specs.inside.Bytes.{line_of}
-use Rattle.ntriples_document.proofs.Parts.{document-none}
-use Rattle.ntriples_document.proofs.Counting.{CharsOf, line-decoded, first-line, end-within}
-use Rattle.ntriples_batch.specs.inside.Batches.{hasTriple, LineAt, IsLineOfTriple, noTriple, Gathered, HaveTexts}
+use Rattle.ntriples_document.proofs.Parts.{document_none}
+use Rattle.ntriples_document.proofs.Counting.{CharsOf, line_decoded, first-line, end-within}
+use Rattle.ntriples_batch.specs.inside.Batches.{has_triple, LineAt, IsLineOfTriple, no_triple, Gathered, HaveTexts}
 
 -- ---- lines
 
@@ -36,23 +36,23 @@ pub record FullLine (l : Line) : Type 0 where
   pub triple : TextTriple
   pub same : l ≡ full triple
 
-pub full-line : (l : Line) → hasTriple l ≡ true → FullLine l
-unfolding hasTriple
-full-line wrong e = true-not (sym e)
-full-line empty e = true-not (sym e)
-full-line (full t) e = record { triple = t; same = refl }
+pub full_line : (l : Line) → has_triple l ≡ true → FullLine l
+unfolding has_triple
+full_line wrong e = true-not (sym e)
+full_line empty e = true-not (sym e)
+full_line (full t) e = record { triple = t; same = refl }
 
 -- A line that is the same has a triple or has none.
-pub wrong-none : (l : Line) → l ≡ wrong → false ≡ hasTriple l
-unfolding hasTriple
-wrong-none l e = rw e
+pub wrong_none : (l : Line) → l ≡ wrong → false ≡ has_triple l
+unfolding has_triple
+wrong_none l e = rw e
 
-pub empty-none : (l : Line) → l ≡ empty → false ≡ hasTriple l
-unfolding hasTriple
-empty-none l e = rw e
+pub empty_none : (l : Line) → l ≡ empty → false ≡ has_triple l
+unfolding has_triple
+empty_none l e = rw e
 
-pub full-some : (l : Line) (t : TextTriple) → l ≡ full t → true ≡ hasTriple l
-unfolding hasTriple
+pub full-some : (l : Line) (t : TextTriple) → l ≡ full t → true ≡ has_triple l
+unfolding has_triple
 full-some l t e = rw e
 
 -- Two tests that both hold, or do not.
@@ -64,33 +64,33 @@ and_right : (a b : Bool) → (a && b) ≡ true → b ≡ true
 and_right true b e = e
 and_right false b e = true-not (sym e)
 
-and-not : (a b : Bool) → (a && b) ≡ false → b ≡ true → a ≡ false
-and-not true b e q = sym q ∙ e
-and-not false b e q = refl
+and_not : (a b : Bool) → (a && b) ≡ false → b ≡ true → a ≡ false
+and_not true b e q = sym q ∙ e
+and_not false b e q = refl
 
 pub lines_left : (a b c d : ℕ) → (ltb a b && ltb c d) ≡ true → a < b
 lines_left a b c d e = ltb-true a b (and_left (ltb a b) (ltb c d) e)
 
-pub places-left : (a b c d : ℕ) → (ltb a b && ltb c d) ≡ true → c < d
-places-left a b c d e = ltb-true c d (and_right (ltb a b) (ltb c d) e)
+pub places_left : (a b c d : ℕ) → (ltb a b && ltb c d) ≡ true → c < d
+places_left a b c d e = ltb-true c d (and_right (ltb a b) (ltb c d) e)
 
 pub nothing_left : (a b c d : ℕ) → (ltb a b && ltb c d) ≡ false → c < d → b ≤ a
-nothing_left a b c d e h = ltb-false a b (and-not (ltb a b) (ltb c d) e (lt-ltb c d h))
+nothing_left a b c d e h = ltb-false a b (and_not (ltb a b) (ltb c d) e (lt-ltb c d h))
 
 -- ---- documents
 
 refused-not : {C : Type 0} {ts : List TextTriple} → refused ≡ triples ts → C
 refused-not e = let z : ◌≡◌ {A = ℕ} 0 1 = cc in absurd (omega arith)
 
-triples-same : (ts us : List TextTriple) → triples ts ≡ triples us → ts ≡ us
-triples-same ts us e = cc
+triples_same : (ts us : List TextTriple) → triples ts ≡ triples us → ts ≡ us
+triples_same ts us e = cc
 
 -- A document without its first line, where that has no triple.
-without-line : (l : Line) (d : Document) (ts : List TextTriple) → hasTriple l ≡ false → withLine l d ≡ triples ts → d ≡ triples ts
-unfolding withLine hasTriple
-without-line wrong d ts q e = refused-not e
-without-line empty d ts q e = e
-without-line (full t) d ts q e = true-not q
+without_line : (l : Line) (d : Document) (ts : List TextTriple) → has_triple l ≡ false → with_line l d ≡ triples ts → d ≡ triples ts
+unfolding with_line has_triple
+without_line wrong d ts q e = refused-not e
+without_line empty d ts q e = e
+without_line (full t) d ts q e = true-not q
 
 -- And where it has one: that is the first.
 record FirstOf (t : TextTriple) (d : Document) (ts : List TextTriple) : Type 0 where
@@ -98,17 +98,17 @@ record FirstOf (t : TextTriple) (d : Document) (ts : List TextTriple) : Type 0 w
   pub first : ts ≡ t ∷ rest
   pub others : d ≡ triples rest
 
-without-triple : (t : TextTriple) (d : Document) (ts : List TextTriple) → withTriple t d ≡ triples ts → FirstOf t d ts
-unfolding withTriple
+without-triple : (t : TextTriple) (d : Document) (ts : List TextTriple) → with_triple t d ≡ triples ts → FirstOf t d ts
+unfolding with_triple
 without-triple t refused ts e = refused-not e
-without-triple t (triples us) ts e = record { rest = us; first = sym (triples-same (t ∷ us) ts e); others = refl }
+without-triple t (triples us) ts e = record { rest = us; first = sym (triples_same (t ∷ us) ts e); others = refl }
 
 -- ---- the walk
 
 -- So many of some triples stand in the lines that are noted, and the others from an index on.
 pub record Gathering (file : List ℕ) (ts : List TextTriple) (lines : List ℕ) (count at : ℕ) : Type 0 where
   pub few : count ≤ length ts
-  pub begins : (i : ℕ) → i < count → LineAt file (get_or lines i 0) (get_or ts i noTriple)
+  pub begins : (i : ℕ) → i < count → LineAt file (get_or lines i 0) (get_or ts i no_triple)
   pub behind : document (drop at file) ≡ triples (drop count ts)
 
 pub none-gathered : (file : List ℕ) (ts : List TextTriple) (lines : List ℕ) (from : ℕ) → document (drop from file) ≡ triples ts → Gathering file ts lines 0 from
@@ -117,7 +117,7 @@ none-gathered file ts lines from e = record { few = omega arith; begins = λ i h
 -- The rest of a list that begins with an element.
 record RestOf (ts : List TextTriple) (count : ℕ) (t : TextTriple) (us : List TextTriple) : Type 0 where
   pub more : count < length ts
-  pub element : t ≡ get_or ts count noTriple
+  pub element : t ≡ get_or ts count no_triple
   pub others : us ≡ drop (count + 1) ts
 
 rest_of : (ts : List TextTriple) (count : ℕ) (t : TextTriple) (us : List TextTriple) → drop count ts ≡ t ∷ us → RestOf ts count t us
@@ -129,39 +129,39 @@ rest_of (x ∷ ts) (suc n) t us e =
     let s : suc n + 1 ≡ suc (n + 1) = omega arith in
     record { more = omega (arith, R.more); element = R.element; others = R.others ∙ ap (λ (k : ℕ). drop k (x ∷ ts)) (sym s) }
 
-module _ (file : List ℕ) (ts : List TextTriple) (lines : List ℕ) (count at : ℕ) (G : Gathering file ts lines count at) (h : at < length file) (end : ℕ) (e : end ≡ at + lineLength (drop at file)) (next : ℕ) (N : IsNext file end next) where
+module _ (file : List ℕ) (ts : List TextTriple) (lines : List ℕ) (count at : ℕ) (G : Gathering file ts lines count at) (h : at < length file) (end : ℕ) (e : end ≡ at + line_length (drop at file)) (next : ℕ) (N : IsNext file end next) where
   abbrev line : Line
   line = line_of (decode (take (end - at) (drop at file)))
 
-  parted : withLine line (document (drop (suc end) file)) ≡ triples (drop count ts)
+  parted : with_line line (document (drop (suc end) file)) ≡ triples (drop count ts)
   parted = sym (first-line file at end e) ∙ G.behind
 
-  pub no-triple : hasTriple line ≡ false → Gathering file ts lines count next
-  no-triple q =
-      record { few = G.few; begins = G.begins; behind = rw N.same (without-line line (document (drop (suc end) file)) (drop count ts) q parted) }
+  pub no_triple_lem : has_triple line ≡ false → Gathering file ts lines count next
+  no_triple_lem q =
+      record { few = G.few; begins = G.begins; behind = rw N.same (without_line line (document (drop (suc end) file)) (drop count ts) q parted) }
 
   line_at : (t : TextTriple) → line ≡ full t → LineAt file at t
   line_at t q =
-      let k : end - at ≡ lineLength (drop at file) = omega arith in
+      let k : end - at ≡ line_length (drop at file) = omega arith in
       record { within = omega arith; reads = rw k at q }
 
-  with-triple : (t : TextTriple) → line ≡ full t → FirstOf t (document (drop (suc end) file)) (drop count ts)
-  unfolding withLine
-  with-triple t q = without-triple t (document (drop (suc end) file)) (drop count ts) (rw q at parted)
+  with_triple_lem : (t : TextTriple) → line ≡ full t → FirstOf t (document (drop (suc end) file)) (drop count ts)
+  unfolding with_line
+  with_triple_lem t q = without-triple t (document (drop (suc end) file)) (drop count ts) (rw q at parted)
 
   begin-noted
-      : (t : TextTriple) → LineAt file at t → t ≡ get_or ts count noTriple → count < length lines
-      → (i : ℕ) → i < count + 1 → LineAt file (get_or (set lines count at) i 0) (get_or ts i noTriple)
+      : (t : TextTriple) → LineAt file at t → t ≡ get_or ts count no_triple → count < length lines
+      → (i : ℕ) → i < count + 1 → LineAt file (get_or (set lines count at) i 0) (get_or ts i no_triple)
   begin-noted t L f w i b =
       ⊎_elim
       (λ (q : count ≤ i). let k : i ≡ count = omega arith in rw (k, get_or-set_same lines count at 0 w, ← f) L)
       (λ (q : i < count). rw (get_or-set_other lines count i at 0 (λ x. omega arith)) (G.begins i q))
-      (le-or count i)
+      (le_or count i)
 
-  pub one-triple : count < length lines → hasTriple line ≡ true → Gathering file ts (set lines count at) (count + 1) next
-  one-triple w q =
-      let F = full-line line q in
-      let P = with-triple F.triple F.same in
+  pub one_triple : count < length lines → has_triple line ≡ true → Gathering file ts (set lines count at) (count + 1) next
+  one_triple w q =
+      let F = full_line line q in
+      let P = with_triple_lem F.triple F.same in
       let R = rest_of ts count F.triple P.rest P.first in
       record {
         few = omega (arith, R.more);
@@ -171,19 +171,19 @@ module _ (file : List ℕ) (ts : List TextTriple) (lines : List ℕ) (count at :
 
 -- No triple is left at the end of the file.
 none_left : (file : List ℕ) (at : ℕ) (us : List TextTriple) → length file ≤ at → document (drop at file) ≡ triples us → us ≡ []
-none_left file at us h e = triples-same us [] (sym e ∙ ap document (drop_of_length-le file h) ∙ document-none)
+none_left file at us h e = triples_same us [] (sym e ∙ ap document (drop_of_length-le file h) ∙ document_none)
 
 all-counted : (file : List ℕ) (ts : List TextTriple) (count at size : ℕ) → count ≤ length ts → document (drop at file) ≡ triples (drop count ts) → count ≤ size → (count < size → length file ≤ at) → count ≡ min size (length ts)
 all-counted file ts count at size f e w k =
     ⊎_elim
     (λ (h : size ≤ count). omega (arith, h, f, w))
     (λ (h : count < size). omega (arith, h, f, ap length (none_left file at (drop count ts) (k h) e), length-drop count ts))
-    (le-or size count)
+    (le_or size count)
 
 -- A walk goes on where there is a line and a place for it.
 pub went_on : (from size at count next : ℕ) → from + count ≤ next → count ≤ size → (count < size → at ≤ next) → from < at → 0 < size → from < next
 went_on from size at count next a w k h z =
-    ⊎_elim (λ (q : size ≤ count). omega (arith, q, a, w)) (λ (q : count < size). omega (arith, k q)) (le-or size count)
+    ⊎_elim (λ (q : size ≤ count). omega (arith, q, a, w)) (λ (q : count < size). omega (arith, k q)) (le_or size count)
 
 -- At the end of the file, or with no place left.
 pub all-gathered : (file : List ℕ) (ts : List TextTriple) (lines : List ℕ) (count at : ℕ) → Gathering file ts lines count at → count ≤ length lines → (count < length lines → length file ≤ at) → Gathered file ts lines (record { count = count; next = at })
@@ -194,49 +194,49 @@ all-gathered file ts lines count at G w k = record { counted = all-counted file 
 full-not : {C : Type 0} {t : TextTriple} → wrong ≡ full t → C
 full-not e = let z : ◌≡◌ {A = ℕ} 0 1 = cc in absurd (omega arith)
 
-full-not-empty : {C : Type 0} {t : TextTriple} → full t ≡ empty → C
-full-not-empty e = let z : ◌≡◌ {A = ℕ} 0 1 = cc in absurd (omega arith)
+full-not_empty : {C : Type 0} {t : TextTriple} → full t ≡ empty → C
+full-not_empty e = let z : ◌≡◌ {A = ℕ} 0 1 = cc in absurd (omega arith)
 
-full-same : (t u : TextTriple) → full t ≡ full u → t ≡ u
-full-same t u e = cc
+full_same : (t u : TextTriple) → full t ≡ full u → t ≡ u
+full_same t u e = cc
 
 -- Bytes that are a line with a triple are characters.
-chars-full : (d : Decoded) (t : TextTriple) → line_of d ≡ full t → CharsOf d
+chars_full : (d : Decoded) (t : TextTriple) → line_of d ≡ full t → CharsOf d
 unfolding line_of
-chars-full broken t e = full-not e
-chars-full (decoded cs) t e = record { chars = cs; same = refl }
+chars_full broken t e = full-not e
+chars_full (decoded cs) t e = record { chars = cs; same = refl }
 
 module _ (file : List ℕ) (begin end : ℕ) (I : IsLineOfTriple file begin end) where
   abbrev bytes : List ℕ
   bytes = take (end - begin) (drop begin file)
 
   read_as : (t : TextTriple) → LineAt file begin t → line_of (decode bytes) ≡ full t
-  read_as t L = let k : end - begin ≡ lineLength (drop begin file) = omega (arith, I.ends) in rw k L.reads
+  read_as t L = let k : end - begin ≡ line_length (drop begin file) = omega (arith, I.ends) in rw k L.reads
 
-  chars-there : CharsOf (decode bytes)
-  chars-there = chars-full (decode bytes) I.triple (read_as I.triple I.line)
+  chars_there : CharsOf (decode bytes)
+  chars_there = chars_full (decode bytes) I.triple (read_as I.triple I.line)
 
   pub line-utf8 : Utf8From bytes 0
-  line-utf8 = record { chars = chars-there.chars; stands = at-start bytes chars-there.chars chars-there.same }
+  line-utf8 = record { chars = chars_there.chars; stands = at_start bytes chars_there.chars chars_there.same }
 
-  pub line-inside : end ≤ length file
-  line-inside = omega (arith, I.ends, end-within file begin I.line.within)
+  pub line_inside : end ≤ length file
+  line_inside = omega (arith, I.ends, end-within file begin I.line.within)
 
-  module _ (r : code-line.Line) (E : (l : List ℕ) → decode bytes ≡ decoded l → IsLine bytes (readLine l) r) (t : TextTriple) (L : LineAt file begin t) where
+  module _ (r : code-line.Line) (E : (l : List ℕ) → decode bytes ≡ decoded l → IsLine bytes (read_line l) r) (t : TextTriple) (L : LineAt file begin t) where
     pub is-line : IsLine bytes (full t) r
     is-line =
-        line_same bytes (full t) (readLine chars-there.chars) r
-        (sym (read_as t L) ∙ line-decoded (decode bytes) chars-there.chars chars-there.same)
-        (E chars-there.chars chars-there.same)
+        line_same bytes (full t) (read_line chars_there.chars) r
+        (sym (read_as t L) ∙ line_decoded (decode bytes) chars_there.chars chars_there.same)
+        (E chars_there.chars chars_there.same)
 
     pub not-wrong : {C : Type 0} → r ≡ Wrong → C
     not-wrong q = full-not (sym (rw q at is-line))
 
-    pub not-empty : {C : Type 0} → r ≡ Empty → C
-    not-empty q = full-not-empty (rw q at is-line)
+    pub not_empty : {C : Type 0} → r ≡ Empty → C
+    not_empty q = full-not_empty (rw q at is-line)
 
     pub have-texts : (k : Tokens) → r ≡ Full k → HaveTexts bytes k t
     have-texts k q =
         let F : IsFull bytes (full t) k = rw q at is-line in
-        let s : F.triple ≡ t = sym (full-same t F.triple F.same) in
+        let s : F.triple ≡ t = sym (full_same t F.triple F.same) in
         record { subject = rw s at F.subject; property = rw s at F.property; object = rw s at F.object }

@@ -4,7 +4,7 @@ ghost use Rattle.spec_ntriples.specs.computed.Decoded.{decode};
 ghost use Rattle.spec_ntriples.specs.Texts.{TextTriple};
 ghost use Rattle.spec_ntriples.specs.computed.Lines.{triples, document};
 ghost use Rattle.ntriples_document.specs.inside.Bytes.{line_of};
-ghost use Rattle.ntriples_batch.specs.inside.Batches.{hasTriple, LineAt, Gathered, IsLineOfTriple, HaveTexts};
+ghost use Rattle.ntriples_batch.specs.inside.Batches.{has_triple, LineAt, Gathered, IsLineOfTriple, HaveTexts};
 
 use ntriples_breaks::{line_end, next_line};
 use ntriples_document::line_of;
@@ -19,7 +19,7 @@ pub struct Batch {
 
 // Whether some bytes without CR and LF are a line with a triple.
 fn has_triple(bytes: &[u8]) -> bool
-    ensures { result ≡ hasTriple (line_of (decode bytes.now)) }
+    ensures { result ≡ has_triple (line_of (decode bytes.now)) }
 {
     match line_of(bytes) {
         Line::Wrong => false,

@@ -1,11 +1,11 @@
 // The lines of some bytes: where one ends, and where the next begins.
 ghost use Rattle.std.specs.Prelude.{◌≡◌, ◌+◌, ◌≤◌, length, drop};
-ghost use Rattle.ntriples_breaks.specs.inside.Breaks.{lineLength, IsNext};
+ghost use Rattle.ntriples_breaks.specs.inside.Breaks.{line_length, IsNext};
 
 // Where the line ends that begins at an index: at the first CR or LF, or at the end.
 pub fn line_end(file: &[u8], from: usize) -> usize
     requires { from ≤ length file.now }
-    ensures { result ≡ from + lineLength (drop from file.now) }
+    ensures { result ≡ from + line_length (drop from file.now) }
 {
     let mut at = from;
     while at < file.len() {

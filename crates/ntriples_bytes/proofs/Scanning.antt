@@ -9,180 +9,180 @@ use lib.ListN.{length, get_or, drop, drop_of_length-le}
 use lib.Seq.{drop-cons}
 use lib.Dec.{eqb, leb, ltb}
 use borrow.Author.Tests.{lt-leb, le-leb, ne_eqb, eq-eqb, lt-ltb, le-ltb, eqb-true, ltb-true}
-use Rattle.spec_ntriples.specs.Utf8.{isBetween}
-use Rattle.spec_ntriples.specs.computed.Decoded.{Decoded, broken, decoded, withChar, Due, bad, due, firstByte, furtherByte, nextByte, noByte, decode_from, decode}
-use Rattle.ntriples_bytes.specs.inside.Whole.{areChars, areCharsFrom}
+use Rattle.spec_ntriples.specs.Utf8.{is_between}
+use Rattle.spec_ntriples.specs.computed.Decoded.{Decoded, broken, decoded, with_char, Due, bad, due, first_byte, further_byte, next_byte, no_byte, decode_from, decode}
+use Rattle.ntriples_bytes.specs.inside.Whole.{are_chars, are_chars_from}
 use Rattle.ntriples_bytes.specs.declared.Open.{Open}
 use Rattle.ntriples_bytes.specs.declared.Open.TheVariants.{Broken, Due as Left}
-use Rattle.ntriples_bytes.proofs.Decoding.{whole, bad-stays}
-use Rattle.ntriples_bytes.proofs.Marking.{by-test, and_left, and_right}
+use Rattle.ntriples_bytes.proofs.Decoding.{whole, bad_stays}
+use Rattle.ntriples_bytes.proofs.Marking.{by_test, and_left, and_right}
 
 -- A character in front says nothing.
-pub with-char : (v : ℕ) (d : Decoded) → areChars (withChar v d) ≡ areChars d
-unfolding areChars withChar
-with-char v broken = refl
-with-char v (decoded cs) = refl
+pub with_char_lem : (v : ℕ) (d : Decoded) → are_chars (with_char v d) ≡ are_chars d
+unfolding are_chars with_char
+with_char_lem v broken = refl
+with_char_lem v (decoded cs) = refl
 
 -- The number so far says nothing.
 any_value
     : (bs : List ℕ) (left v w low high : ℕ)
-    → areChars (decode_from bs (due left v low high)) ≡ areChars (decode_from bs (due left w low high))
-unfolding decode_from nextByte noByte furtherByte areChars
+    → are_chars (decode_from bs (due left v low high)) ≡ are_chars (decode_from bs (due left w low high))
+unfolding decode_from next_byte no_byte further_byte are_chars
 any_value [] zero v w low high = refl
-any_value (b ∷ bs) zero v w low high = with-char v (decode_from bs (firstByte b)) ∙ sym (with-char w (decode_from bs (firstByte b)))
+any_value (b ∷ bs) zero v w low high = with_char_lem v (decode_from bs (first_byte b)) ∙ sym (with_char_lem w (decode_from bs (first_byte b)))
 any_value [] (suc left) v w low high = refl
 any_value (b ∷ bs) (suc left) v w low high =
-    by-test (isBetween low high b) (λ q. rw q (any_value bs left (v * 64 + (b - 0x80)) (w * 64 + (b - 0x80)) 0x80 0xBF)) (λ q. rw q)
+    by_test (is_between low high b) (λ q. rw q (any_value bs left (v * 64 + (b - 0x80)) (w * 64 + (b - 0x80)) 0x80 0xBF)) (λ q. rw q)
 
 -- ---- the first byte
 
 -- What it leaves due says whether it and the bytes behind are characters.
 pub first-due
-    : (b left v low high : ℕ) → firstByte b ≡ due left v low high
-    → (bs : List ℕ) → areChars (decode_from bs (firstByte b)) ≡ areCharsFrom bs (Left left low high)
-unfolding areCharsFrom
+    : (b left v low high : ℕ) → first_byte b ≡ due left v low high
+    → (bs : List ℕ) → are_chars (decode_from bs (first_byte b)) ≡ are_chars_from bs (Left left low high)
+unfolding are_chars_from
 first-due b left v low high e bs = rw e (any_value bs left v 0 low high)
 
-pub first-bad : (b : ℕ) → firstByte b ≡ bad → (bs : List ℕ) → areChars (decode_from bs (firstByte b)) ≡ areCharsFrom bs Broken
-unfolding areCharsFrom areChars
-first-bad b e bs = rw (e, bad-stays bs)
+pub first_bad : (b : ℕ) → first_byte b ≡ bad → (bs : List ℕ) → are_chars (decode_from bs (first_byte b)) ≡ are_chars_from bs Broken
+unfolding are_chars_from are_chars
+first_bad b e bs = rw (e, bad_stays bs)
 
 -- Behind a whole character any range will do.
-whole_from : (bs : List ℕ) (v low high : ℕ) → areChars (decode_from bs (due 0 v low high)) ≡ areChars (decode bs)
-whole_from bs v low high = rw (whole bs v low high) (with-char v (decode bs))
+whole_from : (bs : List ℕ) (v low high : ℕ) → are_chars (decode_from bs (due 0 v low high)) ≡ are_chars (decode bs)
+whole_from bs v low high = rw (whole bs v low high) (with_char_lem v (decode bs))
 
-pub first-ascii : (b low high : ℕ) → b < 0x80 → (bs : List ℕ) → areChars (decode_from bs (firstByte b)) ≡ areCharsFrom bs (Left 0 low high)
-unfolding areCharsFrom firstByte
-first-ascii b low high h bs = rw (lt-ltb b 0x80 h) (whole_from bs b 0 0 ∙ sym (whole_from bs 0 low high))
+pub first_ascii : (b low high : ℕ) → b < 0x80 → (bs : List ℕ) → are_chars (decode_from bs (first_byte b)) ≡ are_chars_from bs (Left 0 low high)
+unfolding are_chars_from first_byte
+first_ascii b low high h bs = rw (lt-ltb b 0x80 h) (whole_from bs b 0 0 ∙ sym (whole_from bs 0 low high))
 
--- The branches of `firstByte` behind ASCII.
+-- The branches of `first_byte` behind ASCII.
 module _ (b : ℕ) where
-  pub too-low : 0x80 ≤ b → b < 0xC2 → firstByte b ≡ bad
-  unfolding firstByte
-  too-low h k =
+  pub too_low : 0x80 ≤ b → b < 0xC2 → first_byte b ≡ bad
+  unfolding first_byte
+  too_low h k =
       rw (le-ltb b 0x80 h, lt-leb 0xC2 b k, ne_eqb b 0xE0 (λ x. omega arith), ne_eqb b 0xED (λ x. omega arith), lt-leb 0xE1 b (omega arith), ne_eqb b 0xF0 (λ x. omega arith), lt-leb 0xF1 b (omega arith), ne_eqb b 0xF4 (λ x. omega arith))
 
-  pub leads-two : 0xC2 ≤ b → b < 0xE0 → firstByte b ≡ due 1 (b - 0xC0) 0x80 0xBF
-  unfolding firstByte
-  leads-two h k = rw (le-ltb b 0x80 (omega arith), le-leb 0xC2 b h, le-leb b 0xDF (omega arith))
+  pub leads_two : 0xC2 ≤ b → b < 0xE0 → first_byte b ≡ due 1 (b - 0xC0) 0x80 0xBF
+  unfolding first_byte
+  leads_two h k = rw (le-ltb b 0x80 (omega arith), le-leb 0xC2 b h, le-leb b 0xDF (omega arith))
 
-  not-two : 0xE0 ≤ b → isBetween 0xC2 0xDF b ≡ false
-  not-two k = rw (le-leb 0xC2 b (omega arith), lt-leb b 0xDF (omega arith))
+  not_two : 0xE0 ≤ b → is_between 0xC2 0xDF b ≡ false
+  not_two k = rw (le-leb 0xC2 b (omega arith), lt-leb b 0xDF (omega arith))
 
-  pub leads-three-low : b ≡ 0xE0 → firstByte b ≡ due 2 0 0xA0 0xBF
-  unfolding firstByte
-  leads-three-low h = rw (le-ltb b 0x80 (omega arith), not-two (omega arith), eq-eqb b 0xE0 h)
+  pub leads_three_low : b ≡ 0xE0 → first_byte b ≡ due 2 0 0xA0 0xBF
+  unfolding first_byte
+  leads_three_low h = rw (le-ltb b 0x80 (omega arith), not_two (omega arith), eq-eqb b 0xE0 h)
 
-  pub leads-three-surrogates : b ≡ 0xED → firstByte b ≡ due 2 13 0x80 0x9F
-  unfolding firstByte
-  leads-three-surrogates h = rw (le-ltb b 0x80 (omega arith), not-two (omega arith), ne_eqb b 0xE0 (λ x. omega arith), eq-eqb b 0xED h)
+  pub leads_three_surrogates : b ≡ 0xED → first_byte b ≡ due 2 13 0x80 0x9F
+  unfolding first_byte
+  leads_three_surrogates h = rw (le-ltb b 0x80 (omega arith), not_two (omega arith), ne_eqb b 0xE0 (λ x. omega arith), eq-eqb b 0xED h)
 
-  pub leads-three : 0xE0 ≤ b → b < 0xF0 → (b ≡ 0xE0 → ⊥) → (b ≡ 0xED → ⊥) → firstByte b ≡ due 2 (b - 0xE0) 0x80 0xBF
-  unfolding firstByte
-  leads-three h k n m =
-      rw (le-ltb b 0x80 (omega arith), not-two h, ne_eqb b 0xE0 n, ne_eqb b 0xED m, le-leb 0xE1 b (omega (arith, n)), le-leb b 0xEF (omega arith))
+  pub leads_three : 0xE0 ≤ b → b < 0xF0 → (b ≡ 0xE0 → ⊥) → (b ≡ 0xED → ⊥) → first_byte b ≡ due 2 (b - 0xE0) 0x80 0xBF
+  unfolding first_byte
+  leads_three h k n m =
+      rw (le-ltb b 0x80 (omega arith), not_two h, ne_eqb b 0xE0 n, ne_eqb b 0xED m, le-leb 0xE1 b (omega (arith, n)), le-leb b 0xEF (omega arith))
 
-  not_three : 0xF0 ≤ b → isBetween 0xE1 0xEF b ≡ false
+  not_three : 0xF0 ≤ b → is_between 0xE1 0xEF b ≡ false
   not_three k = rw (le-leb 0xE1 b (omega arith), lt-leb b 0xEF (omega arith))
 
-  pub leads-four-low : b ≡ 0xF0 → firstByte b ≡ due 3 0 0x90 0xBF
-  unfolding firstByte
-  leads-four-low h =
-      rw (le-ltb b 0x80 (omega arith), not-two (omega arith), ne_eqb b 0xE0 (λ x. omega arith), ne_eqb b 0xED (λ x. omega arith), not_three (omega arith), eq-eqb b 0xF0 h)
+  pub leads_four_low : b ≡ 0xF0 → first_byte b ≡ due 3 0 0x90 0xBF
+  unfolding first_byte
+  leads_four_low h =
+      rw (le-ltb b 0x80 (omega arith), not_two (omega arith), ne_eqb b 0xE0 (λ x. omega arith), ne_eqb b 0xED (λ x. omega arith), not_three (omega arith), eq-eqb b 0xF0 h)
 
-  pub leads-four : 0xF0 < b → b < 0xF4 → firstByte b ≡ due 3 (b - 0xF0) 0x80 0xBF
-  unfolding firstByte
-  leads-four h k =
-      rw (le-ltb b 0x80 (omega arith), not-two (omega arith), ne_eqb b 0xE0 (λ x. omega arith), ne_eqb b 0xED (λ x. omega arith), not_three (omega arith), ne_eqb b 0xF0 (λ x. omega arith), le-leb 0xF1 b (omega arith), le-leb b 0xF3 (omega arith))
+  pub leads_four : 0xF0 < b → b < 0xF4 → first_byte b ≡ due 3 (b - 0xF0) 0x80 0xBF
+  unfolding first_byte
+  leads_four h k =
+      rw (le-ltb b 0x80 (omega arith), not_two (omega arith), ne_eqb b 0xE0 (λ x. omega arith), ne_eqb b 0xED (λ x. omega arith), not_three (omega arith), ne_eqb b 0xF0 (λ x. omega arith), le-leb 0xF1 b (omega arith), le-leb b 0xF3 (omega arith))
 
-  not-four : 0xF4 ≤ b → isBetween 0xF1 0xF3 b ≡ false
-  not-four k = rw (le-leb 0xF1 b (omega arith), lt-leb b 0xF3 (omega arith))
+  not_four : 0xF4 ≤ b → is_between 0xF1 0xF3 b ≡ false
+  not_four k = rw (le-leb 0xF1 b (omega arith), lt-leb b 0xF3 (omega arith))
 
-  pub leads-four-high : b ≡ 0xF4 → firstByte b ≡ due 3 4 0x80 0x8F
-  unfolding firstByte
-  leads-four-high h =
-      rw (le-ltb b 0x80 (omega arith), not-two (omega arith), ne_eqb b 0xE0 (λ x. omega arith), ne_eqb b 0xED (λ x. omega arith), not_three (omega arith), ne_eqb b 0xF0 (λ x. omega arith), not-four (omega arith), eq-eqb b 0xF4 h)
+  pub leads_four_high : b ≡ 0xF4 → first_byte b ≡ due 3 4 0x80 0x8F
+  unfolding first_byte
+  leads_four_high h =
+      rw (le-ltb b 0x80 (omega arith), not_two (omega arith), ne_eqb b 0xE0 (λ x. omega arith), ne_eqb b 0xED (λ x. omega arith), not_three (omega arith), ne_eqb b 0xF0 (λ x. omega arith), not_four (omega arith), eq-eqb b 0xF4 h)
 
-  pub too-high : 0xF4 < b → firstByte b ≡ bad
-  unfolding firstByte
-  too-high h =
-      rw (le-ltb b 0x80 (omega arith), not-two (omega arith), ne_eqb b 0xE0 (λ x. omega arith), ne_eqb b 0xED (λ x. omega arith), not_three (omega arith), ne_eqb b 0xF0 (λ x. omega arith), not-four (omega arith), ne_eqb b 0xF4 (λ x. omega arith))
+  pub too_high : 0xF4 < b → first_byte b ≡ bad
+  unfolding first_byte
+  too_high h =
+      rw (le-ltb b 0x80 (omega arith), not_two (omega arith), ne_eqb b 0xE0 (λ x. omega arith), ne_eqb b 0xED (λ x. omega arith), not_three (omega arith), ne_eqb b 0xF0 (λ x. omega arith), not_four (omega arith), ne_eqb b 0xF4 (λ x. omega arith))
 
 -- ---- a further byte
 
 -- A byte behind an open character.
-further-byte
+further_byte_lem
     : (l low high b : ℕ) (bs : List ℕ) → (l ≡ 0 → ⊥)
-    → areCharsFrom (b ∷ bs) (Left l low high) ≡ areChars (decode_from bs (furtherByte (l - 1) 0 low high b))
-unfolding areCharsFrom decode_from nextByte
-further-byte zero low high b bs n = absurd (n refl)
-further-byte (suc l) low high b bs n = let e : suc l - 1 ≡ l = omega arith in rw e
+    → are_chars_from (b ∷ bs) (Left l low high) ≡ are_chars (decode_from bs (further_byte (l - 1) 0 low high b))
+unfolding are_chars_from decode_from next_byte
+further_byte_lem zero low high b bs n = absurd (n refl)
+further_byte_lem (suc l) low high b bs n = let e : suc l - 1 ≡ l = omega arith in rw e
 
 module _ (left low high b : ℕ) where
   pub next-first
-      : left ≡ 0 → (bs : List ℕ) → areCharsFrom (b ∷ bs) (Left left low high) ≡ areChars (decode_from bs (firstByte b))
-  unfolding areCharsFrom decode_from nextByte
-  next-first h bs = rw h (with-char 0 (decode_from bs (firstByte b)))
+      : left ≡ 0 → (bs : List ℕ) → are_chars_from (b ∷ bs) (Left left low high) ≡ are_chars (decode_from bs (first_byte b))
+  unfolding are_chars_from decode_from next_byte
+  next-first h bs = rw h (with_char_lem 0 (decode_from bs (first_byte b)))
 
-  out_of_range : isBetween low high b ≡ false → (left ≡ 0 → ⊥) → (bs : List ℕ) → areCharsFrom (b ∷ bs) (Left left low high) ≡ areCharsFrom bs Broken
-  unfolding areCharsFrom furtherByte areChars
-  out_of_range q n bs = further-byte left low high b bs n ∙ rw (q, bad-stays bs)
+  out_of_range : is_between low high b ≡ false → (left ≡ 0 → ⊥) → (bs : List ℕ) → are_chars_from (b ∷ bs) (Left left low high) ≡ are_chars_from bs Broken
+  unfolding are_chars_from further_byte are_chars
+  out_of_range q n bs = further_byte_lem left low high b bs n ∙ rw (q, bad_stays bs)
 
-  pub too_small : (left ≡ 0 → ⊥) → b < low → (bs : List ℕ) → areCharsFrom (b ∷ bs) (Left left low high) ≡ areCharsFrom bs Broken
+  pub too_small : (left ≡ 0 → ⊥) → b < low → (bs : List ℕ) → are_chars_from (b ∷ bs) (Left left low high) ≡ are_chars_from bs Broken
   too_small n h = out_of_range (rw (lt-leb low b h)) n
 
-  pub too-great : (left ≡ 0 → ⊥) → low ≤ b → high < b → (bs : List ℕ) → areCharsFrom (b ∷ bs) (Left left low high) ≡ areCharsFrom bs Broken
-  too-great n k h = out_of_range (rw (le-leb low b k, lt-leb b high h)) n
+  pub too_great : (left ≡ 0 → ⊥) → low ≤ b → high < b → (bs : List ℕ) → are_chars_from (b ∷ bs) (Left left low high) ≡ are_chars_from bs Broken
+  too_great n k h = out_of_range (rw (le-leb low b k, lt-leb b high h)) n
 
-  pub in-range : (left ≡ 0 → ⊥) → low ≤ b → b ≤ high → (bs : List ℕ) → areCharsFrom (b ∷ bs) (Left left low high) ≡ areCharsFrom bs (Left (left - 1) 0x80 0xBF)
-  unfolding areCharsFrom furtherByte
-  in-range n k h bs = further-byte left low high b bs n ∙ rw (le-leb low b k, le-leb b high h) (any_value bs (left - 1) (0 * 64 + (b - 0x80)) 0 0x80 0xBF)
+  pub in_range : (left ≡ 0 → ⊥) → low ≤ b → b ≤ high → (bs : List ℕ) → are_chars_from (b ∷ bs) (Left left low high) ≡ are_chars_from bs (Left (left - 1) 0x80 0xBF)
+  unfolding are_chars_from further_byte
+  in_range n k h bs = further_byte_lem left low high b bs n ∙ rw (le-leb low b k, le-leb b high h) (any_value bs (left - 1) (0 * 64 + (b - 0x80)) 0 0x80 0xBF)
 
 -- ---- the walk
 
 -- No byte is read yet.
-pub none_read : (bs : List ℕ) (low high : ℕ) → areChars (decode bs) ≡ areCharsFrom bs (Left 0 low high)
-unfolding areCharsFrom
+pub none_read : (bs : List ℕ) (low high : ℕ) → are_chars (decode bs) ≡ are_chars_from bs (Left 0 low high)
+unfolding are_chars_from
 none_read bs low high = sym (whole_from bs 0 low high)
 
 -- One more byte.
 pub one-read
-    : (bs : List ℕ) (at left low high : ℕ) → at < length bs → areChars (decode bs) ≡ areCharsFrom (drop at bs) (Left left low high)
-    → areChars (decode bs) ≡ areCharsFrom (get_or bs at 0 ∷ drop (at + 1) bs) (Left left low high)
+    : (bs : List ℕ) (at left low high : ℕ) → at < length bs → are_chars (decode bs) ≡ are_chars_from (drop at bs) (Left left low high)
+    → are_chars (decode bs) ≡ are_chars_from (get_or bs at 0 ∷ drop (at + 1) bs) (Left left low high)
 one-read bs at left low high h e = e ∙ rw (add-one at, drop-cons bs at 0 h)
 
 -- A byte of ASCII, as the test for that says.
 pub ascii-read
     : (bs : List ℕ) (at left low high : ℕ) → at < length bs → (eqb left 0 && ltb (get_or bs at 0) 0x80) ≡ true
-    → areChars (decode bs) ≡ areCharsFrom (drop at bs) (Left left low high)
-    → areChars (decode bs) ≡ areCharsFrom (drop (at + 1) bs) (Left left low high)
+    → are_chars (decode bs) ≡ are_chars_from (drop at bs) (Left left low high)
+    → are_chars (decode bs) ≡ are_chars_from (drop (at + 1) bs) (Left left low high)
 ascii-read bs at left low high h t e =
     let z : left ≡ 0 = eqb-true left 0 (and_left (eqb left 0) (ltb (get_or bs at 0) 0x80) t) in
     one-read bs at left low high h e
     ∙ next-first left low high (get_or bs at 0) z (drop (at + 1) bs)
-    ∙ first-ascii (get_or bs at 0) low high (ltb-true (get_or bs at 0) 0x80 (and_right (eqb left 0) (ltb (get_or bs at 0) 0x80) t)) (drop (at + 1) bs)
-    ∙ ap (λ (n : ℕ). areCharsFrom (drop (at + 1) bs) (Left n low high)) (sym z)
+    ∙ first_ascii (get_or bs at 0) low high (ltb-true (get_or bs at 0) 0x80 (and_right (eqb left 0) (ltb (get_or bs at 0) 0x80) t)) (drop (at + 1) bs)
+    ∙ ap (λ (n : ℕ). are_chars_from (drop (at + 1) bs) (Left n low high)) (sym z)
 
 -- Any byte, with what it leaves due.
-module _ (bs : List ℕ) (at left low high : ℕ) (h : at < length bs) (e : areChars (decode bs) ≡ areCharsFrom (drop at bs) (Left left low high)) (r : Open) (n : (ys : List ℕ) → areCharsFrom (get_or bs at 0 ∷ ys) (Left left low high) ≡ areCharsFrom ys r) where
-  byte-read : areChars (decode bs) ≡ areCharsFrom (drop (at + 1) bs) r
+module _ (bs : List ℕ) (at left low high : ℕ) (h : at < length bs) (e : are_chars (decode bs) ≡ are_chars_from (drop at bs) (Left left low high)) (r : Open) (n : (ys : List ℕ) → are_chars_from (get_or bs at 0 ∷ ys) (Left left low high) ≡ are_chars_from ys r) where
+  byte-read : are_chars (decode bs) ≡ are_chars_from (drop (at + 1) bs) r
   byte-read = one-read bs at left low high h e ∙ n (drop (at + 1) bs)
 
-  pub broken-read : r ≡ Broken → false ≡ areChars (decode bs)
-  unfolding areCharsFrom
+  pub broken-read : r ≡ Broken → false ≡ are_chars (decode bs)
+  unfolding are_chars_from
   broken-read q = sym (byte-read ∙ rw q)
 
-  pub due-read : (l lo hi : ℕ) → r ≡ Left l lo hi → areChars (decode bs) ≡ areCharsFrom (drop (at + 1) bs) (Left l lo hi)
+  pub due-read : (l lo hi : ℕ) → r ≡ Left l lo hi → are_chars (decode bs) ≡ are_chars_from (drop (at + 1) bs) (Left l lo hi)
   due-read l lo hi q = rw q at byte-read
 
 -- No byte may be due behind the last.
-none-due : (l low high : ℕ) → areCharsFrom [] (Left l low high) ≡ eqb l 0
-unfolding areCharsFrom decode_from noByte areChars
-none-due zero low high = refl
-none-due (suc l) low high = sym (ne_eqb (suc l) 0 (λ x. omega arith))
+none_due : (l low high : ℕ) → are_chars_from [] (Left l low high) ≡ eqb l 0
+unfolding are_chars_from decode_from no_byte are_chars
+none_due zero low high = refl
+none_due (suc l) low high = sym (ne_eqb (suc l) 0 (λ x. omega arith))
 
 -- All bytes are read.
 pub all_read
-    : (bs : List ℕ) (at left low high : ℕ) → length bs ≤ at → areChars (decode bs) ≡ areCharsFrom (drop at bs) (Left left low high)
-    → eqb left 0 ≡ areChars (decode bs)
-all_read bs at left low high h e = sym (e ∙ rw (drop_of_length-le bs h) (none-due left low high))
+    : (bs : List ℕ) (at left low high : ℕ) → length bs ≤ at → are_chars (decode bs) ≡ are_chars_from (drop at bs) (Left left low high)
+    → eqb left 0 ≡ are_chars (decode bs)
+all_read bs at left low high h e = sym (e ∙ rw (drop_of_length-le bs h) (none_due left low high))

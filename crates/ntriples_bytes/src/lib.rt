@@ -1,8 +1,8 @@
 // Characters in bytes of UTF-8.
 ghost use Rattle.std.specs.Prelude.{◌≡◌, List, ◌∷◌, ℕ, ◌<◌, length, get_or};
-ghost use Rattle.spec_ntriples.specs.computed.Decoded.{decode, decode_from, firstByte};
+ghost use Rattle.spec_ntriples.specs.computed.Decoded.{decode, decode_from, first_byte};
 ghost use Rattle.ntriples_bytes.specs.inside.Places.{Utf8From, Marks};
-ghost use Rattle.ntriples_bytes.specs.inside.Whole.{areChars, areCharsFrom};
+ghost use Rattle.ntriples_bytes.specs.inside.Whole.{are_chars, are_chars_from};
 
 // The first byte behind those of ASCII.
 pub const BEHIND_ASCII: u8 = 0x80;
@@ -29,8 +29,8 @@ pub enum Open {
 // ---- whether bytes are characters
 
 // What the first byte of a character leaves due.
-fn first_byte(b: u8) -> Open
-    ensures { (bs : List ℕ) → areChars (decode_from bs (firstByte b)) ≡ areCharsFrom bs result }
+fn first_byte_lem(b: u8) -> Open
+    ensures { (bs : List ℕ) → are_chars (decode_from bs (first_byte b)) ≡ are_chars_from bs result }
 {
     if b < BEHIND_ASCII {
         return Open::Due(0, LOWEST, HIGHEST);
@@ -64,10 +64,10 @@ fn first_byte(b: u8) -> Open
 
 // What a byte leaves due behind an open character.
 fn next_byte(left: u8, low: u8, high: u8, b: u8) -> Open
-    ensures { (bs : List ℕ) → areCharsFrom (b ∷ bs) (Open.Due left low high) ≡ areCharsFrom bs result }
+    ensures { (bs : List ℕ) → are_chars_from (b ∷ bs) (Open.Due left low high) ≡ are_chars_from bs result }
 {
     if left == 0 {
-        return first_byte(b);
+        return first_byte_lem(b);
     }
     if b < low {
         return Open::Broken;
@@ -80,7 +80,7 @@ fn next_byte(left: u8, low: u8, high: u8, b: u8) -> Open
 
 // Whether bytes are UTF-8.
 pub fn is_utf8(bytes: &[u8]) -> bool
-    ensures { result ≡ areChars (decode bytes.now) }
+    ensures { result ≡ are_chars (decode bytes.now) }
 {
     let mut left: u8 = 0;
     let mut low = LOWEST;

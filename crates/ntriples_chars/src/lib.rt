@@ -1,7 +1,7 @@
 // The sets of characters in the grammar of N-Triples (RDF 1.1 N-Triples, section 7), and of schemes.
 ghost use Rattle.std.specs.Prelude.{◌≡◌, ◌||◌, ◌≤◌};
 ghost use Rattle.spec_ntriples.specs.Utf8.{is_scalar};
-ghost use Rattle.spec_ntriples.specs.Characters.{isOneOf, codes, isLetter, isDigit, isLetterOrDigit, isIriChar, isStringChar, isPnCharsBase, isPnCharsU, isPnChars, hexValue, noChar, echar};
+ghost use Rattle.spec_ntriples.specs.Characters.{is_one_of, codes, is_letter, is_digit, is_letter_or_digit, is_iri_char, is_string_char, is_pn_chars_base, is_pn_chars_u, is_pn_chars, hex_value, no_char, echar};
 
 // The last code point.
 pub const LAST_CODE: u32 = 0x10FFFF;
@@ -18,35 +18,35 @@ pub fn is_scalar(c: u32) -> bool
 
 // Whether a character is a letter of ASCII.
 pub fn is_letter(c: u32) -> bool
-    ensures { result ≡ isLetter c }
+    ensures { result ≡ is_letter c }
 {
     ((b'A' as u32 <= c) & (c <= b'Z' as u32)) | ((b'a' as u32 <= c) & (c <= b'z' as u32))
 }
 
 // Whether a character is a digit.
 pub fn is_digit(c: u32) -> bool
-    ensures { result ≡ isDigit c }
+    ensures { result ≡ is_digit c }
 {
     (b'0' as u32 <= c) & (c <= b'9' as u32)
 }
 
 // Whether a character is a letter or a digit.
 pub fn is_letter_or_digit(c: u32) -> bool
-    ensures { result ≡ isLetterOrDigit c }
+    ensures { result ≡ is_letter_or_digit c }
 {
     is_letter(c) | is_digit(c)
 }
 
 // Whether a character may stand in a scheme, behind its first.
 pub fn is_scheme_char(c: u32) -> bool
-    ensures { result ≡ (isLetterOrDigit c || isOneOf (codes "+-.") c) }
+    ensures { result ≡ (is_letter_or_digit c || is_one_of (codes "+-.") c) }
 {
     is_letter_or_digit(c) | ((c == b'+' as u32) | ((c == b'-' as u32) | (c == b'.' as u32)))
 }
 
 // Whether a character is one of those above the space that bar an IRI.
 fn is_barred(c: u32) -> bool
-    ensures { result ≡ isOneOf (codes "<>\"{}|^`\\") c }
+    ensures { result ≡ is_one_of (codes "<>\"{}|^`\\") c }
 {
     (c == b'<' as u32)
         | ((c == b'>' as u32)
@@ -73,7 +73,7 @@ pub fn is_string_char(c: u32) -> bool
 
 // Whether a character is of PN_CHARS_BASE.
 fn is_pn_chars_base(c: u32) -> bool
-    ensures { result ≡ isPnCharsBase c }
+    ensures { result ≡ is_pn_chars_base c }
 {
     is_letter(c)
         | (((0x00C0 <= c) & (c <= 0x00D6))
@@ -92,14 +92,14 @@ fn is_pn_chars_base(c: u32) -> bool
 
 // Whether a character is of PN_CHARS_U.
 pub fn is_pn_chars_u(c: u32) -> bool
-    ensures { result ≡ isPnCharsU c }
+    ensures { result ≡ is_pn_chars_u c }
 {
     is_pn_chars_base(c) | ((c == b'_' as u32) | (c == b':' as u32))
 }
 
 // Whether a character is of PN_CHARS.
 pub fn is_pn_chars(c: u32) -> bool
-    ensures { result ≡ isPnChars c }
+    ensures { result ≡ is_pn_chars c }
 {
     is_pn_chars_u(c)
         | ((c == b'-' as u32)
@@ -110,7 +110,7 @@ pub fn is_pn_chars(c: u32) -> bool
 
 // The value of a hexadecimal digit, 16 where a character is none.
 pub fn hex_value(c: u32) -> u32
-    ensures value { result ≡ hexValue c }
+    ensures value { result ≡ hex_value c }
     ensures upper_bound { result ≤ 16 }
 {
     if (b'0' as u32 <= c) & (c <= b'9' as u32) {

@@ -15,17 +15,17 @@ copy_more out bs at from n k h l =
     ∙ sets_more out (drop from bs) at k d (sym (length-take-le k (drop from bs) (omega arith)))
 
 -- One zero more behind n.
-zeros-more : (n : ℕ) → replicate {A = ℕ} (suc n) 0 ≡ replicate n 0 ++ (0 ∷ [])
-zeros-more zero = refl
-zeros-more (suc n) = ap (λ (l : List ℕ). 0 ∷ l) (zeros-more n)
+zeros_more : (n : ℕ) → replicate {A = ℕ} (suc n) 0 ≡ replicate n 0 ++ (0 ∷ [])
+zeros_more zero = refl
+zeros_more (suc n) = ap (λ (l : List ℕ). 0 ∷ l) (zeros_more n)
 
-pub clear-more : (out : List ℕ) (at i : ℕ) → at ≤ i → set (sets out at (replicate (i - at) 0)) i 0 ≡ sets out at (replicate (i + 1 - at) 0)
-clear-more out at i h =
+pub clear_more : (out : List ℕ) (at i : ℕ) → at ≤ i → set (sets out at (replicate (i - at) 0)) i 0 ≡ sets out at (replicate (i + 1 - at) 0)
+clear_more out at i h =
     let zs : List ℕ = replicate (i - at) 0 in
     let k : i + 1 - at ≡ suc (i - at) = omega arith in
     let p : at + length zs ≡ i = omega (arith, length-replicate {A = ℕ} (i - at) 0) in
     sym
     (ap (λ (n : ℕ). sets out at (replicate n 0)) k
-    ∙ ap (sets out at) (zeros-more (i - at))
+    ∙ ap (sets out at) (zeros_more (i - at))
     ∙ sets-append out at zs (0 ∷ [])
     ∙ ap (λ (j : ℕ). set (sets out at zs) j 0) p)

@@ -1,7 +1,7 @@
 // Lent bytes written: texts copied from other bytes, those of the vocabulary, and zeros behind them.
 ghost use Rattle.std.specs.Prelude.{◌≡◌, ◌+◌, ◌-◌, ◌≤◌, length, take, drop, replicate};
 ghost use Rattle.std.proofs.lemmas.List.Edits.{sets};
-ghost use Rattle.ntriples_copy.specs.inside.Vocabulary.{vocabularyText};
+ghost use Rattle.ntriples_copy.specs.inside.Vocabulary.{vocabulary_text};
 
 // Copies n bytes, from one index on, to another.
 pub fn copy_bytes(bytes: &[u8], from: usize, n: usize, out: &mut [u8], at: usize)
@@ -19,7 +19,7 @@ pub fn copy_bytes(bytes: &[u8], from: usize, n: usize, out: &mut [u8], at: usize
 // The length of a vocabulary URI's text.
 pub fn vocabulary_length(term: u32) -> usize
     requires { (1 ≤ term) × (term ≤ 5) }
-    ensures { result ≡ length (vocabularyText term) }
+    ensures { result ≡ length (vocabulary_text term) }
 {
     if term <= 2 {
         return 49;
@@ -36,8 +36,8 @@ pub fn vocabulary_length(term: u32) -> usize
 // Copies the text of a vocabulary URI to an index.
 pub fn write_vocabulary(term: u32, out: &mut [u8], at: usize)
     requires le_term { (1 ≤ term) × (term ≤ 5) }
-    requires term_in_bounds { at + length (vocabularyText term) ≤ length out.old }
-    ensures { out.new ≡ sets out.old at (vocabularyText term) }
+    requires term_in_bounds { at + length (vocabulary_text term) ≤ length out.old }
+    ensures { out.new ≡ sets out.old at (vocabulary_text term) }
 {
     if term == 1 {
         let rdf_type = b"<http://www.w3.org/1999/02/22-rdf-syntax-ns#type>";

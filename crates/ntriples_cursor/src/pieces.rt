@@ -1,9 +1,9 @@
 // The canonical bytes of a character, as a piece of text.
 ghost use Rattle.std.specs.Prelude.{◌<◌, [], ◌∷◌, ◌≡◌};
-ghost use Rattle.spec_ntriples.specs.Utf8.{encodeChar};
-ghost use Rattle.spec_ntriples.specs.Texts.{canonicalChar};
+ghost use Rattle.spec_ntriples.specs.Utf8.{encode_char};
+ghost use Rattle.spec_ntriples.specs.Texts.{canonical_char};
 ghost use Rattle.ntriples_cursor.specs.inside.Coming.{Holds};
-ghost use Rattle.ntriples_cursor.specs.inside.Letters.{letterOf};
+ghost use Rattle.ntriples_cursor.specs.inside.Letters.{letter_of};
 
 use crate::{Cursor, Piece};
 
@@ -51,7 +51,7 @@ pub fn triple(a: u8, b: u8, d: u8, next: Cursor) -> Piece
 // The bytes of a character in UTF-8.
 pub fn encoded(c: u32, next: Cursor) -> Piece
     requires { c < 0x200000 }
-    ensures { Holds (encodeChar c) next result }
+    ensures { Holds (encode_char c) next result }
 {
     if c < 0x80 {
         return single(c as u8, next);
@@ -78,7 +78,7 @@ pub fn encoded(c: u32, next: Cursor) -> Piece
 
 // The letter behind the backslash of a character that is escaped in canonical text, 0 for any other.
 fn letter_of(c: u32) -> u8
-    ensures { result ≡ letterOf c }
+    ensures { result ≡ letter_of c }
 {
     if c == QUOTE {
         return b'"';
@@ -98,7 +98,7 @@ fn letter_of(c: u32) -> u8
 // The canonical bytes of a string's character.
 pub fn canonical(c: u32, next: Cursor) -> Piece
     requires { c < 0x200000 }
-    ensures { Holds (canonicalChar c) next result }
+    ensures { Holds (canonical_char c) next result }
 {
     let letter = letter_of(c);
     if 0 < letter {

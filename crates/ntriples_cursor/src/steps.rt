@@ -1,8 +1,8 @@
 // The steps of a cursor through a term: each gives a piece of the term's canonical text.
 ghost use Rattle.std.specs.Prelude.{◌≡◌, true, ◌&&◌, List, ◌++◌, ℕ, ◌+◌, ◌-◌, ◌≤◌, ◌<◌, length, take, drop};
-ghost use Rattle.spec_ntriples.specs.Texts.{lowerChar, isSameText};
+ghost use Rattle.spec_ntriples.specs.Texts.{lower_char, is_same_text};
 ghost use Rattle.ntriples_bytes.specs.inside.Places.{At};
-ghost use Rattle.ntriples_cursor.specs.inside.Coming.{Typed, Follows, ComingIn, Coming, SomeComing, SomeTyped, SomeFollows, Stepped, IriStepped, typeTail};
+ghost use Rattle.ntriples_cursor.specs.inside.Coming.{Typed, Follows, ComingIn, Coming, SomeComing, SomeTyped, SomeFollows, Stepped, IriStepped, type_tail};
 
 use crate::chars::resolved_at;
 use crate::pieces::{canonical, double, encoded, single, triple};
@@ -24,7 +24,7 @@ pub fn is_piece(p: Piece, text: &[u8], at: usize, left: usize) -> bool
     requires len_bound { (p.len ≤ 4) × (4 ≤ length p.bytes) }
     requires left_in_bounds { at + left ≤ length text.now }
     ensures fits { result ≡ true → p.len ≤ left }
-    ensures first { (later : List ℕ) → isSameText (take p.len p.bytes ++ later) (take left (drop at text.now)) ≡ (result && isSameText later (take (left - p.len) (drop (at + p.len) text.now))) }
+    ensures first { (later : List ℕ) → is_same_text (take p.len p.bytes ++ later) (take left (drop at text.now)) ≡ (result && is_same_text later (take (left - p.len) (drop (at + p.len) text.now))) }
 {
     if left < p.len {
         return false;
@@ -70,7 +70,7 @@ fn label_piece(line: &[u8], end: usize, place: usize) -> Piece
 
 // A character in lower case.
 fn lower(c: u32) -> u32
-    ensures { result ≡ lowerChar c }
+    ensures { result ≡ lower_char c }
 {
     if (65 <= c) & (c <= 90) {
         return c + 32;
@@ -106,7 +106,7 @@ fn type_inner(line: &[u8], place: usize) -> usize
 // Whether an IRI goes on as xsd:string does behind its first mark.
 fn is_string_type(line: &[u8], end: usize, from: usize) -> bool
     requires { SomeComing Mode.Iri line.now end from }
-    ensures { (bytes : List ℕ) → ComingIn Mode.Iri line.now end from bytes → result ≡ isSameText bytes typeTail }
+    ensures { (bytes : List ℕ) → ComingIn Mode.Iri line.now end from bytes → result ≡ is_same_text bytes type_tail }
 {
     let text = b"http://www.w3.org/2001/XMLSchema#string>";
     let mut place = from;

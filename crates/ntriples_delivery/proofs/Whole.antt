@@ -8,25 +8,25 @@ use lib.ListN.{length, replicate, length-append}
 use lib.Seq.{sets}
 use Rattle.spec.specs.declared.Triple.{Triple}
 use Rattle.spec.specs.Lists.{padded}
-use Rattle.spec.specs.Tables.{firstRows}
-use Rattle.spec.proofs.TableRows.{length-firstRows}
-use Rattle.spec.specs.Messages.{shortBytes, entriesBytes, sectionBytes, fieldsBytes, encode}
-use Rattle.delivery_format.specs.inside.Sections.{isRightIn}
+use Rattle.spec.specs.Tables.{first_rows}
+use Rattle.spec.proofs.TableRows.{length-first_rows}
+use Rattle.spec.specs.Messages.{short_bytes, entries_bytes, section_bytes, fields_bytes, encode}
+use Rattle.delivery_format.specs.inside.Sections.{is_right_in}
 use Rattle.spec_ntriples.specs.Reading.{additions}
 use Rattle.spec_ntriples.proofs.ReadingRefused.{selected, additions-length}
 use Rattle.ntriples_text.proofs.Writing.{sets-append}
-use Rattle.ntriples_zero.proofs.Zeros.{sets-zeros}
+use Rattle.ntriples_zero.proofs.Zeros.{sets_zeros}
 use Rattle.ntriples_section.specs.inside.Sections.{chosen}
 use Rattle.ntriples_section.proofs.Writing.{section-length}
 
 -- How many statements and facts there are.
 pub chosen-all : (n : ℕ) (ws : List ℕ) → length (chosen true n ws) + length (chosen false n ws) ≡ n
-unfolding chosen isRightIn
-chosen-all n ws = selected (firstRows n ws) ∙ length-firstRows n ws
+unfolding chosen is_right_in
+chosen-all n ws = selected (first_rows n ws) ∙ length-first_rows n ws
 
 module _ (n len : ℕ) (ws : List ℕ) (h : 10 + 12 * n ≤ len) where
   abbrev message : List ℕ
-  message = encode (additions (firstRows n ws))
+  message = encode (additions (first_rows n ws))
 
   abbrev statements : List Triple
   statements = chosen true n ws
@@ -35,12 +35,12 @@ module _ (n len : ℕ) (ws : List ℕ) (h : 10 + 12 * n ≤ len) where
   facts = chosen false n ws
 
   -- The bytes of a message of additions.
-  message-is : message ≡ replicate 4 0 ++ (sectionBytes statements ++ (sectionBytes facts ++ (0 ∷ 0 ∷ [])))
-  unfolding encode additions chosen isRightIn sectionBytes entriesBytes fieldsBytes shortBytes
-  message-is = refl
+  message_is : message ≡ replicate 4 0 ++ (section_bytes statements ++ (section_bytes facts ++ (0 ∷ 0 ∷ [])))
+  unfolding encode additions chosen is_right_in section_bytes entries_bytes fields_bytes short_bytes
+  message_is = refl
 
   message-length : length message ≡ 10 + 12 * n
-  message-length = additions-length (firstRows n ws) ∙ ap (λ (k : ℕ). 10 + 12 * k) (length-firstRows n ws)
+  message-length = additions-length (first_rows n ws) ∙ ap (λ (k : ℕ). 10 + 12 * k) (length-first_rows n ws)
 
   -- What is behind the sections: a count of no fields, and zeros.
   tail-is
@@ -49,24 +49,24 @@ module _ (n len : ℕ) (ws : List ℕ) (h : 10 + 12 * n ≤ len) where
       append_assoc S F (0 ∷ 0 ∷ R)
       ∙ sym (append_assoc S (F ++ (0 ∷ 0 ∷ [])) R ∙ ap (λ (l : List ℕ). S ++ l) (append_assoc F (0 ∷ 0 ∷ []) R))
 
-  both-length : length (sectionBytes statements ++ sectionBytes facts) ≡ 4 + 12 * n
+  both-length : length (section_bytes statements ++ section_bytes facts) ≡ 4 + 12 * n
   both-length =
-      omega (arith, length-append (sectionBytes statements) (sectionBytes facts), section-length statements, section-length facts, chosen-all n ws)
+      omega (arith, length-append (section_bytes statements) (section_bytes facts), section-length statements, section-length facts, chosen-all n ws)
 
-  among-zeros : sets (replicate len 0) 4 (sectionBytes statements ++ sectionBytes facts) ≡ padded len message
-  among-zeros =
-      let S = sectionBytes statements in
-      let F = sectionBytes facts in
+  among_zeros : sets (replicate len 0) 4 (section_bytes statements ++ section_bytes facts) ≡ padded len message
+  among_zeros =
+      let S = section_bytes statements in
+      let F = section_bytes facts in
       let r : ℕ = len - length message in
       let k : len ≡ 4 + (length (S ++ F) + suc (suc r)) = omega (arith, both-length, message-length) in
       ap (λ (m : ℕ). sets (replicate m 0) 4 (S ++ F)) k
-      ∙ sets-zeros 4 (suc (suc r)) (S ++ F)
+      ∙ sets_zeros 4 (suc (suc r)) (S ++ F)
       ∙ ap (λ (l : List ℕ). replicate 4 0 ++ l) (tail-is S F (replicate r 0))
-      ∙ sym (ap (λ (l : List ℕ). l ++ replicate r 0) message-is)
+      ∙ sym (ap (λ (l : List ℕ). l ++ replicate r 0) message_is)
 
   pub delivery-written
-      : (zeros a b : List ℕ) (at : ℕ) → zeros ≡ replicate len 0 → a ≡ sets zeros 4 (sectionBytes statements) → at ≡ 4 + 2 + length statements * 12 → b ≡ sets a at (sectionBytes facts)
+      : (zeros a b : List ℕ) (at : ℕ) → zeros ≡ replicate len 0 → a ≡ sets zeros 4 (section_bytes statements) → at ≡ 4 + 2 + length statements * 12 → b ≡ sets a at (section_bytes facts)
       → b ≡ padded len message
   delivery-written zeros a b at z e p f =
-      let k : at ≡ 4 + length (sectionBytes statements) = omega (arith, section-length statements) in
-      f ∙ rw (e, z, k) (sym (sets-append (replicate len 0) 4 (sectionBytes statements) (sectionBytes facts)) ∙ among-zeros)
+      let k : at ≡ 4 + length (section_bytes statements) = omega (arith, section-length statements) in
+      f ∙ rw (e, z, k) (sym (sets-append (replicate len 0) 4 (section_bytes statements) (section_bytes facts)) ∙ among_zeros)

@@ -1,6 +1,6 @@
 // The delivery that a reading gives: additions, from the terms of the lines' triples.
 ghost use Rattle.std.specs.Prelude.{◌≡◌, ◌+◌, ◌*◌, ◌≤◌, length};
-ghost use Rattle.spec.specs.Tables.{firstRows};
+ghost use Rattle.spec.specs.Tables.{first_rows};
 ghost use Rattle.spec.specs.Lists.{padded};
 ghost use Rattle.spec.specs.Messages.{encode};
 ghost use Rattle.spec_ntriples.specs.Reading.{additions};
@@ -15,7 +15,7 @@ const STATEMENTS_AT: usize = 4;
 pub fn write_delivery(terms: &[u32], n: usize, delivery: &mut [u8]) -> usize
     requires n_in_bounds { (n * 3 ≤ length terms.now) × (n ≤ 5460) }
     requires n_in_bounds_2 { 10 + 12 * n ≤ length delivery.old }
-    ensures written { delivery.new ≡ padded (length delivery.old) (encode (additions (firstRows n terms.now))) }
+    ensures written { delivery.new ≡ padded (length delivery.old) (encode (additions (first_rows n terms.now))) }
     ensures whole { result ≡ 10 + 12 * n }
 {
     clear(delivery);

@@ -1,11 +1,11 @@
 // Where the terms of N-Triples end in bytes of UTF-8.
 ghost use Rattle.std.specs.Prelude.{List, ℕ};
-ghost use Rattle.spec_ntriples.specs.computed.Terminals.{outside, stringStep, scan, skip};
+ghost use Rattle.spec_ntriples.specs.computed.Terminals.{outside, string_step, scan, skip};
 ghost use Rattle.spec_ntriples.specs.Texts.{Text};
-ghost use Rattle.spec_ntriples.specs.computed.Lines.{read, readBlank, readType, suffixed, literalOf, readSubject, readObject};
-ghost use Rattle.ntriples_bytes.specs.inside.Places.{Utf8From, charsAt};
-ghost use Rattle.ntriples_terminals.specs.inside.Ends.{behindRead, IsEnd};
-ghost use Rattle.ntriples_ends.specs.inside.Reading.{behindLabelled, behindTag, behindType};
+ghost use Rattle.spec_ntriples.specs.computed.Lines.{read, read_blank, read_type, suffixed, literal_of, read_subject, read_object};
+ghost use Rattle.ntriples_bytes.specs.inside.Places.{Utf8From, chars_at};
+ghost use Rattle.ntriples_terminals.specs.inside.Ends.{behind_read, IsEnd};
+ghost use Rattle.ntriples_ends.specs.inside.Reading.{behind_labelled, behind_tag, behind_type};
 
 use ntriples_labels::{is_at_tag, label_begin, label_end, tag_end};
 use ntriples_terminals::{Found, iri_end, mark_end, skip, string_end};
@@ -13,7 +13,7 @@ use ntriples_terminals::{Found, iri_end, mark_end, skip, string_end};
 // Where a label ends.
 fn labelled_end(line: &[u8], at: usize) -> Found
     requires { Utf8From line.now at }
-    ensures { IsEnd line.now (behindLabelled (charsAt line.now at)) result }
+    ensures { IsEnd line.now (behind_labelled (chars_at line.now at)) result }
 {
     match label_begin(line, at) {
         Found::Nothing => Found::Nothing,
@@ -24,7 +24,7 @@ fn labelled_end(line: &[u8], at: usize) -> Found
 // Where a blank node ends, from behind its first character.
 fn blank_end(line: &[u8], at: usize) -> Found
     requires { Utf8From line.now at }
-    ensures { IsEnd line.now (behindRead (readBlank (charsAt line.now at))) result }
+    ensures { IsEnd line.now (behind_read (read_blank (chars_at line.now at))) result }
 {
     match mark_end(line, at, b':' as u32) {
         Found::Nothing => Found::Nothing,
@@ -35,7 +35,7 @@ fn blank_end(line: &[u8], at: usize) -> Found
 // Where a subject ends.
 pub fn subject_end(line: &[u8], at: usize) -> Found
     requires { Utf8From line.now at }
-    ensures { IsEnd line.now (behindRead (readSubject (charsAt line.now at))) result }
+    ensures { IsEnd line.now (behind_read (read_subject (chars_at line.now at))) result }
 {
     match mark_end(line, at, b'_' as u32) {
         Found::Nothing => iri_end(line, at),
@@ -46,7 +46,7 @@ pub fn subject_end(line: &[u8], at: usize) -> Found
 // Where a literal's datatype ends, from behind the first "^".
 fn type_end(line: &[u8], at: usize) -> Found
     requires { Utf8From line.now at }
-    ensures { (string : List ℕ) → IsEnd line.now (behindRead (readType string (charsAt line.now at))) result }
+    ensures { (string : List ℕ) → IsEnd line.now (behind_read (read_type string (chars_at line.now at))) result }
 {
     match mark_end(line, at, b'^' as u32) {
         Found::Nothing => Found::Nothing,
@@ -57,7 +57,7 @@ fn type_end(line: &[u8], at: usize) -> Found
 // Where a literal's language tag ends, from behind "@".
 fn language_end(line: &[u8], at: usize) -> Found
     requires { Utf8From line.now at }
-    ensures { IsEnd line.now (behindTag (charsAt line.now at)) result }
+    ensures { IsEnd line.now (behind_tag (chars_at line.now at)) result }
 {
     if is_at_tag(line, true, at) {
         return Found::End(tag_end(line, at));
@@ -69,7 +69,7 @@ fn language_end(line: &[u8], at: usize) -> Found
 fn typed_end(line: &[u8], end: usize, at: usize) -> Found
     requires utf8from { Utf8From line.now end }
     requires utf8from_2 { Utf8From line.now at }
-    ensures { (string : List ℕ) → IsEnd line.now (behindType string (charsAt line.now end) (charsAt line.now at)) result }
+    ensures { (string : List ℕ) → IsEnd line.now (behind_type string (chars_at line.now end) (chars_at line.now at)) result }
 {
     match mark_end(line, at, b'^' as u32) {
         Found::Nothing => Found::End(end),
@@ -80,7 +80,7 @@ fn typed_end(line: &[u8], end: usize, at: usize) -> Found
 // Where a literal ends, from behind its string.
 fn suffix_end(line: &[u8], end: usize) -> Found
     requires { Utf8From line.now end }
-    ensures { (string : List ℕ) (t : Text) → IsEnd line.now (behindRead (suffixed string (read t (charsAt line.now end)) (skip (charsAt line.now end)))) result }
+    ensures { (string : List ℕ) (t : Text) → IsEnd line.now (behind_read (suffixed string (read t (chars_at line.now end)) (skip (chars_at line.now end)))) result }
 {
     let at = skip(line, end);
     match mark_end(line, at, b'@' as u32) {
@@ -92,7 +92,7 @@ fn suffix_end(line: &[u8], end: usize) -> Found
 // Where a literal ends, from behind its first quote.
 fn literal_end(line: &[u8], at: usize) -> Found
     requires { Utf8From line.now at }
-    ensures { IsEnd line.now (behindRead (literalOf (scan stringStep outside (charsAt line.now at)))) result }
+    ensures { IsEnd line.now (behind_read (literal_of (scan string_step outside (chars_at line.now at)))) result }
 {
     match string_end(line, at) {
         Found::Nothing => Found::Nothing,
@@ -103,7 +103,7 @@ fn literal_end(line: &[u8], at: usize) -> Found
 // Where an object ends.
 pub fn object_end(line: &[u8], at: usize) -> Found
     requires { Utf8From line.now at }
-    ensures { IsEnd line.now (behindRead (readObject (charsAt line.now at))) result }
+    ensures { IsEnd line.now (behind_read (read_object (chars_at line.now at))) result }
 {
     match mark_end(line, at, b'"' as u32) {
         Found::Nothing => subject_end(line, at),

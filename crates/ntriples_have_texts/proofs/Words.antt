@@ -9,9 +9,9 @@ use Rattle.spec.specs.declared.Triple.{Triple}
 use Rattle.spec.specs.Lists.{all}
 use Rattle.spec.specs.Tables.{count, flatten, rows}
 use Rattle.spec.specs.inside.Laid.{Laid}
-use Rattle.spec.proofs.TableRows.{flatten-firstRows}
+use Rattle.spec.proofs.TableRows.{flatten-first_rows}
 use Rattle.spec_ntriples.specs.Dictionary.{Entry}
-use Rattle.spec_writing.specs.Writing.{hasText, hasTexts}
+use Rattle.spec_writing.specs.Writing.{has_text, has_texts}
 use Rattle.dictionary_bytes.proofs.Same.{part-cons}
 
 -- ---- the words of rows
@@ -19,13 +19,13 @@ use Rattle.dictionary_bytes.proofs.Same.{part-cons}
 -- The words of a table's rows are those behind its count.
 pub table-words : (ws : List ℕ) → Laid ws → flatten (rows ws) ≡ take (count ws * 3) (drop 1 ws)
 unfolding rows
-table-words ws L = flatten-firstRows (count ws) (drop 1 ws) (omega (arith, L.counted, L.fits, length-drop 1 ws))
+table-words ws L = flatten-first_rows (count ws) (drop 1 ws) (omega (arith, L.counted, L.fits, length-drop 1 ws))
 
 -- All words of rows have texts exactly when all rows have.
-pub all_words : (es : List Entry) (ts : List Triple) → all (hasText es) (flatten ts) ≡ all (hasTexts es) ts
-unfolding all flatten hasTexts
+pub all_words : (es : List Entry) (ts : List Triple) → all (has_text es) (flatten ts) ≡ all (has_texts es) ts
+unfolding all flatten has_texts
 all_words es [] = refl
-all_words es (t ∷ ts) = go (hasText es t.subject) (hasText es t.property) (hasText es t.object) (all_words es ts)
+all_words es (t ∷ ts) = go (has_text es t.subject) (has_text es t.property) (has_text es t.object) (all_words es ts)
   where
     go : {x y : Bool} (a b c : Bool) → x ≡ y → (a && (b && (c && x))) ≡ ((a && (b && c)) && y)
     go true true true e = e
@@ -48,17 +48,17 @@ between_none ws i end h = let e : end - i ≡ 0 = omega arith in rw e
 -- ---- the loop that asks for texts
 
 module _ (es : List Entry) (ws : List ℕ) (end : ℕ) where
-  pub texts-first : Laid ws → end ≡ count ws * 3 + 1 → all (hasText es) (between ws 1 end) ≡ all (hasTexts es) (rows ws)
-  texts-first L e = let k : end - 1 ≡ count ws * 3 = omega arith in rw (k, ← table-words ws L) (all_words es (rows ws))
+  pub texts_first : Laid ws → end ≡ count ws * 3 + 1 → all (has_text es) (between ws 1 end) ≡ all (has_texts es) (rows ws)
+  texts_first L e = let k : end - 1 ≡ count ws * 3 = omega arith in rw (k, ← table-words ws L) (all_words es (rows ws))
 
-  pub texts-stop : (i : ℕ) → i < end → end ≤ length ws → hasText es (get_or ws i 0) ≡ false → all (hasText es) (between ws i end) ≡ false
+  pub texts_stop : (i : ℕ) → i < end → end ≤ length ws → has_text es (get_or ws i 0) ≡ false → all (has_text es) (between ws i end) ≡ false
   unfolding all
-  texts-stop i h k e = rw (between_more ws i end h k, e)
+  texts_stop i h k e = rw (between_more ws i end h k, e)
 
-  pub texts-more : (i : ℕ) → i < end → end ≤ length ws → hasText es (get_or ws i 0) ≡ true → all (hasText es) (between ws (i + 1) end) ≡ all (hasText es) (between ws i end)
+  pub texts_more : (i : ℕ) → i < end → end ≤ length ws → has_text es (get_or ws i 0) ≡ true → all (has_text es) (between ws (i + 1) end) ≡ all (has_text es) (between ws i end)
   unfolding all
-  texts-more i h k e = rw (between_more ws i end h k, e)
+  texts_more i h k e = rw (between_more ws i end h k, e)
 
-  pub texts-end : (i : ℕ) → end ≤ i → all (hasText es) (between ws i end) ≡ true
+  pub texts_end : (i : ℕ) → end ≤ i → all (has_text es) (between ws i end) ≡ true
   unfolding all
-  texts-end i h = rw (between_none ws i end h)
+  texts_end i h = rw (between_none ws i end h)

@@ -3,8 +3,8 @@ ghost use Rattle.std.specs.Prelude.{◌≡◌, true, List, ℕ};
 ghost use Rattle.spec.specs.Lists.{all};
 ghost use Rattle.spec.specs.Tables.{rows};
 ghost use Rattle.spec.specs.inside.Laid.{Laid};
-ghost use Rattle.spec_ntriples.specs.Dictionary.{entries, isDictionary};
-ghost use Rattle.spec_writing.specs.Writing.{hasText, hasTexts};
+ghost use Rattle.spec_ntriples.specs.Dictionary.{entries, is_dictionary};
+ghost use Rattle.spec_writing.specs.Writing.{has_text, has_texts};
 ghost use Rattle.dictionary_bytes.specs.inside.Entries.{FilledBy};
 
 use dictionary_bytes::Filled;
@@ -13,7 +13,7 @@ use terms::Term;
 
 // Whether a term has a text: it is of the vocabulary, or an entry has it.
 fn has_text(f: Filled, term: u32) -> bool
-    ensures { (bs : List ℕ) → isDictionary bs ≡ true → FilledBy bs f (entries bs) → result ≡ hasText (entries bs) term }
+    ensures { (bs : List ℕ) → is_dictionary bs ≡ true → FilledBy bs f (entries bs) → result ≡ has_text (entries bs) term }
 {
     let t = Term { word: term };
     if t.is_vocabulary() {
@@ -25,7 +25,7 @@ fn has_text(f: Filled, term: u32) -> bool
 // Question 16: whether all terms of a table's rows have texts. Numbers are consecutive, so that the counts tell, without a search.
 pub fn have_texts(table: &[u32], f: Filled) -> bool
     requires { Laid table.now }
-    ensures { (bs : List ℕ) → isDictionary bs ≡ true → FilledBy bs f (entries bs) → result ≡ all (hasTexts (entries bs)) (rows table.now) }
+    ensures { (bs : List ℕ) → is_dictionary bs ≡ true → FilledBy bs f (entries bs) → result ≡ all (has_texts (entries bs)) (rows table.now) }
 {
     let end = table[0] as usize * 3 + 1;
     let mut i = 1;

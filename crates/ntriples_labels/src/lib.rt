@@ -1,10 +1,10 @@
 // The labels of blank nodes and the tags of languages in bytes of UTF-8: where each ends.
 ghost use Rattle.std.specs.Prelude.{◌≡◌, true, ◌||◌};
-ghost use Rattle.spec_ntriples.specs.Characters.{isDigit, isPnCharsU};
-ghost use Rattle.spec_ntriples.specs.computed.Terminals.{label, headIs, tag};
-ghost use Rattle.ntriples_bytes.specs.inside.Places.{Utf8From, charsAt};
-ghost use Rattle.ntriples_terminals.specs.inside.Ends.{behindHead, behindGot, Ended, IsEnd};
-ghost use Rattle.ntriples_labels.specs.inside.Inside.{goesOn};
+ghost use Rattle.spec_ntriples.specs.Characters.{is_digit, is_pn_chars_u};
+ghost use Rattle.spec_ntriples.specs.computed.Terminals.{label, head_is, tag};
+ghost use Rattle.ntriples_bytes.specs.inside.Places.{Utf8From, chars_at};
+ghost use Rattle.ntriples_terminals.specs.inside.Ends.{behind_head, behind_got, Ended, IsEnd};
+ghost use Rattle.ntriples_labels.specs.inside.Inside.{goes_on};
 
 use ntriples_bytes::char_at;
 use ntriples_chars::{is_digit, is_letter, is_letter_or_digit, is_pn_chars, is_pn_chars_u};
@@ -15,7 +15,7 @@ use ntriples_terminals::Found;
 // Behind the first character of a label, where one stands at an index.
 pub fn label_begin(line: &[u8], at: usize) -> Found
     requires { Utf8From line.now at }
-    ensures { IsEnd line.now (behindHead (λ c. isPnCharsU c || isDigit c) (charsAt line.now at)) result }
+    ensures { IsEnd line.now (behind_head (λ c. is_pn_chars_u c || is_digit c) (chars_at line.now at)) result }
 {
     if line.len() <= at {
         return Found::Nothing;
@@ -30,7 +30,7 @@ pub fn label_begin(line: &[u8], at: usize) -> Found
 // Where a label ends, from behind its first character.
 pub fn label_end(line: &[u8], from: usize) -> usize
     requires { Utf8From line.now from }
-    ensures { Ended line.now (behindGot (label (charsAt line.now from))) result }
+    ensures { Ended line.now (behind_got (label (chars_at line.now from))) result }
 {
     let mut end = from;
     let mut at = from;
@@ -52,7 +52,7 @@ pub fn label_end(line: &[u8], from: usize) -> usize
 
 // Whether a character goes on a tag.
 fn goes_on(letters: bool, c: u32) -> bool
-    ensures { result ≡ goesOn letters c }
+    ensures { result ≡ goes_on letters c }
 {
     if letters {
         is_letter(c)
@@ -64,7 +64,7 @@ fn goes_on(letters: bool, c: u32) -> bool
 // Whether such a character stands at an index.
 pub fn is_at_tag(line: &[u8], letters: bool, at: usize) -> bool
     requires { Utf8From line.now at }
-    ensures { result ≡ headIs (goesOn letters) (charsAt line.now at) }
+    ensures { result ≡ head_is (goes_on letters) (chars_at line.now at) }
 {
     if line.len() <= at {
         return false;
@@ -75,7 +75,7 @@ pub fn is_at_tag(line: &[u8], letters: bool, at: usize) -> bool
 // Where a tag ends, whose first character is known to be a letter.
 pub fn tag_end(line: &[u8], from: usize) -> usize
     requires { Utf8From line.now from }
-    ensures { Ended line.now (behindGot (tag (goesOn true) (charsAt line.now from))) result }
+    ensures { Ended line.now (behind_got (tag (goes_on true) (chars_at line.now from))) result }
 {
     let mut letters = true;
     let mut at = from;

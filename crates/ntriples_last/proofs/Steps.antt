@@ -6,30 +6,30 @@ use native.Mathlib.Omega.{arith}
 use lib.ListN.{length, take, drop, take-append-drop}
 use Rattle.spec.specs.inside.Each.{Each}
 use Rattle.spec_ntriples.specs.Texts.{Text, TextTriple}
-use Rattle.spec_ntriples.specs.Dictionary.{Entry, bytesOfEntries, vocabularyOf}
-use Rattle.spec_ntriples.specs.Reading.{withAll}
+use Rattle.spec_ntriples.specs.Dictionary.{Entry, bytes_of_entries, vocabulary_of}
+use Rattle.spec_ntriples.specs.Reading.{with_all}
 use Rattle.spec_ntriples.proofs.EntryBytes.{length-entries}
-use Rattle.spec.proofs.Each.{each-front}
+use Rattle.spec.proofs.Each.{each_front}
 use Rattle.spec_ntriples.proofs.KnownTexts.{HasTerm}
 use Rattle.dictionary_bytes.specs.declared.Filled.{Filled}
-use Rattle.dictionary_bytes.specs.inside.Entries.{placeAt, FilledBy}
+use Rattle.dictionary_bytes.specs.inside.Entries.{place_at, FilledBy}
 use Rattle.dictionary_bytes.proofs.Entry.{places-ascend}
 use Rattle.dictionary_entries.proofs.Standing.{entries-length}
-use Rattle.dictionary_entries.proofs.Held.{held-within, held-last}
+use Rattle.dictionary_entries.proofs.Held.{held-within, held_last}
 use Rattle.dictionary_index.specs.declared.Segment.{Segment}
 use Rattle.dictionary_index.specs.inside.Index.{LeadWithin, AreEntries, IsSegment}
-use Rattle.dictionary_index.proofs.Indexing.{index-within, first-before}
+use Rattle.dictionary_index.proofs.Indexing.{index-within, first_before}
 use Rattle.dictionary_search.specs.inside.IndexOf.{IndexOf}
 use Rattle.dictionary_names.specs.inside.Naming.{LastSegment}
-use Rattle.dictionary_names.proofs.Segments.{segment-index, segment-ends, segment-last}
-use Rattle.ntriples_terms.specs.inside.Words.{tripleBy, foundRow, RowsBy}
+use Rattle.dictionary_names.proofs.Segments.{segment_index, segment_ends, segment_last}
+use Rattle.ntriples_terms.specs.inside.Words.{triple_by, found_row, RowsBy}
 use Rattle.ntriples_naming.specs.declared.Last.{Last}
 use Rattle.ntriples_naming.specs.declared.Progress.{Progress}
 use Rattle.ntriples_naming.specs.declared.Progress.TheVariants.{Going, Full, NoSpace}
-use Rattle.ntriples_naming.specs.inside.Progress.{linesTexts, withEach, Stands, Reached, Begins}
-use Rattle.ntriples_naming.proofs.Entries.{have-terms, each-lines}
-use Rattle.ntriples_naming.proofs.Outcomes.{all-entered, all-rows, lacks-ground}
-use Rattle.ntriples_naming.proofs.Looking.{words-vocabulary, words-found}
+use Rattle.ntriples_naming.specs.inside.Progress.{lines_texts, with_each, Stands, Reached, Begins}
+use Rattle.ntriples_naming.proofs.Entries.{have_terms, each-lines}
+use Rattle.ntriples_naming.proofs.Outcomes.{all_entered, all-rows, lacks-ground}
+use Rattle.ntriples_naming.proofs.Looking.{words_vocabulary, words-found}
 use Rattle.ntriples_last.specs.inside.Segments.{IsBatch, AllNamed, TextsLackSpace, Looked, IsSegmentStep}
 use Rattle.ntriples_last.specs.declared.Step.TheVariants.{Done, Lacks, Next}
 
@@ -37,8 +37,8 @@ use Rattle.ntriples_last.specs.declared.Step.TheVariants.{Done, Lacks, Next}
 
 pub looked-none
     : (es : List Entry) (ts : List TextTriple) (bs : List ℕ) (f : Filled) (file lines : List ℕ) (n : ℕ) (ws vs : List ℕ)
-    → IsBatch file lines n ts → FilledBy bs f es → RowsBy (λ t r. tripleBy vocabularyOf t) ts n ws vs → Looked es ts bs 0 f vs
-unfolding bytesOfEntries
+    → IsBatch file lines n ts → FilledBy bs f es → RowsBy (λ t r. triple_by vocabulary_of t) ts n ws vs → Looked es ts bs 0 f vs
+unfolding bytes_of_entries
 looked-none es ts bs f file lines n ws vs B F R =
     record {
       before = [];
@@ -48,11 +48,11 @@ looked-none es ts bs f file lines n ws vs B F R =
       starts = refl;
       grown = sym (append-nil es);
       same = refl;
-      words = words-vocabulary es ts ws vs (rw B.counted at R);
+      words = words_vocabulary es ts ws vs (rw B.counted at R);
     }
 
-pub index-leads : (slots bs : List ℕ) (first : ℕ) (es : List Entry) → IndexOf slots bs first es → LeadWithin slots bs first
-index-leads slots bs first es X = index-within slots bs first (length es) X.index
+pub index_leads : (slots bs : List ℕ) (first : ℕ) (es : List Entry) → IndexOf slots bs first es → LeadWithin slots bs first
+index_leads slots bs first es X = index-within slots bs first (length es) X.index
 
 module _ (es : List Entry) (ts : List TextTriple) (bs : List ℕ) (first : ℕ) (f : Filled) (ws : List ℕ) (L : Looked es ts bs first f ws) where
   -- ---- a segment that is not the last
@@ -62,7 +62,7 @@ module _ (es : List Entry) (ts : List TextTriple) (bs : List ℕ) (first : ℕ) 
   left-entries =
       record {
         count = length L.behind;
-        ends = held-last bs f.end L.before L.behind L.filled.holds first L.starts;
+        ends = held_last bs f.end L.before L.behind L.filled.holds first L.starts;
         within = held-within bs f.end (L.before ++ L.behind) L.filled.holds;
       }
 
@@ -75,38 +75,38 @@ module _ (es : List Entry) (ts : List TextTriple) (bs : List ℕ) (first : ℕ) 
     rest = drop g.count L.behind
 
     pub here-index : IndexOf slots bs first here
-    here-index = segment-index slots bs f.end first L.before L.behind g L.filled.holds L.starts G
+    here-index = segment_index slots bs f.end first L.before L.behind g L.filled.holds L.starts G
 
     here-rest : L.before ++ L.behind ≡ L.before ++ here ++ rest
     here-rest = ap (λ (x : List Entry). L.before ++ x) (sym (take-append-drop g.count L.behind)) ∙ sym (append_assoc L.before here rest)
 
     pub here-some : g.end < f.end → first < g.end
-    unfolding placeAt
+    unfolding place_at
     here-some h =
-        let c : 0 < g.count = G.some (omega (arith, h, G.ends, first-before bs first g.count)) in
+        let c : 0 < g.count = G.some (omega (arith, h, G.ends, first_before bs first g.count)) in
         let e : 0 + g.count ≡ g.count = omega arith in
         omega (arith, G.ends, rw e at (places-ascend bs first 0 g.count), c)
 
     pub here-within : g.end ≤ length bs
     here-within = omega (arith, G.within, left-entries.within)
 
-    pub looked-on : (file lines : List ℕ) (n : ℕ) (vs : List ℕ) → IsBatch file lines n ts → RowsBy (foundRow here) ts n ws vs → Looked es ts bs g.end f vs
+    pub looked-on : (file lines : List ℕ) (n : ℕ) (vs : List ℕ) → IsBatch file lines n ts → RowsBy (found_row here) ts n ws vs → Looked es ts bs g.end f vs
     looked-on file lines n vs B R =
-        let T : Each HasTerm (L.before ++ L.behind) = have-terms (L.before ++ L.behind) L.filled.holds.writable in
+        let T : Each HasTerm (L.before ++ L.behind) = have_terms (L.before ++ L.behind) L.filled.holds.writable in
         record {
           before = L.before ++ here;
           behind = rest;
           more = L.more;
           filled = rw here-rest at L.filled;
-          starts = segment-ends slots bs f.end first L.before L.behind g L.filled.holds L.starts G;
+          starts = segment_ends slots bs f.end first L.before L.behind g L.filled.holds L.starts G;
           grown = sym here-rest ∙ L.grown;
           same = rw here-rest at L.same;
-          words = words-found L.before here rest (each-front HasTerm L.before L.behind T) ts ws vs (rw here-rest at L.words) (rw B.counted at R);
+          words = words-found L.before here rest (each_front HasTerm L.before L.behind T) ts ws vs (rw here-rest at L.words) (rw B.counted at R);
         }
 
     -- The last segment.
     pub here-last : f.end ≤ g.end → LastSegment slots bs first g.count f L.before L.behind
-    here-last h = segment-last slots bs f.end first L.before L.behind g L.filled.holds L.starts G f L.filled (omega (arith, h, G.within))
+    here-last h = segment_last slots bs f.end first L.before L.behind g L.filled.holds L.starts G f L.filled (omega (arith, h, G.within))
 
   -- ---- the last segment
 
@@ -117,14 +117,14 @@ module _ (es : List Entry) (ts : List TextTriple) (bs : List ℕ) (first : ℕ) 
 
   module _ (file lines : List ℕ) (n : ℕ) (B : IsBatch file lines n ts) (slots' bs' ws' : List ℕ) where
     abbrev texts : List Text
-    texts = linesTexts ts
+    texts = lines_texts ts
 
     module _ (l : Last) (S : Stands L.before L.behind texts slots' bs' first ws' l) where
       abbrev all : List Entry
       all = L.before ++ S.entries
 
       -- With all texts, the entries are those that es are.
-      all_same : withAll all ts ≡ withAll es ts
+      all_same : with_all all ts ≡ with_all es ts
       all_same = sym (each-lines all ts) ∙ S.same ∙ each-lines (L.before ++ L.behind) ts ∙ L.same
 
       all_grown : all ≡ es ++ (L.more ++ S.more)
@@ -134,11 +134,11 @@ module _ (es : List Entry) (ts : List TextTriple) (bs : List ℕ) (first : ℕ) 
           ∙ ap (λ (x : List Entry). x ++ S.more) L.grown
           ∙ append_assoc es L.more S.more
 
-      all-terms : Each HasTerm all
-      all-terms = have-terms all S.last.filled.holds.writable
+      all_terms : Each HasTerm all
+      all_terms = have_terms all S.last.filled.holds.writable
 
       -- The texts were looked for in it too.
-      looked-last : (vs : List ℕ) → RowsBy (foundRow S.entries) ts n ws' vs → Looked es ts bs' l.filled.end l.filled vs
+      looked-last : (vs : List ℕ) → RowsBy (found_row S.entries) ts n ws' vs → Looked es ts bs' l.filled.end l.filled vs
       looked-last vs R =
           let e : all ++ [] ≡ all = append-nil all in
           record {
@@ -149,7 +149,7 @@ module _ (es : List Entry) (ts : List TextTriple) (bs : List ℕ) (first : ℕ) 
             starts = S.last.filled.holds.ends;
             grown = e ∙ all_grown;
             same = rw e all_same;
-            words = words-found L.before S.entries [] (each-front HasTerm L.before S.entries all-terms) ts ws' vs (rw e S.words) (rw B.counted at R);
+            words = words-found L.before S.entries [] (each_front HasTerm L.before S.entries all_terms) ts ws' vs (rw e S.words) (rw B.counted at R);
           }
 
       last_some : 0 < length S.entries → first < l.filled.end
@@ -163,7 +163,7 @@ module _ (es : List Entry) (ts : List TextTriple) (bs : List ℕ) (first : ℕ) 
     reached-all l (S, N) =
         let m : n * 3 ≡ length ts * 3 = ap (λ (k : ℕ). k * 3) B.counted in
         let N' = rw m at N in
-        let e : all l S ≡ withAll es ts = all-entered L.before L.behind ts slots' bs' first ws' l S N' ∙ L.same in
+        let e : all l S ≡ with_all es ts = all_entered L.before L.behind ts slots' bs' first ws' l S N' ∙ L.same in
         record {
           filled = rw e at S.last.filled;
           rows = rw e at (all-rows L.before L.behind ts slots' bs' first ws' l S N');
@@ -171,11 +171,11 @@ module _ (es : List Entry) (ts : List TextTriple) (bs : List ℕ) (first : ℕ) 
 
     reached-lacks : (l : Last) → Reached L.before L.behind texts (n * 3) slots' bs' first ws' (NoSpace l) → TextsLackSpace es ts bs' l.filled
     reached-lacks l (S, K) =
-        let e : withEach (all l S) texts ≡ withAll es ts = each-lines (all l S) ts ∙ all_same l S in
+        let e : with_each (all l S) texts ≡ with_all es ts = each-lines (all l S) ts ∙ all_same l S in
         record {
           more = L.more ++ S.more;
           filled = rw (all_grown l S) at S.last.filled;
-          lacks = rw e at (lacks-ground (length bs') (all l S) texts (all-terms l S) K);
+          lacks = rw e at (lacks-ground (length bs') (all l S) texts (all_terms l S) K);
         }
 
 -- What naming in the last segment did, by how far it came.
@@ -184,7 +184,7 @@ module _ (es : List Entry) (ts : List TextTriple) (bs : List ℕ) (first : ℕ) 
   pub last_begins : Begins L.before L.behind ts slots bs first l file lines n ws
   last_begins = begins es ts bs first l.filled ws L slots file lines n l B S
 
-  module _ (slots' bs' ws' : List ℕ) (p : Progress) (R : Reached L.before L.behind (linesTexts ts) (n * 3) slots' bs' first ws' p) (k : Last) where
+  module _ (slots' bs' ws' : List ℕ) (p : Progress) (R : Reached L.before L.behind (lines_texts ts) (n * 3) slots' bs' first ws' p) (k : Last) where
     pub last_done : p ≡ Going k → IsSegmentStep es ts bs' first ws' (Done k.filled)
     last_done e = reached-all es ts bs first l.filled ws L file lines n B slots' bs' ws' k (rw e at R)
 
@@ -193,12 +193,12 @@ module _ (es : List Entry) (ts : List TextTriple) (bs : List ℕ) (first : ℕ) 
 
     pub full-leads : p ≡ Full k → LeadWithin slots' bs' first
     full-leads e =
-        let F : Reached L.before L.behind (linesTexts ts) (n * 3) slots' bs' first ws' (Full k) = rw e at R in
-        index-leads slots' bs' first F.0.entries F.0.last.index
+        let F : Reached L.before L.behind (lines_texts ts) (n * 3) slots' bs' first ws' (Full k) = rw e at R in
+        index_leads slots' bs' first F.0.entries F.0.last.index
 
-    pub last-next : p ≡ Full k → (vs : List ℕ) → ((fs : List Entry) → IndexOf slots' bs' first fs → RowsBy (foundRow fs) ts n ws' vs) → IsSegmentStep es ts bs' first vs (Next k.filled.end k.filled)
+    pub last-next : p ≡ Full k → (vs : List ℕ) → ((fs : List Entry) → IndexOf slots' bs' first fs → RowsBy (found_row fs) ts n ws' vs) → IsSegmentStep es ts bs' first vs (Next k.filled.end k.filled)
     last-next e vs f =
-        let F : Reached L.before L.behind (linesTexts ts) (n * 3) slots' bs' first ws' (Full k) = rw e at R in (
+        let F : Reached L.before L.behind (lines_texts ts) (n * 3) slots' bs' first ws' (Full k) = rw e at R in (
           last_some es ts bs first l.filled ws L file lines n B slots' bs' ws' k F.0 F.1,
           last_within es ts bs first l.filled ws L file lines n B slots' bs' ws' k F.0,
           looked-last es ts bs first l.filled ws L file lines n B slots' bs' ws' k F.0 vs (f F.0.entries F.0.last.index),

@@ -9,43 +9,43 @@ use lib.ListN.{length}
 use lib.Dec.{eqb}
 use borrow.Author.Tests.{eqb-true, ne_eqb}
 use Rattle.spec_ntriples.specs.computed.Decoded.{decoded, decode}
-use Rattle.spec_ntriples.specs.computed.Terminals.{headIs, skip}
+use Rattle.spec_ntriples.specs.computed.Terminals.{head_is, skip}
 use Rattle.spec_ntriples.specs.Texts.{Text, TextTriple}
-use Rattle.spec_ntriples.specs.computed.Lines.{Read, nothing, read, readIri, readSubject, readObject, Line, wrong, empty, full, is_rest, end_of, afterObject, afterProperty, afterSubject, readLine}
+use Rattle.spec_ntriples.specs.computed.Lines.{Read, nothing, read, read_iri, read_subject, read_object, Line, wrong, empty, full, is_rest, end_of, after_object, after_property, after_subject, read_line}
 use Rattle.ntriples_bytes.specs.declared.Mark.{Mark}
-use Rattle.ntriples_bytes.specs.inside.Places.{At, charsAt, Marks, HasText}
-use Rattle.ntriples_bytes.proofs.Decoding.{at-start, chars-are, chars-stand, chars-end, chars-marked}
-use Rattle.ntriples_bytes.proofs.Marking.{by-test}
-use Rattle.ntriples_terminals.specs.inside.Ends.{nowhere, behind, behindRead, Ended}
+use Rattle.ntriples_bytes.specs.inside.Places.{At, chars_at, Marks, HasText}
+use Rattle.ntriples_bytes.proofs.Decoding.{at_start, chars_are, chars_stand, chars_end, chars_marked}
+use Rattle.ntriples_bytes.proofs.Marking.{by_test}
+use Rattle.ntriples_terminals.specs.inside.Ends.{nowhere, behind, behind_read, Ended}
 use Rattle.ntriples_lines.specs.declared.Token.{Token}
 use Rattle.ntriples_lines.specs.declared.Line as code-line
 use Rattle.ntriples_lines.specs.declared.Line.TheVariants.{Wrong, Empty, Full}
-use Rattle.ntriples_lines.specs.inside.Reading.{isEnded, IsFull, IsLine}
+use Rattle.ntriples_lines.specs.inside.Reading.{is_ended, IsFull, IsLine}
 use Rattle.ntriples_ends.proofs.Heads.{HeadIs}
 
 -- ---- the ends of lines
 
-pub rest_end : (bs : List ℕ) (at : ℕ) → length bs ≤ at → true ≡ is_rest (charsAt bs at)
+pub rest_end : (bs : List ℕ) (at : ℕ) → length bs ≤ at → true ≡ is_rest (chars_at bs at)
 unfolding is_rest
-rest_end bs at h = rw (chars-end bs at h)
+rest_end bs at h = rw (chars_end bs at h)
 
-pub rest_some : (bs : List ℕ) (at : ℕ) (m : Mark) → Marks bs at m → eqb m.code (code "#") ≡ is_rest (charsAt bs at)
+pub rest_some : (bs : List ℕ) (at : ℕ) (m : Mark) → Marks bs at m → eqb m.code (code "#") ≡ is_rest (chars_at bs at)
 unfolding is_rest
-rest_some bs at m M = rw (chars-marked M)
+rest_some bs at m M = rw (chars_marked M)
 
-pub ended-none : (cs : List ℕ) → headIs (λ c. eqb c (code ".")) cs ≡ false → false ≡ isEnded cs
-unfolding isEnded headIs
-ended-none [] q = refl
-ended-none (c ∷ cs) q = rw q
+pub ended_none : (cs : List ℕ) → head_is (λ c. eqb c (code ".")) cs ≡ false → false ≡ is_ended cs
+unfolding is_ended head_is
+ended_none [] q = refl
+ended_none (c ∷ cs) q = rw q
 
-pub ended_some : (cs ds : List ℕ) → HeadIs (λ c. eqb c (code ".")) cs ds → is_rest (skip ds) ≡ isEnded cs
-unfolding isEnded
+pub ended_some : (cs ds : List ℕ) → HeadIs (λ c. eqb c (code ".")) cs ds → is_rest (skip ds) ≡ is_ended cs
+unfolding is_ended
 ended_some cs ds H = rw (H.same, H.passes)
 
-end-of : (t : TextTriple) (cs : List ℕ) → end_of t cs ≡ cond (isEnded cs) (full t) wrong
-unfolding end_of isEnded
-end-of t [] = refl
-end-of t (c ∷ cs) = refl
+end_of_lem : (t : TextTriple) (cs : List ℕ) → end_of t cs ≡ cond (is_ended cs) (full t) wrong
+unfolding end_of is_ended
+end_of_lem t [] = refl
+end_of_lem t (c ∷ cs) = refl
 
 -- ---- terms
 
@@ -53,38 +53,38 @@ nothing-not : {C : Type 0} {t : Text} {rest : List ℕ} → nothing ≡ read t r
 nothing-not e = let z : ◌≡◌ {A = ℕ} 0 1 = cc in absurd (omega arith)
 
 -- An IRI that is read begins with its mark.
-iri-mark : (c : ℕ) (cs : List ℕ) (t : Text) (rest : List ℕ) → readIri (c ∷ cs) ≡ read t rest → c ≡ code "<"
-unfolding readIri
-iri-mark c cs t rest e = by-test (eqb c (code "<")) (λ q. eqb-true c (code "<") q) (λ q. nothing-not (rw q at e))
+iri_mark : (c : ℕ) (cs : List ℕ) (t : Text) (rest : List ℕ) → read_iri (c ∷ cs) ≡ read t rest → c ≡ code "<"
+unfolding read_iri
+iri_mark c cs t rest e = by_test (eqb c (code "<")) (λ q. eqb-true c (code "<") q) (λ q. nothing-not (rw q at e))
 
 -- Readers of properties and of subjects agree with that of objects, where they read something.
-pub iri-object : (cs : List ℕ) (t : Text) (rest : List ℕ) → readIri cs ≡ read t rest → readObject cs ≡ read t rest
-unfolding readObject readSubject readIri
+pub iri-object : (cs : List ℕ) (t : Text) (rest : List ℕ) → read_iri cs ≡ read t rest → read_object cs ≡ read t rest
+unfolding read_object read_subject read_iri
 iri-object [] t rest e = e
 iri-object (c ∷ cs) t rest e =
-    let m : c ≡ code "<" = iri-mark c cs t rest e in
+    let m : c ≡ code "<" = iri_mark c cs t rest e in
     rw (ne_eqb c (code "\"") (λ x. omega arith), ne_eqb c (code "_") (λ x. omega arith)) e
 
-pub subject-object : (cs : List ℕ) (t : Text) (rest : List ℕ) → readSubject cs ≡ read t rest → readObject cs ≡ read t rest
-unfolding readObject readSubject
+pub subject-object : (cs : List ℕ) (t : Text) (rest : List ℕ) → read_subject cs ≡ read t rest → read_object cs ≡ read t rest
+unfolding read_object read_subject
 subject-object [] t rest e = e
 subject-object (c ∷ cs) t rest e =
-    by-test (eqb c (code "_"))
+    by_test (eqb c (code "_"))
     (λ q. let m : c ≡ code "_" = eqb-true c (code "_") q in rw (ne_eqb c (code "\"") (λ x. omega arith)) e)
     (λ q. iri-object (c ∷ cs) t rest (rw q at e))
 
-pub object-object : (cs : List ℕ) (t : Text) (rest : List ℕ) → readObject cs ≡ read t rest → readObject cs ≡ read t rest
+pub object-object : (cs : List ℕ) (t : Text) (rest : List ℕ) → read_object cs ≡ read t rest → read_object cs ≡ read t rest
 object-object cs t rest e = e
 
 -- A term that a reader reads from some characters at an index up to another.
 pub record Term (reader : List ℕ → Read) (line : List ℕ) (from end : ℕ) (cs : List ℕ) : Type 0 where
   pub text : Text
-  pub reads : reader cs ≡ read text (charsAt line end)
+  pub reads : reader cs ≡ read text (chars_at line end)
   pub has : HasText line from end text
 
 -- What is behind says whether something was read.
-read_none : (r : Read) → behindRead r ≡ nowhere → r ≡ nothing
-unfolding behindRead
+read_none : (r : Read) → behind_read r ≡ nowhere → r ≡ nothing
+unfolding behind_read
 read_none nothing e = refl
 read_none (read t rest) e = let z : ◌≡◌ {A = ℕ} 0 1 = cc in absurd (omega arith)
 
@@ -92,19 +92,19 @@ record ReadIs (r : Read) (rest : List ℕ) : Type 0 where
   pub text : Text
   pub same : r ≡ read text rest
 
-read_found : (r : Read) (rest : List ℕ) → behindRead r ≡ behind rest → ReadIs r rest
-unfolding behindRead
+read_found : (r : Read) (rest : List ℕ) → behind_read r ≡ behind rest → ReadIs r rest
+unfolding behind_read
 read_found nothing rest e = let z : ◌≡◌ {A = ℕ} 0 1 = cc in absurd (omega arith)
 read_found (read t ds) rest e = let f : ds ≡ rest = cc in record { text = t; same = rw f }
 
 module _ (reader : List ℕ → Read) (line : List ℕ) (from : ℕ) (cs : List ℕ) (A : At line from cs) where
-  pub no-term : behindRead (reader (charsAt line from)) ≡ nowhere → reader cs ≡ nothing
-  no-term e = read_none (reader cs) (rw (chars-are A) at e)
+  pub no_term : behind_read (reader (chars_at line from)) ≡ nowhere → reader cs ≡ nothing
+  no_term e = read_none (reader cs) (rw (chars_are A) at e)
 
-  pub term_found : ((ds : List ℕ) (t : Text) (rest : List ℕ) → reader ds ≡ read t rest → readObject ds ≡ read t rest) → (end : ℕ) → Ended line (behindRead (reader (charsAt line from))) end → Term reader line from end cs
+  pub term_found : ((ds : List ℕ) (t : Text) (rest : List ℕ) → reader ds ≡ read t rest → read_object ds ≡ read t rest) → (end : ℕ) → Ended line (behind_read (reader (chars_at line from))) end → Term reader line from end cs
   term_found agrees end E =
-      let r : ReadIs (reader cs) (charsAt line end) = read_found (reader cs) (charsAt line end) (rw (chars-are A) at E.same) in
-      record { text = r.text; reads = r.same; has = record { chars = cs; rest = charsAt line end; starts = A; reads = agrees cs r.text (charsAt line end) r.same; behind = chars-stand E.from } }
+      let r : ReadIs (reader cs) (chars_at line end) = read_found (reader cs) (chars_at line end) (rw (chars_are A) at E.same) in
+      record { text = r.text; reads = r.same; has = record { chars = cs; rest = chars_at line end; starts = A; reads = agrees cs r.text (chars_at line end) r.same; behind = chars_stand E.from } }
 
 -- ---- lines
 
@@ -115,51 +115,51 @@ line_same line a b Empty e q = e ∙ q
 line_same line a b (Full k) e q = record { triple = q.triple; same = e ∙ q.same; subject = q.subject; property = q.property; object = q.object }
 
 -- Behind the property.
-pub no-object : (s p : Text) (cs : List ℕ) → readObject cs ≡ nothing → afterObject s p (readObject cs) ≡ wrong
-unfolding afterObject
-no-object s p cs e = rw e
+pub no_object : (s p : Text) (cs : List ℕ) → read_object cs ≡ nothing → after_object s p (read_object cs) ≡ wrong
+unfolding after_object
+no_object s p cs e = rw e
 
-module _ (s p : Text) (line : List ℕ) (from end : ℕ) (cs : List ℕ) (T : Term readObject line from end cs) where
-  after-object : afterObject s p (readObject cs) ≡ cond (isEnded (skip (charsAt line end))) (full (record { subject = s; property = p; object = T.text })) wrong
-  unfolding afterObject
-  after-object = rw T.reads (end-of (record { subject = s; property = p; object = T.text }) (skip (charsAt line end)))
+module _ (s p : Text) (line : List ℕ) (from end : ℕ) (cs : List ℕ) (T : Term read_object line from end cs) where
+  after-object : after_object s p (read_object cs) ≡ cond (is_ended (skip (chars_at line end))) (full (record { subject = s; property = p; object = T.text })) wrong
+  unfolding after_object
+  after-object = rw T.reads (end_of_lem (record { subject = s; property = p; object = T.text }) (skip (chars_at line end)))
 
-  pub not-ended : isEnded (skip (charsAt line end)) ≡ false → afterObject s p (readObject cs) ≡ wrong
-  not-ended q = after-object ∙ rw q
+  pub not_ended : is_ended (skip (chars_at line end)) ≡ false → after_object s p (read_object cs) ≡ wrong
+  not_ended q = after-object ∙ rw q
 
   pub all-full
       : (subject property : Token) → HasText line subject.from subject.end s → HasText line property.from property.end p
-      → isEnded (skip (charsAt line end)) ≡ true
-      → IsFull line (afterObject s p (readObject cs)) (record { subject = subject; property = property; object = record { from = from; end = end } })
+      → is_ended (skip (chars_at line end)) ≡ true
+      → IsFull line (after_object s p (read_object cs)) (record { subject = subject; property = property; object = record { from = from; end = end } })
   all-full subject property S P q =
       record { triple = record { subject = s; property = p; object = T.text }; same = after-object ∙ rw q; subject = S; property = P; object = T.has }
 
 -- Behind the subject.
-pub no-property : (s : Text) (cs : List ℕ) → readIri cs ≡ nothing → afterProperty s (readIri cs) ≡ wrong
-unfolding afterProperty
-no-property s cs e = rw e
+pub no_property : (s : Text) (cs : List ℕ) → read_iri cs ≡ nothing → after_property s (read_iri cs) ≡ wrong
+unfolding after_property
+no_property s cs e = rw e
 
 pub after-property
-    : (s : Text) (line : List ℕ) (from end : ℕ) (cs : List ℕ) (T : Term readIri line from end cs)
-    → afterProperty s (readIri cs) ≡ afterObject s T.text (readObject (skip (charsAt line end)))
-unfolding afterProperty
+    : (s : Text) (line : List ℕ) (from end : ℕ) (cs : List ℕ) (T : Term read_iri line from end cs)
+    → after_property s (read_iri cs) ≡ after_object s T.text (read_object (skip (chars_at line end)))
+unfolding after_property
 after-property s line from end cs T = rw T.reads
 
 -- The whole.
-pub line-empty : (l : List ℕ) → is_rest (skip l) ≡ true → readLine l ≡ empty
-unfolding readLine
+pub line-empty : (l : List ℕ) → is_rest (skip l) ≡ true → read_line l ≡ empty
+unfolding read_line
 line-empty l q = rw q
 
-pub line-wrong : (l : List ℕ) → is_rest (skip l) ≡ false → readSubject (skip l) ≡ nothing → readLine l ≡ wrong
-unfolding readLine afterSubject
-line-wrong l q e = rw (q, e)
+pub line_wrong : (l : List ℕ) → is_rest (skip l) ≡ false → read_subject (skip l) ≡ nothing → read_line l ≡ wrong
+unfolding read_line after_subject
+line_wrong l q e = rw (q, e)
 
 pub line-subject
-    : (l line : List ℕ) (from end : ℕ) → is_rest (skip l) ≡ false → (T : Term readSubject line from end (skip l))
-    → readLine l ≡ afterProperty T.text (readIri (skip (charsAt line end)))
-unfolding readLine afterSubject
+    : (l line : List ℕ) (from end : ℕ) → is_rest (skip l) ≡ false → (T : Term read_subject line from end (skip l))
+    → read_line l ≡ after_property T.text (read_iri (skip (chars_at line end)))
+unfolding read_line after_subject
 line-subject l line from end q T = rw (q, T.reads)
 
 -- The characters of a whole line, behind its first white space.
-pub at_front : (line l : List ℕ) (from : ℕ) → decode line ≡ decoded l → At line from (skip (charsAt line 0)) → At line from (skip l)
-at_front line l from e A = rw (chars-are (at-start line l e)) at A
+pub at_front : (line l : List ℕ) (from : ℕ) → decode line ≡ decoded l → At line from (skip (chars_at line 0)) → At line from (skip l)
+at_front line l from e A = rw (chars_are (at_start line l e)) at A

@@ -3,9 +3,9 @@ ghost use Rattle.std.specs.Prelude.{◌≡◌, true, List, ℕ};
 ghost use Rattle.spec_ntriples.specs.computed.Decoded.{decoded, decode};
 ghost use Rattle.spec_ntriples.specs.computed.Terminals.{skip};
 ghost use Rattle.spec_ntriples.specs.Texts.{Text};
-ghost use Rattle.spec_ntriples.specs.computed.Lines.{readIri, readObject, is_rest, afterObject, afterProperty, readLine};
-ghost use Rattle.ntriples_bytes.specs.inside.Places.{Utf8From, charsAt, HasText};
-ghost use Rattle.ntriples_lines.specs.inside.Reading.{isEnded, IsLine};
+ghost use Rattle.spec_ntriples.specs.computed.Lines.{read_iri, read_object, is_rest, after_object, after_property, read_line};
+ghost use Rattle.ntriples_bytes.specs.inside.Places.{Utf8From, chars_at, HasText};
+ghost use Rattle.ntriples_lines.specs.inside.Reading.{is_ended, IsLine};
 
 use ntriples_bytes::char_at;
 use ntriples_ends::{object_end, subject_end};
@@ -37,7 +37,7 @@ pub enum Line {
 // Whether a comment or nothing is at an index.
 fn is_rest(line: &[u8], at: usize) -> bool
     requires { Utf8From line.now at }
-    ensures { result ≡ is_rest (charsAt line.now at) }
+    ensures { result ≡ is_rest (chars_at line.now at) }
 {
     if line.len() <= at {
         return true;
@@ -48,7 +48,7 @@ fn is_rest(line: &[u8], at: usize) -> bool
 // Whether a dot, and no more, is behind white space at an index.
 fn is_ended(line: &[u8], at: usize) -> bool
     requires { Utf8From line.now at }
-    ensures { result ≡ isEnded (skip (charsAt line.now at)) }
+    ensures { result ≡ is_ended (skip (chars_at line.now at)) }
 {
     match mark_end(line, skip(line, at), b'.' as u32) {
         Found::Nothing => false,
@@ -59,7 +59,7 @@ fn is_ended(line: &[u8], at: usize) -> bool
 // The line with a subject and a property: behind them the object.
 fn after_property(line: &[u8], subject: Token, property: Token) -> Line
     requires { Utf8From line.now property.end }
-    ensures { (s p : Text) → HasText line.now subject.from subject.end s → HasText line.now property.from property.end p → IsLine line.now (afterObject s p (readObject (skip (charsAt line.now property.end)))) result }
+    ensures { (s p : Text) → HasText line.now subject.from subject.end s → HasText line.now property.from property.end p → IsLine line.now (after_object s p (read_object (skip (chars_at line.now property.end)))) result }
 {
     let from = skip(line, property.end);
     match object_end(line, from) {
@@ -81,7 +81,7 @@ fn after_property(line: &[u8], subject: Token, property: Token) -> Line
 // The line with a subject: behind it the property.
 fn after_subject(line: &[u8], subject: Token) -> Line
     requires { Utf8From line.now subject.end }
-    ensures { (s : Text) → HasText line.now subject.from subject.end s → IsLine line.now (afterProperty s (readIri (skip (charsAt line.now subject.end)))) result }
+    ensures { (s : Text) → HasText line.now subject.from subject.end s → IsLine line.now (after_property s (read_iri (skip (chars_at line.now subject.end)))) result }
 {
     let from = skip(line, subject.end);
     match iri_end(line, from) {
@@ -93,7 +93,7 @@ fn after_subject(line: &[u8], subject: Token) -> Line
 // A line read.
 pub fn read_line(line: &[u8]) -> Line
     requires { Utf8From line.now 0 }
-    ensures { (l : List ℕ) → decode line.now ≡ decoded l → IsLine line.now (readLine l) result }
+    ensures { (l : List ℕ) → decode line.now ≡ decoded l → IsLine line.now (read_line l) result }
 {
     let from = skip(line, 0);
     if is_rest(line, from) {

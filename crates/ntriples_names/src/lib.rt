@@ -2,8 +2,8 @@
 ghost use Rattle.std.specs.Prelude.{◌≡◌, List, ◌+◌, ◌*◌, ◌<◌, length, get_or};
 ghost use Rattle.spec_ntriples.specs.Texts.{TextTriple};
 ghost use Rattle.spec_ntriples.specs.Dictionary.{Entry};
-ghost use Rattle.ntriples_batch.specs.inside.Batches.{LineAt, noTriple};
-ghost use Rattle.ntriples_naming.specs.inside.Progress.{linesTexts, Reached, isGoing, CanNameAt, Begins, CanNameLines};
+ghost use Rattle.ntriples_batch.specs.inside.Batches.{LineAt, no_triple};
+ghost use Rattle.ntriples_naming.specs.inside.Progress.{lines_texts, Reached, is_going, CanNameAt, Begins, CanNameLines};
 
 use ntriples_batch::tokens_at;
 use ntriples_breaks::line_end;
@@ -13,7 +13,7 @@ use table::row_from;
 
 // Whether naming goes on.
 fn is_going(p: Progress) -> bool
-    ensures { result ≡ isGoing p }
+    ensures { result ≡ is_going p }
 {
     match p {
         Progress::Going(_) => true,
@@ -34,7 +34,7 @@ fn name_at(
     i: usize,
 ) -> Progress
     requires { CanNameAt slots.old dictionary.old first p file.now begin terms.old i }
-    ensures { (ds es : List Entry) (ts : List TextTriple) → i < length ts → LineAt file.now begin (get_or ts i noTriple) → Reached ds es (linesTexts ts) (i * 3) slots.old dictionary.old first terms.old p → Reached ds es (linesTexts ts) (i * 3 + 3) slots.new dictionary.new first terms.new result }
+    ensures { (ds es : List Entry) (ts : List TextTriple) → i < length ts → LineAt file.now begin (get_or ts i no_triple) → Reached ds es (lines_texts ts) (i * 3) slots.old dictionary.old first terms.old p → Reached ds es (lines_texts ts) (i * 3 + 3) slots.new dictionary.new first terms.new result }
 {
     if is_named(row_from(terms, i)) {
         return p;
@@ -66,7 +66,7 @@ pub fn name_terms(
     terms: &mut [u32],
 ) -> Progress
     requires { CanNameLines slots.old dictionary.old first last file.now lines.now n terms.old }
-    ensures { (ds es : List Entry) (ts : List TextTriple) → Begins ds es ts slots.old dictionary.old first last file.now lines.now n terms.old → Reached ds es (linesTexts ts) (n * 3) slots.new dictionary.new first terms.new result }
+    ensures { (ds es : List Entry) (ts : List TextTriple) → Begins ds es ts slots.old dictionary.old first last file.now lines.now n terms.old → Reached ds es (lines_texts ts) (n * 3) slots.new dictionary.new first terms.new result }
 {
     let mut p = Progress::Going(last);
     let mut i = 0;

@@ -6,34 +6,34 @@ use mathlib.Core.List.{List, [], ◌∷◌, append-nil, flat_map}
 use native.Mathlib.Omega.{arith}
 use lib.ListN.{length, get_or}
 use Rattle.spec.specs.declared.Triple.{Triple}
-use Rattle.spec.specs.Tables.{tripleFrom}
+use Rattle.spec.specs.Tables.{triple_from}
 use Rattle.spec_ntriples.specs.Texts.{Text, TextTriple}
 use Rattle.spec_ntriples.specs.Dictionary.{Entry}
 use Rattle.ntriples_lines.specs.declared.Tokens.{Tokens}
-use Rattle.ntriples_batch.specs.inside.Batches.{noTriple, HaveTexts}
-use Rattle.ntriples_words.specs.inside.Named.{isNamed}
+use Rattle.ntriples_batch.specs.inside.Batches.{no_triple, HaveTexts}
+use Rattle.ntriples_words.specs.inside.Named.{is_named}
 use Rattle.ntriples_terms.proofs.Found.{Named, named-words}
 use Rattle.ntriples_naming.specs.declared.Last.{Last}
 use Rattle.ntriples_naming.specs.declared.Progress.{Progress}
 use Rattle.ntriples_naming.specs.declared.Progress.TheVariants.{Going, Full, NoSpace}
-use Rattle.ntriples_naming.specs.inside.Progress.{lineTexts, linesTexts, noText, NamedTo, Reached, TextsIn, isGoing, Begins}
+use Rattle.ntriples_naming.specs.inside.Progress.{line_texts, lines_texts, no_text, NamedTo, Reached, TextsIn, is_going, Begins}
 use Rattle.ntriples_naming.proofs.Steps.{named_more}
 
 -- ---- the texts of lines
 
-pub lines-length : (ts : List TextTriple) → length (linesTexts ts) ≡ length ts * 3
-unfolding linesTexts lineTexts flat_map
+pub lines-length : (ts : List TextTriple) → length (lines_texts ts) ≡ length ts * 3
+unfolding lines_texts line_texts flat_map
 lines-length [] = refl
 lines-length (t ∷ ts) = omega (arith, lines-length ts)
 
 -- The three texts of a line.
 pub record TextsAt (xs : List Text) (j : ℕ) (t : TextTriple) : Type 0 where
-  pub subject : get_or xs j noText ≡ t.subject
-  pub property : get_or xs (j + 1) noText ≡ t.property
-  pub object : get_or xs (j + 2) noText ≡ t.object
+  pub subject : get_or xs j no_text ≡ t.subject
+  pub property : get_or xs (j + 1) no_text ≡ t.property
+  pub object : get_or xs (j + 2) no_text ≡ t.object
 
-pub texts-at : (ts : List TextTriple) (i : ℕ) → TextsAt (linesTexts ts) (i * 3) (get_or ts i noTriple)
-unfolding linesTexts lineTexts flat_map
+pub texts-at : (ts : List TextTriple) (i : ℕ) → TextsAt (lines_texts ts) (i * 3) (get_or ts i no_triple)
+unfolding lines_texts line_texts flat_map
 texts-at [] i = record { subject = refl; property = refl; object = refl }
 texts-at (t ∷ ts) zero = record { subject = refl; property = refl; object = refl }
 texts-at (t ∷ ts) (suc i) =
@@ -43,46 +43,46 @@ texts-at (t ∷ ts) (suc i) =
     let g : suc i * 3 + 2 ≡ suc (suc (suc (i * 3 + 2))) = omega arith in
     record { subject = rw e T.subject; property = rw f T.property; object = rw g T.object }
 
-pub texts-in : (line : List ℕ) (k : Tokens) (ts : List TextTriple) (i : ℕ) → HaveTexts line k (get_or ts i noTriple) → TextsIn line k (linesTexts ts) (i * 3)
-texts-in line k ts i H =
+pub texts_in : (line : List ℕ) (k : Tokens) (ts : List TextTriple) (i : ℕ) → HaveTexts line k (get_or ts i no_triple) → TextsIn line k (lines_texts ts) (i * 3)
+texts_in line k ts i H =
     let T = texts-at ts i in
     record { subject = rw T.subject H.subject; property = rw T.property H.property; object = rw T.object H.object }
 
 -- ---- whether naming goes on
 
-pub going_on : (p : Progress) (l : Last) → p ≡ Going l → true ≡ isGoing p
-unfolding isGoing
+pub going_on : (p : Progress) (l : Last) → p ≡ Going l → true ≡ is_going p
+unfolding is_going
 going_on p l e = rw e
 
-pub not_full : (p : Progress) (l : Last) → p ≡ Full l → false ≡ isGoing p
-unfolding isGoing
+pub not_full : (p : Progress) (l : Last) → p ≡ Full l → false ≡ is_going p
+unfolding is_going
 not_full p l e = rw e
 
-pub not-lacking : (p : Progress) (l : Last) → p ≡ NoSpace l → false ≡ isGoing p
-unfolding isGoing
-not-lacking p l e = rw e
+pub not_lacking : (p : Progress) (l : Last) → p ≡ NoSpace l → false ≡ is_going p
+unfolding is_going
+not_lacking p l e = rw e
 
 -- ---- rows
 
 module _ (ds es : List Entry) (xs : List Text) (slots bs : List ℕ) (first : ℕ) (ws : List ℕ) where
   -- A row of which no word is 0 is passed over.
-  row-passed : (j : ℕ) → NamedTo j ws → isNamed (tripleFrom ws j) ≡ true → NamedTo (j + 3) ws
-  row-passed j N q =
-      let M : Named (tripleFrom ws j) = named-words (tripleFrom ws j) q in
+  row_passed : (j : ℕ) → NamedTo j ws → is_named (triple_from ws j) ≡ true → NamedTo (j + 3) ws
+  row_passed j N q =
+      let M : Named (triple_from ws j) = named-words (triple_from ws j) q in
       let a = named_more j ws N M.subject in
       let b = named_more (j + 1) ws a M.property in
       let e : j + 1 + 1 ≡ j + 2 = omega arith in
       let f : j + 2 + 1 ≡ j + 3 = omega arith in
       rw f at (named_more (j + 2) ws (rw e at b) M.object)
 
-  pub passed_over : (p : Progress) (j : ℕ) (r : Triple) (q : Bool) → r ≡ tripleFrom ws j → q ≡ isNamed r → q ≡ true → Reached ds es xs j slots bs first ws p → Reached ds es xs (j + 3) slots bs first ws p
-  passed_over (Going l) j r q a b c R = (R.0, row-passed j R.1 (rw (← a) (sym b ∙ c)))
+  pub passed_over : (p : Progress) (j : ℕ) (r : Triple) (q : Bool) → r ≡ triple_from ws j → q ≡ is_named r → q ≡ true → Reached ds es xs j slots bs first ws p → Reached ds es xs (j + 3) slots bs first ws p
+  passed_over (Going l) j r q a b c R = (R.0, row_passed j R.1 (rw (← a) (sym b ∙ c)))
   passed_over (Full l) j r q a b c R = R
   passed_over (NoSpace l) j r q a b c R = R
 
   -- Where naming has stopped, it has for all further lines.
-  pub stopped : (p : Progress) (n m : ℕ) → isGoing p ≡ false → Reached ds es xs n slots bs first ws p → Reached ds es xs m slots bs first ws p
-  unfolding isGoing
+  pub stopped : (p : Progress) (n m : ℕ) → is_going p ≡ false → Reached ds es xs n slots bs first ws p → Reached ds es xs m slots bs first ws p
+  unfolding is_going
   stopped (Going l) n m e R = let z : ◌≡◌ {A = ℕ} 0 1 = cc in absurd (omega arith)
   stopped (Full l) n m e R = R
   stopped (NoSpace l) n m e R = R
@@ -90,7 +90,7 @@ module _ (ds es : List Entry) (xs : List Text) (slots bs : List ℕ) (first : �
 -- Before naming.
 begin-reached
     : (ds es : List Entry) (ts : List TextTriple) (slots bs : List ℕ) (first : ℕ) (l : Last) (file lines : List ℕ) (n : ℕ) (ws : List ℕ)
-    → Begins ds es ts slots bs first l file lines n ws → Reached ds es (linesTexts ts) 0 slots bs first ws (Going l)
+    → Begins ds es ts slots bs first l file lines n ws → Reached ds es (lines_texts ts) 0 slots bs first ws (Going l)
 begin-reached ds es ts slots bs first l file lines n ws B = (
   record { entries = es; more = []; grown = sym (append-nil es); last = B.last; same = refl; words = B.words },
   λ i h. absurd (omega (arith, h)),
@@ -98,5 +98,5 @@ begin-reached ds es ts slots bs first l file lines n ws B = (
 
 pub begin-as
     : (ds es : List Entry) (ts : List TextTriple) (slots bs : List ℕ) (first : ℕ) (l : Last) (file lines : List ℕ) (n : ℕ) (ws : List ℕ) (p : Progress)
-    → p ≡ Going l → Begins ds es ts slots bs first l file lines n ws → Reached ds es (linesTexts ts) 0 slots bs first ws p
+    → p ≡ Going l → Begins ds es ts slots bs first l file lines n ws → Reached ds es (lines_texts ts) 0 slots bs first ws p
 begin-as ds es ts slots bs first l file lines n ws p e B = rw e (begin-reached ds es ts slots bs first l file lines n ws B)

@@ -4,7 +4,7 @@ ghost use Rattle.spec_ntriples.specs.Texts.{Text};
 ghost use Rattle.spec_ntriples.specs.Dictionary.{Entry};
 ghost use Rattle.ntriples_bytes.specs.inside.Places.{HasText};
 ghost use Rattle.ntriples_naming.specs.declared.Progress.TheVariants.{Going};
-ghost use Rattle.ntriples_naming.specs.inside.Progress.{noText, Reached, CanNameWord, TextsIn, CanNameLine};
+ghost use Rattle.ntriples_naming.specs.inside.Progress.{no_text, Reached, CanNameWord, TextsIn, CanNameLine};
 
 use dictionary_bytes::Filled;
 use dictionary_names::{Named, name_text};
@@ -37,7 +37,7 @@ fn name_in(
     j: usize,
 ) -> Progress
     requires { CanNameWord slots.old dictionary.old first (Going last) line.now token terms.old j }
-    ensures { (ds es : List Entry) (xs : List Text) → j < length xs → HasText line.now token.from token.end (get_or xs j noText) → Reached ds es xs j slots.old dictionary.old first terms.old (Going last) → Reached ds es xs (j + 1) slots.new dictionary.new first terms.new result }
+    ensures { (ds es : List Entry) (xs : List Text) → j < length xs → HasText line.now token.from token.end (get_or xs j no_text) → Reached ds es xs j slots.old dictionary.old first terms.old (Going last) → Reached ds es xs (j + 1) slots.new dictionary.new first terms.new result }
 {
     if 0 < terms[j] {
         return Progress::Going(last);
@@ -74,7 +74,7 @@ fn name_word(
     j: usize,
 ) -> Progress
     requires { CanNameWord slots.old dictionary.old first p line.now token terms.old j }
-    ensures { (ds es : List Entry) (xs : List Text) → j < length xs → HasText line.now token.from token.end (get_or xs j noText) → Reached ds es xs j slots.old dictionary.old first terms.old p → Reached ds es xs (j + 1) slots.new dictionary.new first terms.new result }
+    ensures { (ds es : List Entry) (xs : List Text) → j < length xs → HasText line.now token.from token.end (get_or xs j no_text) → Reached ds es xs j slots.old dictionary.old first terms.old p → Reached ds es xs (j + 1) slots.new dictionary.new first terms.new result }
 {
     match p {
         Progress::Going(last) => name_in(slots, dictionary, first, last, line, token, terms, j),

@@ -1,12 +1,12 @@
 // Bytes of IRIs and strings that stand for themselves in canonical text, as most do.
 ghost use Rattle.std.specs.Prelude.{◌≡◌};
-ghost use Rattle.ntriples_own.specs.inside.Own.{isBut, isOwn};
+ghost use Rattle.ntriples_own.specs.inside.Own.{is_but, is_own};
 
 use ntriples_cursor::Mode;
 
 // Whether a byte inside an IRI or a string stands for itself: a character of ASCII that neither closes it nor begins an escape.
 pub fn is_own(mode: Mode, b: u8) -> bool
-    ensures { result ≡ isOwn mode b }
+    ensures { result ≡ is_own mode b }
 {
     match mode {
         Mode::Iri => is_but(b'>', b),
@@ -20,7 +20,7 @@ pub fn is_own(mode: Mode, b: u8) -> bool
 
 // Whether a byte is a character of ASCII, and neither a mark nor a backslash.
 fn is_but(mark: u8, b: u8) -> bool
-    ensures { result ≡ isBut mark b }
+    ensures { result ≡ is_but mark b }
 {
     (b < 0x80) & ((b != mark) & (b != b'\\'))
 }

@@ -2,8 +2,8 @@
 ghost use Rattle.std.specs.Prelude.{◌≡◌, true, ◌&&◌, cond, ℕ, ◌≤◌, ◌<◌, length, ltb};
 ghost use Rattle.spec_ntriples.specs.Utf8.{is_scalar};
 ghost use Rattle.spec_ntriples.specs.computed.Terminals.{State, outside, slash, digits, scan};
-ghost use Rattle.ntriples_bytes.specs.inside.Places.{Utf8From, charsAt};
-ghost use Rattle.ntriples_pieces.specs.inside.Pieces.{step_of, mayStand, mayEscape, closingOf, IsPiece};
+ghost use Rattle.ntriples_bytes.specs.inside.Places.{Utf8From, chars_at};
+ghost use Rattle.ntriples_pieces.specs.inside.Pieces.{step_of, may_stand, may_escape, closing_of, IsPiece};
 
 use ntriples_bytes::{BEHIND_ASCII, char_at};
 use ntriples_chars::{
@@ -21,7 +21,7 @@ pub enum Piece {
 
 // Whether a character may stand in an IRI, or in a string, as it is.
 fn may_stand(iri: bool, c: u32) -> bool
-    ensures { result ≡ mayStand iri c }
+    ensures { result ≡ may_stand iri c }
 {
     if iri {
         is_iri_char(c)
@@ -32,28 +32,28 @@ fn may_stand(iri: bool, c: u32) -> bool
 
 // Whether an escape may stand for a character there.
 fn may_escape(iri: bool, c: u32) -> bool
-    ensures { result ≡ mayEscape iri c }
+    ensures { result ≡ may_escape iri c }
 {
     if iri { is_iri_char(c) } else { true }
 }
 
 // The mark that closes an IRI, or a string.
 fn closing(iri: bool) -> u32
-    ensures { result ≡ closingOf iri }
+    ensures { result ≡ closing_of iri }
 {
     if iri { b'>' as u32 } else { b'"' as u32 }
 }
 
 // Whether a byte is a character that may stand there as it is.
 pub fn is_plain(iri: bool, b: u8) -> bool
-    ensures { result ≡ (ltb b 0x80 && mayStand iri b) }
+    ensures { result ≡ (ltb b 0x80 && may_stand iri b) }
 {
     (b < BEHIND_ASCII) & may_stand(iri, b as u32)
 }
 
 // The piece of an escape with a number, whose last digit stands before an index.
 fn number_piece(iri: bool, value: u32, next: usize) -> Piece
-    ensures { result ≡ cond (is_scalar value && mayEscape iri value) (Piece.Gives value next) Piece.Broken }
+    ensures { result ≡ cond (is_scalar value && may_escape iri value) (Piece.Gives value next) Piece.Broken }
 {
     if is_scalar(value) & may_escape(iri, value) {
         return Piece::Gives(value, next);

@@ -7,20 +7,20 @@ use native.Mathlib.Omega.{arith}
 use lib.ListN.{length, replicate}
 use lib.Dec.{leb}
 use borrow.Author.Tests.{le-leb, lt-leb, leb-true, leb-false}
-use Rattle.spec.proofs.Lists.{by-test}
+use Rattle.spec.proofs.Lists.{by_test}
 use Rattle.spec.specs.declared.Triple.{Triple}
-use Rattle.spec.specs.Tables.{firstRows}
+use Rattle.spec.specs.Tables.{first_rows}
 use Rattle.spec.specs.Lists.{padded}
-use Rattle.spec.specs.Messages.{mostBytes, encode}
+use Rattle.spec.specs.Messages.{most_bytes, encode}
 use Rattle.spec_ntriples.specs.declared.ByteReply.TheVariants.{Length, Refused}
 use Rattle.spec_ntriples.specs.Texts.{TextTriple}
 use Rattle.spec_ntriples.specs.computed.Lines.{Document, refused, triples, document}
-use Rattle.spec_ntriples.specs.Dictionary.{Entry, bytesOfEntries, dictionaryBytes, entries, areNumbersEnough, isDictionary}
-use Rattle.spec_ntriples.specs.Reading.{withAll, triple_of, additions, readFile, concludeReading, readNTriples}
+use Rattle.spec_ntriples.specs.Dictionary.{Entry, bytes_of_entries, dictionary_bytes, entries, are_numbers_enough, is_dictionary}
+use Rattle.spec_ntriples.specs.Reading.{with_all, triple_of, additions, read_file, conclude_reading, read_nTriples}
 use Rattle.spec_ntriples.specs.Promises.{RefusedBy, Accepted}
 use Rattle.spec_ntriples.specs.inside.Entries.{Holds}
-use Rattle.spec_ntriples.proofs.TripleTexts.{document-texts}
-use Rattle.spec_ntriples.proofs.ReadingRefused.{additions-length, length-map, accepted-is, reading-refused, reading-refused-leaves}
+use Rattle.spec_ntriples.proofs.TripleTexts.{document_texts}
+use Rattle.spec_ntriples.proofs.ReadingRefused.{additions-length, length-map, accepted_is, reading_refused, reading_refused_leaves}
 use Rattle.dictionary_bytes.specs.declared.Filled.{Filled}
 use Rattle.dictionary_bytes.specs.inside.Entries.{FilledBy}
 use Rattle.dictionary_entries.proofs.Held.{held-within}
@@ -30,20 +30,20 @@ use Rattle.ntriples_segments.specs.declared.Batched.{Batched}
 use Rattle.ntriples_segments.specs.declared.Batched.TheVariants.{Named, NoSpace}
 use Rattle.ntriples_last.specs.inside.Segments.{TextsLackSpace}
 use Rattle.ntriples_batches.specs.inside.Batches.{CanNameFile, FileNamed, IsFile}
-use Rattle.ntriples_batches.proofs.Files.{Grown, all_grown, filled-have}
+use Rattle.ntriples_batches.proofs.Files.{Grown, all_grown, filled_have}
 use Rattle.ntriples_read.specs.inside.Reading.{CanRead}
 
 -- ---- room
 
 -- 5,460 triples fit 65,536 bytes, and no more.
-pub room-none : (n len : ℕ) → 5460 < n → false ≡ leb (10 + 12 * n) (min len mostBytes)
-room-none n len h = sym (lt-leb (10 + 12 * n) (min len mostBytes) (omega arith))
+pub room_none : (n len : ℕ) → 5460 < n → false ≡ leb (10 + 12 * n) (min len most_bytes)
+room_none n len h = sym (lt-leb (10 + 12 * n) (min len most_bytes) (omega arith))
 
-pub room-some : (n len : ℕ) → n ≤ 5460 → leb (10 + 12 * n) len ≡ leb (10 + 12 * n) (min len mostBytes)
+pub room-some : (n len : ℕ) → n ≤ 5460 → leb (10 + 12 * n) len ≡ leb (10 + 12 * n) (min len most_bytes)
 room-some n len h =
-    by-test (leb (10 + 12 * n) len)
-    (λ p. p ∙ sym (le-leb (10 + 12 * n) (min len mostBytes) (omega (arith, leb-true (10 + 12 * n) len p))))
-    (λ p. p ∙ sym (lt-leb (10 + 12 * n) (min len mostBytes) (omega (arith, leb-false (10 + 12 * n) len p))))
+    by_test (leb (10 + 12 * n) len)
+    (λ p. p ∙ sym (le-leb (10 + 12 * n) (min len most_bytes) (omega (arith, leb-true (10 + 12 * n) len p))))
+    (λ p. p ∙ sym (lt-leb (10 + 12 * n) (min len most_bytes) (omega (arith, leb-false (10 + 12 * n) len p))))
 
 -- ---- documents
 
@@ -67,25 +67,25 @@ counted-lines (triples ts) n e = record { lines = ts; said = refl; counted = cc 
 
 pub refused-reading
     : (dictionary file : List ℕ) (len n : ℕ) (d m : List ℕ) → RefusedBy dictionary file len n → d ≡ dictionary → m ≡ replicate len 0
-    → readFile (Refused n) d m ≡ readNTriples dictionary file len
-refused-reading dictionary file len n d m R e z = rw (e, z) (sym (reading-refused-leaves dictionary file len n ((reading-refused dictionary file len n).1 R)))
+    → read_file (Refused n) d m ≡ read_nTriples dictionary file len
+refused-reading dictionary file len n d m R e z = rw (e, z) (sym (reading_refused_leaves dictionary file len n ((reading_refused dictionary file len n).1 R)))
 
-pub refused-1 : (dictionary file : List ℕ) (len : ℕ) (m : List ℕ) → isDictionary dictionary ≡ false → m ≡ replicate len 0 → readFile (Refused 1) dictionary m ≡ readNTriples dictionary file len
-refused-1 dictionary file len m h z = refused-reading dictionary file len 1 dictionary m (RefusedBy.no-dictionary refl h) refl z
+pub refused_1 : (dictionary file : List ℕ) (len : ℕ) (m : List ℕ) → is_dictionary dictionary ≡ false → m ≡ replicate len 0 → read_file (Refused 1) dictionary m ≡ read_nTriples dictionary file len
+refused_1 dictionary file len m h z = refused-reading dictionary file len 1 dictionary m (RefusedBy.no_dictionary refl h) refl z
 
-pub refused-13 : (dictionary file : List ℕ) (len : ℕ) (m : List ℕ) → isDictionary dictionary ≡ true → count_of (document file) ≡ counted.Refused → m ≡ replicate len 0 → readFile (Refused 13) dictionary m ≡ readNTriples dictionary file len
-refused-13 dictionary file len m h c z = refused-reading dictionary file len 13 dictionary m (RefusedBy.wrong-line refl h (wrong-document (document file) c)) refl z
+pub refused_13 : (dictionary file : List ℕ) (len : ℕ) (m : List ℕ) → is_dictionary dictionary ≡ true → count_of (document file) ≡ counted.Refused → m ≡ replicate len 0 → read_file (Refused 13) dictionary m ≡ read_nTriples dictionary file len
+refused_13 dictionary file len m h c z = refused-reading dictionary file len 13 dictionary m (RefusedBy.wrong_line refl h (wrong-document (document file) c)) refl z
 
 -- The bytes that hold a dictionary's entries are its bytes.
 same_bytes : (bs cs : List ℕ) (f : Filled) → FilledBy bs f (entries bs) → Holds cs f.end (entries bs) → length cs ≡ length bs → cs ≡ bs
-same_bytes bs cs f F H l = H.same ∙ ap (λ (n : ℕ). dictionaryBytes n (entries bs)) l ∙ sym F.holds.same
+same_bytes bs cs f F H l = H.same ∙ ap (λ (n : ℕ). dictionary_bytes n (entries bs)) l ∙ sym F.holds.same
 
 module _ (file : List ℕ) (n : ℕ) (bs : List ℕ) (f : Filled) (delivery : List ℕ) (C : CanRead file n bs f delivery) where
   abbrev es : List Entry
-  es = withAll (entries bs) C.lines
+  es = with_all (entries bs) C.lines
 
-  pub can-name : (ws : List ℕ) → length ws ≡ 16380 → CanNameFile file n bs f ws
-  can-name ws e = record { lines = C.lines; said = C.said; counted = C.counted; old = entries bs; filled = C.filled; room = omega (arith, e) }
+  pub can_name : (ws : List ℕ) → length ws ≡ 16380 → CanNameFile file n bs f ws
+  can_name ws e = record { lines = C.lines; said = C.said; counted = C.counted; old = entries bs; filled = C.filled; room = omega (arith, e) }
 
   module _ (bs' ws : List ℕ) (b : Batched) (N : IsFile (entries bs) C.lines bs' ws b) (long : length bs' ≡ length bs) (g : Filled) where
     -- ---- question 14
@@ -97,19 +97,19 @@ module _ (file : List ℕ) (n : ℕ) (bs : List ℕ) (f : Filled) (delivery : Li
       pub lacking-within : g.end ≤ length bs'
       lacking-within = held-within bs' g.end (entries bs ++ lacking.more) lacking.filled.holds
 
-      no-space : RefusedBy bs file (length delivery) 14
-      no-space =
-          let a = leb (length (bytesOfEntries es)) (length bs) in
-          let h : (a && areNumbersEnough es) ≡ false = rw long at lacking.lacks in
-          by-test a
+      no_space : RefusedBy bs file (length delivery) 14
+      no_space =
+          let a = leb (length (bytes_of_entries es)) (length bs) in
+          let h : (a && are_numbers_enough es) ≡ false = rw long at lacking.lacks in
+          by_test a
           (λ p. RefusedBy.no_number refl C.formed C.lines C.said (rw p at h))
-          (λ p. RefusedBy.no-space refl C.formed C.lines C.said (leb-false (length (bytesOfEntries es)) (length bs) p))
+          (λ p. RefusedBy.no_space refl C.formed C.lines C.said (leb-false (length (bytes_of_entries es)) (length bs) p))
 
       pub refused-14
-          : (cs : List ℕ) → length cs ≡ length bs' → ((ds fs : List Entry) → Holds bs' g.end (ds ++ fs) → f.end ≡ length (bytesOfEntries ds) → Holds cs f.end ds)
-          → readFile (Refused 14) cs delivery ≡ readNTriples bs file (length delivery)
+          : (cs : List ℕ) → length cs ≡ length bs' → ((ds fs : List Entry) → Holds bs' g.end (ds ++ fs) → f.end ≡ length (bytes_of_entries ds) → Holds cs f.end ds)
+          → read_file (Refused 14) cs delivery ≡ read_nTriples bs file (length delivery)
       refused-14 cs l T =
-          refused-reading bs file (length delivery) 14 cs delivery no-space
+          refused-reading bs file (length delivery) 14 cs delivery no_space
           (same_bytes bs cs f C.filled (T (entries bs) lacking.more lacking.filled.holds C.filled.holds.ends) (l ∙ long))
           C.zeros
 
@@ -122,18 +122,18 @@ module _ (file : List ℕ) (n : ℕ) (bs : List ℕ) (f : Filled) (delivery : Li
       pub named-within : g.end ≤ length bs'
       named-within = held-within bs' g.end es named.filled.holds
 
-      fits : length (bytesOfEntries es) ≤ length bs
+      fits : length (bytes_of_entries es) ≤ length bs
       fits = omega (arith, named-within, named.filled.holds.ends, long)
 
       grown : Grown (entries bs) es
-      grown = all_grown (entries bs) C.lines (filled-have bs f (entries bs) C.filled) (document-texts file C.lines C.said)
+      grown = all_grown (entries bs) C.lines (filled_have bs f (entries bs) C.filled) (document_texts file C.lines C.said)
 
       pub refused-15
-          : (room : leb (10 + 12 * n) (min (length delivery) mostBytes) ≡ false) (cs : List ℕ) → length cs ≡ length bs'
-          → ((ds fs : List Entry) → Holds bs' g.end (ds ++ fs) → f.end ≡ length (bytesOfEntries ds) → Holds cs f.end ds)
-          → readFile (Refused 15) cs delivery ≡ readNTriples bs file (length delivery)
+          : (room : leb (10 + 12 * n) (min (length delivery) most_bytes) ≡ false) (cs : List ℕ) → length cs ≡ length bs'
+          → ((ds fs : List Entry) → Holds bs' g.end (ds ++ fs) → f.end ≡ length (bytes_of_entries ds) → Holds cs f.end ds)
+          → read_file (Refused 15) cs delivery ≡ read_nTriples bs file (length delivery)
       refused-15 room cs l T =
-          let r : min (length delivery) mostBytes < 10 + 12 * length C.lines = rw C.counted at (leb-false (10 + 12 * n) (min (length delivery) mostBytes) room) in
+          let r : min (length delivery) most_bytes < 10 + 12 * length C.lines = rw C.counted at (leb-false (10 + 12 * n) (min (length delivery) most_bytes) room) in
           refused-reading bs file (length delivery) 15 cs delivery
           (RefusedBy.no_room refl C.formed C.lines C.said fits named.filled.enough r)
           (same_bytes bs cs f C.filled (T (entries bs) grown.more (rw grown.same at named.filled.holds) C.filled.holds.ends) (l ∙ long))
@@ -141,15 +141,15 @@ module _ (file : List ℕ) (n : ℕ) (bs : List ℕ) (f : Filled) (delivery : Li
 
       -- ---- the delivery
 
-      module _ (room : leb (10 + 12 * n) (min (length delivery) mostBytes) ≡ true) where
-        in-room : 10 + 12 * n ≤ min (length delivery) mostBytes
-        in-room = leb-true (10 + 12 * n) (min (length delivery) mostBytes) room
+      module _ (room : leb (10 + 12 * n) (min (length delivery) most_bytes) ≡ true) where
+        in_room : 10 + 12 * n ≤ min (length delivery) most_bytes
+        in_room = leb-true (10 + 12 * n) (min (length delivery) most_bytes) room
 
         pub few : n ≤ 5460
-        few = omega (arith, in-room)
+        few = omega (arith, in_room)
 
         pub room-there : 10 + 12 * n ≤ length delivery
-        room-there = omega (arith, in-room)
+        room-there = omega (arith, in_room)
 
         accepted : Accepted bs file (length delivery) (10 + 12 * n)
         accepted =
@@ -159,30 +159,30 @@ module _ (file : List ℕ) (n : ℕ) (bs : List ℕ) (f : Filled) (delivery : Li
               said = C.said;
               space = fits;
               numbers = named.filled.enough;
-              room = rw C.counted at in-room;
+              room = rw C.counted at in_room;
               size = ap (λ (k : ℕ). 10 + 12 * k) C.counted;
             }
 
         abbrev ts : List Triple
         ts = map (triple_of es) C.lines
 
-        rows_are : firstRows n ws ≡ ts
+        rows_are : first_rows n ws ≡ ts
         rows_are = rw C.counted (named.rows (omega (arith, few, C.counted)))
 
         bytes-long : length (encode (additions ts)) ≡ 10 + 12 * n
         bytes-long = additions-length ts ∙ ap (λ (k : ℕ). 10 + 12 * k) (length-map (triple_of es) C.lines ∙ sym C.counted)
 
         pub read_whole
-            : (r : ℕ) (m : List ℕ) → r ≡ 10 + 12 * n → m ≡ padded (length delivery) (encode (additions (firstRows n ws)))
-            → readFile (Length r) bs' m ≡ readNTriples bs file (length delivery)
-        unfolding concludeReading accepted
+            : (r : ℕ) (m : List ℕ) → r ≡ 10 + 12 * n → m ≡ padded (length delivery) (encode (additions (first_rows n ws)))
+            → read_file (Length r) bs' m ≡ read_nTriples bs file (length delivery)
+        unfolding conclude_reading accepted
         read_whole r m q w =
             let a : r ≡ length (encode (additions ts)) = q ∙ sym bytes-long in
-            let d : bs' ≡ dictionaryBytes (length bs) es = named.filled.holds.same ∙ ap (λ (k : ℕ). dictionaryBytes k es) long in
+            let d : bs' ≡ dictionary_bytes (length bs) es = named.filled.holds.same ∙ ap (λ (k : ℕ). dictionary_bytes k es) long in
             let p : m ≡ padded (length delivery) (encode (additions ts)) = w ∙ ap (λ (l : List Triple). padded (length delivery) (encode (additions l))) rows_are in
-            ap (λ (k : ℕ). readFile (Length k) bs' m) a
-            ∙ ap (λ (l : List ℕ). readFile (Length (length (encode (additions ts)))) l m) d
-            ∙ ap (λ (l : List ℕ). readFile (Length (length (encode (additions ts)))) (dictionaryBytes (length bs) es) l) p
-            ∙ sym (accepted-is bs file (length delivery) (10 + 12 * n) accepted)
+            ap (λ (k : ℕ). read_file (Length k) bs' m) a
+            ∙ ap (λ (l : List ℕ). read_file (Length (length (encode (additions ts)))) l m) d
+            ∙ ap (λ (l : List ℕ). read_file (Length (length (encode (additions ts)))) (dictionary_bytes (length bs) es) l) p
+            ∙ sym (accepted_is bs file (length delivery) (10 + 12 * n) accepted)
 
 -- ---- the delivery's bytes

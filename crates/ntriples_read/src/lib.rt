@@ -1,7 +1,7 @@
 // N-Triples read with a dictionary into a delivery.
 ghost use Rattle.std.specs.Prelude.{◌≡◌, ◌+◌, ◌*◌, min, length, leb};
-ghost use Rattle.spec.specs.Messages.{mostBytes};
-ghost use Rattle.spec_ntriples.specs.Reading.{readFile, readNTriples};
+ghost use Rattle.spec.specs.Messages.{most_bytes};
+ghost use Rattle.spec_ntriples.specs.Reading.{read_file, read_nTriples};
 ghost use Rattle.ntriples_read.specs.inside.Reading.{CanRead};
 
 use dictionary_bytes::Filled;
@@ -32,7 +32,7 @@ fn no_terms() -> [u32; WORDS]
 
 // Question 15: whether a delivery of n triples has room in len bytes, and in the most that one has.
 fn has_room(n: usize, len: usize) -> bool
-    ensures { result ≡ leb (10 + 12 * n) (min len mostBytes) }
+    ensures { result ≡ leb (10 + 12 * n) (min len most_bytes) }
 {
     if MOST_LINES < n {
         return false;
@@ -49,7 +49,7 @@ fn read_triples(
     delivery: &mut [u8],
 ) -> ByteReply
     requires { CanRead file.now n dictionary.old f delivery.old }
-    ensures { readFile result dictionary.new delivery.new ≡ readNTriples dictionary.old file.now (length delivery.old) }
+    ensures { read_file result dictionary.new delivery.new ≡ read_nTriples dictionary.old file.now (length delivery.old) }
 {
     let mut terms = no_terms();
     match name_file(file, n, dictionary, f, &mut terms) {
@@ -70,7 +70,7 @@ fn read_triples(
 // Reads a file of N-Triples with a dictionary (the term book of document 02) into a delivery: questions 1, 13, 14 and 15, each of the whole
 // file before the next. Refused, the dictionary is as it was and the delivery is zero.
 pub fn read_ntriples(file: &[u8], dictionary: &mut [u8], delivery: &mut [u8]) -> ByteReply
-    ensures { readFile result dictionary.new delivery.new ≡ readNTriples dictionary.old file.now (length delivery.old) }
+    ensures { read_file result dictionary.new delivery.new ≡ read_nTriples dictionary.old file.now (length delivery.old) }
 {
     clear(delivery);
     match check_dictionary(dictionary) {

@@ -1,8 +1,8 @@
 // The texts and ends of lines, put into an output where they fit.
 ghost use Rattle.std.specs.Prelude.{◌++◌, ◌+◌, ◌≤◌, length};
 ghost use Rattle.spec_ntriples.specs.Characters.{codes};
-ghost use Rattle.dictionary_bytes.specs.inside.Entries.{lengthAt, textAt};
-ghost use Rattle.ntriples_copy.specs.inside.Vocabulary.{vocabularyText};
+ghost use Rattle.dictionary_bytes.specs.inside.Entries.{length_at, text_at};
+ghost use Rattle.ntriples_copy.specs.inside.Vocabulary.{vocabulary_text};
 ghost use Rattle.ntriples_room.specs.inside.Put.{Put};
 
 use dictionary_bytes::{HEADER, length_at};
@@ -20,9 +20,9 @@ const END_BYTES: usize = 2;
 
 // Puts the text of the entry at a place and a space from an index on: the index behind them, or 0 where they do not fit.
 pub fn put_entry(dictionary: &[u8], place: usize, out: &mut [u8], at: usize) -> usize
-    requires place_in_bounds { place + 12 + lengthAt dictionary.now place ≤ length dictionary.now }
+    requires place_in_bounds { place + 12 + length_at dictionary.now place ≤ length dictionary.now }
     requires at_in_bounds { at ≤ length out.old }
-    ensures { Put out.old out.new at (textAt dictionary.now place ++ codes " ") result }
+    ensures { Put out.old out.new at (text_at dictionary.now place ++ codes " ") result }
 {
     let n = length_at(dictionary, place);
     if out.len() - at <= n {
@@ -37,7 +37,7 @@ pub fn put_entry(dictionary: &[u8], place: usize, out: &mut [u8], at: usize) -> 
 pub fn put_vocabulary(term: u32, out: &mut [u8], at: usize) -> usize
     requires le_term { (1 ≤ term) × (term ≤ 5) }
     requires at_in_bounds { at ≤ length out.old }
-    ensures { Put out.old out.new at (vocabularyText term ++ codes " ") result }
+    ensures { Put out.old out.new at (vocabulary_text term ++ codes " ") result }
 {
     let size = vocabulary_length(term);
     if out.len() - at <= size {

@@ -7,10 +7,10 @@ ghost use Rattle.spec.specs.inside.Laid.{Laid};
 ghost use Rattle.spec_ntriples.specs.Characters.{codes};
 ghost use Rattle.spec_ntriples.specs.Dictionary.{entries};
 ghost use Rattle.spec_ntriples.specs.Sights.{text_of};
-ghost use Rattle.spec_writing.specs.Writing.{lineBytes, rowTexts, rowsBytes, hasText, hasTexts, written};
+ghost use Rattle.spec_writing.specs.Writing.{line_bytes, row_texts, rows_bytes, has_text, has_texts, written};
 ghost use Rattle.dictionary_places.specs.inside.Places.{ArePlaces};
 ghost use Rattle.ntriples_room.specs.inside.Put.{Put};
-ghost use Rattle.ntriples_rows.specs.inside.Fitting.{givenRoom};
+ghost use Rattle.ntriples_rows.specs.inside.Fitting.{given_room};
 
 use dictionary_bytes::Filled;
 use dictionary_places::place_of;
@@ -31,7 +31,7 @@ fn put_term(
     at: usize,
 ) -> usize
     requires are_places { ArePlaces dictionary.now f places.now }
-    requires term_value { hasText (entries dictionary.now) term ≡ true }
+    requires term_value { has_text (entries dictionary.now) term ≡ true }
     requires at_in_bounds { at ≤ length out.old }
     ensures { Put out.old out.new at (text_of (entries dictionary.now) term ++ codes " ") result }
 {
@@ -52,9 +52,9 @@ fn put_row(
     at: usize,
 ) -> usize
     requires are_places { ArePlaces dictionary.now f places.now }
-    requires t_value { hasTexts (entries dictionary.now) t ≡ true }
+    requires t_value { has_texts (entries dictionary.now) t ≡ true }
     requires at_in_bounds { at ≤ length out.old }
-    ensures { Put out.old out.new at (lineBytes (rowTexts (entries dictionary.now) t)) result }
+    ensures { Put out.old out.new at (line_bytes (row_texts (entries dictionary.now) t)) result }
 {
     let property = put_term(dictionary, f, places, t.subject, out, at);
     if property == 0 {
@@ -82,8 +82,8 @@ pub fn write_rows(
 ) -> ByteReply
     requires laid { Laid table.now }
     requires are_places { ArePlaces dictionary.now f places.now }
-    requires table_value { all (hasTexts (entries dictionary.now)) (rows table.now) ≡ true }
-    ensures { written result out.new ≡ givenRoom (rowsBytes (entries dictionary.now) (rows table.now)) (length out.old) }
+    requires table_value { all (has_texts (entries dictionary.now)) (rows table.now) ≡ true }
+    ensures { written result out.new ≡ given_room (rows_bytes (entries dictionary.now) (rows table.now)) (length out.old) }
 {
     let n = table[0] as usize;
     let mut i = 0;

@@ -8,13 +8,13 @@ use native.Mathlib.Omega.{arith}
 use lib.ListN.{length, set, length-append}
 use lib.Seq.{sets, set_comm}
 use Rattle.spec.specs.declared.Triple.{Triple}
-use Rattle.spec.specs.Terms.{isStatement}
+use Rattle.spec.specs.Terms.{is_statement}
 use Rattle.spec.specs.Lists.{select}
-use Rattle.spec.specs.Tables.{tripleFrom, firstRows}
+use Rattle.spec.specs.Tables.{triple_from, first_rows}
 use Rattle.spec.proofs.Lists.{select-length}
-use Rattle.spec.proofs.TableRows.{length-firstRows, firstRows-snoc}
-use Rattle.spec.specs.Messages.{shortBytes, word_bytes, entryBytes, entriesBytes, sectionBytes}
-use Rattle.delivery_format.specs.inside.Sections.{isRightIn}
+use Rattle.spec.proofs.TableRows.{length-first_rows, first_rows-snoc}
+use Rattle.spec.specs.Messages.{short_bytes, word_bytes, entry_bytes, entries_bytes, section_bytes}
+use Rattle.delivery_format.specs.inside.Sections.{is_right_in}
 use Rattle.spec_ntriples.proofs.Numbers.{select-append}
 use Rattle.spec_ntriples.proofs.ReadingRefused.{entries-length}
 use Rattle.ntriples_text.proofs.Writing.{sets-append}
@@ -22,19 +22,19 @@ use Rattle.ntriples_section.specs.inside.Sections.{chosen}
 
 -- ---- numbers, words and entries
 
-pub short-written : (out : List ℕ) (at n : ℕ) → set (set out at (n % 256)) (at + 1) (n / 256) ≡ sets out at (shortBytes n)
-unfolding shortBytes
+pub short-written : (out : List ℕ) (at n : ℕ) → set (set out at (n % 256)) (at + 1) (n / 256) ≡ sets out at (short_bytes n)
+unfolding short_bytes
 short-written out at n = rw (add-one at)
 
-pub word-written : (out a b : List ℕ) (at w : ℕ) → a ≡ sets out at (shortBytes (w % 65536)) → b ≡ sets a (at + 2) (shortBytes (w / 65536)) → b ≡ sets out at (word_bytes w)
-unfolding word_bytes shortBytes
+pub word-written : (out a b : List ℕ) (at w : ℕ) → a ≡ sets out at (short_bytes (w % 65536)) → b ≡ sets a (at + 2) (short_bytes (w / 65536)) → b ≡ sets out at (word_bytes w)
+unfolding word_bytes short_bytes
 word-written out a b at w e f =
-    f ∙ ap (λ (o : List ℕ). sets o (at + 2) (shortBytes (w / 65536))) e ∙ sym (sets-append out at (shortBytes (w % 65536)) (shortBytes (w / 65536)))
+    f ∙ ap (λ (o : List ℕ). sets o (at + 2) (short_bytes (w / 65536))) e ∙ sym (sets-append out at (short_bytes (w % 65536)) (short_bytes (w / 65536)))
 
 pub entry-written
     : (out a b d : List ℕ) (at : ℕ) (t : Triple) → a ≡ sets out at (word_bytes t.subject) → b ≡ sets a (at + 4) (word_bytes t.property) → d ≡ sets b (at + 8) (word_bytes t.object)
-    → d ≡ sets out at (entryBytes t)
-unfolding entryBytes word_bytes shortBytes
+    → d ≡ sets out at (entry_bytes t)
+unfolding entry_bytes word_bytes short_bytes
 entry-written out a b d at t e f g =
     let k : at + 4 + 4 ≡ at + 8 = omega arith in
     g ∙ ap (λ (o : List ℕ). sets o (at + 8) (word_bytes t.object)) f
@@ -45,100 +45,100 @@ entry-written out a b d at t e f g =
 
 -- ---- entries
 
-entries-append : (ss ts : List Triple) → entriesBytes (ss ++ ts) ≡ entriesBytes ss ++ entriesBytes ts
-unfolding entriesBytes
+entries-append : (ss ts : List Triple) → entries_bytes (ss ++ ts) ≡ entries_bytes ss ++ entries_bytes ts
+unfolding entries_bytes
 entries-append [] ts = refl
-entries-append (s ∷ ss) ts = ap (λ (l : List ℕ). entryBytes s ++ l) (entries-append ss ts) ∙ sym (append_assoc (entryBytes s) (entriesBytes ss) (entriesBytes ts))
+entries-append (s ∷ ss) ts = ap (λ (l : List ℕ). entry_bytes s ++ l) (entries-append ss ts) ∙ sym (append_assoc (entry_bytes s) (entries_bytes ss) (entries_bytes ts))
 
 -- One entry more.
-entries-snoc : (ss : List Triple) (t : Triple) → entriesBytes (ss ++ (t ∷ [])) ≡ entriesBytes ss ++ entryBytes t
-unfolding entriesBytes
-entries-snoc ss t = entries-append ss (t ∷ []) ∙ ap (λ (l : List ℕ). entriesBytes ss ++ l) (append-nil (entryBytes t))
+entries-snoc : (ss : List Triple) (t : Triple) → entries_bytes (ss ++ (t ∷ [])) ≡ entries_bytes ss ++ entry_bytes t
+unfolding entries_bytes
+entries-snoc ss t = entries-append ss (t ∷ []) ∙ ap (λ (l : List ℕ). entries_bytes ss ++ l) (append-nil (entry_bytes t))
 
 module _ (statements : Bool) (n : ℕ) (ws : List ℕ) where
-  chosen_more : chosen statements (n + 1) ws ≡ chosen statements n ws ++ select (isRightIn statements) (tripleFrom ws (n * 3) ∷ [])
+  chosen_more : chosen statements (n + 1) ws ≡ chosen statements n ws ++ select (is_right_in statements) (triple_from ws (n * 3) ∷ [])
   unfolding chosen
-  chosen_more = rw (add-one n, firstRows-snoc n ws) (select-append (isRightIn statements) (firstRows n ws) (tripleFrom ws (n * 3) ∷ []))
+  chosen_more = rw (add-one n, first_rows-snoc n ws) (select-append (is_right_in statements) (first_rows n ws) (triple_from ws (n * 3) ∷ []))
 
-  pub chosen-one : isRightIn statements (tripleFrom ws (n * 3)) ≡ true → chosen statements (n + 1) ws ≡ chosen statements n ws ++ (tripleFrom ws (n * 3) ∷ [])
+  pub chosen_one : is_right_in statements (triple_from ws (n * 3)) ≡ true → chosen statements (n + 1) ws ≡ chosen statements n ws ++ (triple_from ws (n * 3) ∷ [])
   unfolding select
-  chosen-one q = chosen_more ∙ rw q
+  chosen_one q = chosen_more ∙ rw q
 
-  pub chosen_none : isRightIn statements (tripleFrom ws (n * 3)) ≡ false → chosen statements (n + 1) ws ≡ chosen statements n ws
+  pub chosen_none : is_right_in statements (triple_from ws (n * 3)) ≡ false → chosen statements (n + 1) ws ≡ chosen statements n ws
   unfolding select
   chosen_none q = chosen_more ∙ rw q (append-nil (chosen statements n ws))
 
 -- The test for it.
-is-it : (b : Bool) → beq b true ≡ b
-is-it true = refl
-is-it false = refl
+is_it : (b : Bool) → beq b true ≡ b
+is_it true = refl
+is_it false = refl
 
-is-not : (b : Bool) → beq b false ≡ not b
-is-not true = refl
-is-not false = refl
+is_not : (b : Bool) → beq b false ≡ not b
+is_not true = refl
+is_not false = refl
 
-right-in : (statements : Bool) (t : Triple) → beq (isStatement t) statements ≡ isRightIn statements t
-unfolding isRightIn
-right-in true t = is-it (isStatement t)
-right-in false t = is-not (isStatement t)
+right_in : (statements : Bool) (t : Triple) → beq (is_statement t) statements ≡ is_right_in statements t
+unfolding is_right_in
+right_in true t = is_it (is_statement t)
+right_in false t = is_not (is_statement t)
 
-pub tested : (statements : Bool) (t u : Triple) (r b : Bool) → r ≡ isStatement t → t ≡ u → beq r statements ≡ b → isRightIn statements u ≡ b
-tested statements t u r b e f q = ap (isRightIn statements) (sym f) ∙ sym (right-in statements t) ∙ ap (λ (x : Bool). beq x statements) (sym e) ∙ q
+pub tested : (statements : Bool) (t u : Triple) (r b : Bool) → r ≡ is_statement t → t ≡ u → beq r statements ≡ b → is_right_in statements u ≡ b
+tested statements t u r b e f q = ap (is_right_in statements) (sym f) ∙ sym (right_in statements t) ∙ ap (λ (x : Bool). beq x statements) (sym e) ∙ q
 
 -- Of more rows at least as many are chosen.
-chosen-grows : (statements : Bool) (ws : List ℕ) (i k : ℕ) → length (chosen statements i ws) ≤ length (chosen statements (i + k) ws)
-chosen-grows statements ws i zero = let e : i + 0 ≡ i = omega arith in rw e (omega arith)
-chosen-grows statements ws i (suc k) =
+chosen_grows : (statements : Bool) (ws : List ℕ) (i k : ℕ) → length (chosen statements i ws) ≤ length (chosen statements (i + k) ws)
+chosen_grows statements ws i zero = let e : i + 0 ≡ i = omega arith in rw e (omega arith)
+chosen_grows statements ws i (suc k) =
     let e : i + suc k ≡ i + k + 1 = omega arith in
     rw e (omega (
       arith,
-      chosen-grows statements ws i k,
+      chosen_grows statements ws i k,
       ap length (chosen_more statements (i + k) ws),
-      length-append (chosen statements (i + k) ws) (select (isRightIn statements) (tripleFrom ws ((i + k) * 3) ∷ [])),
+      length-append (chosen statements (i + k) ws) (select (is_right_in statements) (triple_from ws ((i + k) * 3) ∷ [])),
     ))
 
 -- At most all are.
-pub chosen-few : (statements : Bool) (n : ℕ) (ws : List ℕ) → length (chosen statements n ws) ≤ n
+pub chosen_few : (statements : Bool) (n : ℕ) (ws : List ℕ) → length (chosen statements n ws) ≤ n
 unfolding chosen
-chosen-few statements n ws = omega (arith, select-length (isRightIn statements) (firstRows n ws), length-firstRows n ws)
+chosen_few statements n ws = omega (arith, select-length (is_right_in statements) (first_rows n ws), length-first_rows n ws)
 
 -- So there is room for one more.
-pub chosen-room : (statements : Bool) (ws : List ℕ) (i n : ℕ) → i < n → isRightIn statements (tripleFrom ws (i * 3)) ≡ true → length (chosen statements i ws) < length (chosen statements n ws)
-chosen-room statements ws i n h q =
+pub chosen_room : (statements : Bool) (ws : List ℕ) (i n : ℕ) → i < n → is_right_in statements (triple_from ws (i * 3)) ≡ true → length (chosen statements i ws) < length (chosen statements n ws)
+chosen_room statements ws i n h q =
     let e : i + 1 + (n - (i + 1)) ≡ n = omega arith in
     omega (
       arith,
-      ap length (chosen-one statements i ws q),
-      length-append (chosen statements i ws) (tripleFrom ws (i * 3) ∷ []),
+      ap length (chosen_one statements i ws q),
+      length-append (chosen statements i ws) (triple_from ws (i * 3) ∷ []),
       ap (λ (k : ℕ). length (chosen statements k ws)) e,
-      chosen-grows statements ws (i + 1) (n - (i + 1)),
+      chosen_grows statements ws (i + 1) (n - (i + 1)),
     )
 
 -- Entries written from an index on, up to another.
 pub record Wrote (out₀ : List ℕ) (at : ℕ) (ts : List Triple) (out : List ℕ) (place : ℕ) : Type 0 where
-  pub written : out ≡ sets out₀ at (entriesBytes ts)
+  pub written : out ≡ sets out₀ at (entries_bytes ts)
   pub behind : place ≡ at + length ts * 12
 
 pub wrote_none : (statements : Bool) (ws out : List ℕ) (at : ℕ) → Wrote out at (chosen statements 0 ws) out at
-unfolding entriesBytes chosen firstRows select
+unfolding entries_bytes chosen first_rows select
 wrote_none statements ws out at = record { written = refl; behind = omega arith }
 
 pub wrote-more
     : (out₀ : List ℕ) (at : ℕ) (ts : List Triple) (out : List ℕ) (place : ℕ) → Wrote out₀ at ts out place
-    → (t : Triple) (next : List ℕ) → next ≡ sets out place (entryBytes t) → Wrote out₀ at (ts ++ (t ∷ [])) next (place + 12)
+    → (t : Triple) (next : List ℕ) → next ≡ sets out place (entry_bytes t) → Wrote out₀ at (ts ++ (t ∷ [])) next (place + 12)
 wrote-more out₀ at ts out place W t next e =
-    let k : at + length (entriesBytes ts) ≡ place = omega (arith, entries-length ts, W.behind) in
+    let k : at + length (entries_bytes ts) ≡ place = omega (arith, entries-length ts, W.behind) in
     record {
       written =
-          e ∙ ap (λ (o : List ℕ). sets o place (entryBytes t)) W.written
-          ∙ ap (λ (i : ℕ). sets (sets out₀ at (entriesBytes ts)) i (entryBytes t)) (sym k)
-          ∙ sym (ap (sets out₀ at) (entries-snoc ts t) ∙ sets-append out₀ at (entriesBytes ts) (entryBytes t));
+          e ∙ ap (λ (o : List ℕ). sets o place (entry_bytes t)) W.written
+          ∙ ap (λ (i : ℕ). sets (sets out₀ at (entries_bytes ts)) i (entry_bytes t)) (sym k)
+          ∙ sym (ap (sets out₀ at) (entries-snoc ts t) ∙ sets-append out₀ at (entries_bytes ts) (entry_bytes t));
       behind = omega (arith, W.behind, length-append ts (t ∷ []));
     }
 
 -- What is written for the same triples.
-pub wrote-same : (out₀ : List ℕ) (at : ℕ) (ts us : List Triple) (out : List ℕ) (place : ℕ) → us ≡ ts → Wrote out₀ at ts out place → Wrote out₀ at us out place
-wrote-same out₀ at ts us out place e W = rw e W
+pub wrote_same : (out₀ : List ℕ) (at : ℕ) (ts us : List Triple) (out : List ℕ) (place : ℕ) → us ≡ ts → Wrote out₀ at ts out place → Wrote out₀ at us out place
+wrote_same out₀ at ts us out place e W = rw e W
 
 -- ---- sections
 
@@ -150,16 +150,16 @@ set_before out at (v ∷ vs) i a h =
     ∙ ap (λ (o : List ℕ). sets o (suc at) vs) (set_comm out at i v a (λ e. omega arith))
 
 -- The count of a section, written when its entries are.
-pub section-written
-    : (out a b : List ℕ) (at c : ℕ) (ts : List Triple) → a ≡ sets out (at + 2) (entriesBytes ts) → c ≡ length ts → b ≡ sets a at (shortBytes c)
-    → b ≡ sets out at (sectionBytes ts)
-unfolding sectionBytes shortBytes
-section-written out a b at c ts e l f =
+pub section_written
+    : (out a b : List ℕ) (at c : ℕ) (ts : List Triple) → a ≡ sets out (at + 2) (entries_bytes ts) → c ≡ length ts → b ≡ sets a at (short_bytes c)
+    → b ≡ sets out at (section_bytes ts)
+unfolding section_bytes short_bytes
+section_written out a b at c ts e l f =
     let k : at + 2 ≡ suc (suc at) = omega arith in
     f ∙ rw (e, l, k)
-    (ap (λ (o : List ℕ). set o (suc at) (length ts / 256)) (set_before out (suc (suc at)) (entriesBytes ts) at (length ts % 256) (omega arith))
-    ∙ set_before (set out at (length ts % 256)) (suc (suc at)) (entriesBytes ts) (suc at) (length ts / 256) (omega arith))
+    (ap (λ (o : List ℕ). set o (suc at) (length ts / 256)) (set_before out (suc (suc at)) (entries_bytes ts) at (length ts % 256) (omega arith))
+    ∙ set_before (set out at (length ts % 256)) (suc (suc at)) (entries_bytes ts) (suc at) (length ts / 256) (omega arith))
 
-pub section-length : (ts : List Triple) → length (sectionBytes ts) ≡ 2 + length ts * 12
-unfolding sectionBytes shortBytes
+pub section-length : (ts : List Triple) → length (section_bytes ts) ≡ 2 + length ts * 12
+unfolding section_bytes short_bytes
 section-length ts = omega (arith, entries-length ts)

@@ -1,14 +1,14 @@
 // Numbers, words and entries written as bytes, low byte first.
 ghost use Rattle.std.specs.Prelude.{◌≡◌, ◌+◌, ◌≤◌, length};
 ghost use Rattle.std.proofs.lemmas.List.Edits.{sets};
-ghost use Rattle.spec.specs.Messages.{shortBytes, word_bytes, entryBytes};
+ghost use Rattle.spec.specs.Messages.{short_bytes, word_bytes, entry_bytes};
 
 use spec::Triple;
 
 // Writes a 16-bit number from an index on.
 pub fn write_short(n: u16, out: &mut [u8], at: usize)
     requires { at + 2 ≤ length out.old }
-    ensures { out.new ≡ sets out.old at (shortBytes n) }
+    ensures { out.new ≡ sets out.old at (short_bytes n) }
 {
     out[at] = (n % 256) as u8;
     out[at + 1] = (n / 256) as u8;
@@ -26,7 +26,7 @@ fn write_word(w: u32, out: &mut [u8], at: usize)
 // Writes the three words of an entry from an index on.
 pub fn write_entry(t: Triple, out: &mut [u8], at: usize)
     requires { at + 12 ≤ length out.old }
-    ensures { out.new ≡ sets out.old at (entryBytes t) }
+    ensures { out.new ≡ sets out.old at (entry_bytes t) }
 {
     write_word(t.subject, out, at);
     write_word(t.property, out, at + 4);

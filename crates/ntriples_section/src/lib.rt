@@ -3,7 +3,7 @@ mod bytes; // bytes.rt: numbers, words and entries written as bytes
 
 ghost use Rattle.std.specs.Prelude.{◌≡◌, ◌+◌, ◌*◌, ◌≤◌, length};
 ghost use Rattle.std.proofs.lemmas.List.Edits.{sets};
-ghost use Rattle.spec.specs.Messages.{entriesBytes, sectionBytes};
+ghost use Rattle.spec.specs.Messages.{entries_bytes, section_bytes};
 ghost use Rattle.ntriples_section.specs.inside.Sections.{chosen};
 
 use bytes::{write_entry, write_short};
@@ -19,7 +19,7 @@ const ENTRY_BYTES: usize = 12;
 fn write_entries(terms: &[u32], n: usize, statements: bool, out: &mut [u8], at: usize) -> usize
     requires n_in_bounds { n * 3 ≤ length terms.now }
     requires terms_in_bounds { at + length (chosen statements n terms.now) * 12 ≤ length out.old }
-    ensures out_after { out.new ≡ sets out.old at (entriesBytes (chosen statements n terms.now)) }
+    ensures out_after { out.new ≡ sets out.old at (entries_bytes (chosen statements n terms.now)) }
     ensures value { result ≡ at + length (chosen statements n terms.now) * 12 }
 {
     let mut i = 0;
@@ -39,7 +39,7 @@ fn write_entries(terms: &[u32], n: usize, statements: bool, out: &mut [u8], at: 
 pub fn write_section(terms: &[u32], n: usize, statements: bool, out: &mut [u8], at: usize) -> usize
     requires n_in_bounds { (n * 3 ≤ length terms.now) × (n ≤ 5460) }
     requires terms_in_bounds { at + 2 + length (chosen statements n terms.now) * 12 ≤ length out.old }
-    ensures out_after { out.new ≡ sets out.old at (sectionBytes (chosen statements n terms.now)) }
+    ensures out_after { out.new ≡ sets out.old at (section_bytes (chosen statements n terms.now)) }
     ensures value { result ≡ at + 2 + length (chosen statements n terms.now) * 12 }
 {
     let first = at + COUNT_BYTES;

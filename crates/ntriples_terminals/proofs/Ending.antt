@@ -7,17 +7,17 @@ use mathlib.Core.List.{List}
 use lib.ListN.{length}
 use lib.Dec.{eqb}
 use borrow.Author.Tests.{eq-eqb, ne_eqb}
-use Rattle.spec_ntriples.specs.Characters.{codes, isOneOf, isLetter, isLetterOrDigit}
-use Rattle.spec_ntriples.specs.computed.Terminals.{Got, none, got, push, outside, iriStep, scan, skip}
-use Rattle.spec_ntriples.specs.Texts.{isScheme, isAbsolute}
-use Rattle.spec_ntriples.specs.computed.Lines.{iriOf, readIri}
+use Rattle.spec_ntriples.specs.Characters.{codes, is_one_of, is_letter, is_letter_or_digit}
+use Rattle.spec_ntriples.specs.computed.Terminals.{Got, none, got, push, outside, iri_step, scan, skip}
+use Rattle.spec_ntriples.specs.Texts.{is_scheme, is_absolute}
+use Rattle.spec_ntriples.specs.computed.Lines.{iri_of, read_iri}
 use Rattle.ntriples_bytes.specs.declared.Mark.{Mark}
-use Rattle.ntriples_bytes.specs.inside.Places.{charsAt, Marks}
-use Rattle.ntriples_bytes.proofs.Decoding.{chars-end, chars-marked}
-use Rattle.ntriples_bytes.proofs.Marking.{by-test}
+use Rattle.ntriples_bytes.specs.inside.Places.{chars_at, Marks}
+use Rattle.ntriples_bytes.proofs.Decoding.{chars_end, chars_marked}
+use Rattle.ntriples_bytes.proofs.Marking.{by_test}
 use Rattle.ntriples_chars.proofs.Testing.{neither, either}
 use Rattle.ntriples_pieces.specs.inside.Pieces.{step_of, IsPiece}
-use Rattle.ntriples_terminals.specs.inside.Ends.{Behind, nowhere, behind, behindWhere, behindGot, behindRead, Ended, IsEnd}
+use Rattle.ntriples_terminals.specs.inside.Ends.{Behind, nowhere, behind, behind_where, behind_got, behind_read, Ended, IsEnd}
 use Rattle.ntriples_pieces.specs.declared.Piece.TheVariants.{Broken, Ends, Gives}
 use Rattle.ntriples_terminals.specs.declared.Found.{Found}
 use Rattle.ntriples_terminals.specs.declared.Found.TheVariants.{Nothing, End}
@@ -30,142 +30,142 @@ end_same bs a b (End end) e q = record { same = e ∙ q.same; from = q.from }
 -- ---- white space
 
 module _ (bs : List ℕ) (at : ℕ) where
-  pub skip-end : length bs ≤ at → skip (charsAt bs at) ≡ charsAt bs at
+  pub skip_end : length bs ≤ at → skip (chars_at bs at) ≡ chars_at bs at
   unfolding skip
-  skip-end h = rw (chars-end bs at h)
+  skip_end h = rw (chars_end bs at h)
 
   module _ (m : Mark) (M : Marks bs at m) where
-    pub skip-none : (not (eqb m.code 0x09) && not (eqb m.code 0x20)) ≡ true → skip (charsAt bs at) ≡ charsAt bs at
-    unfolding skip isOneOf codes
-    skip-none q = rw (chars-marked M, neither (eqb m.code 0x09) (eqb m.code 0x20) q)
+    pub skip-none : (not (eqb m.code 0x09) && not (eqb m.code 0x20)) ≡ true → skip (chars_at bs at) ≡ chars_at bs at
+    unfolding skip is_one_of codes
+    skip-none q = rw (chars_marked M, neither (eqb m.code 0x09) (eqb m.code 0x20) q)
 
-    pub skip-one : (not (eqb m.code 0x09) && not (eqb m.code 0x20)) ≡ false → skip (charsAt bs at) ≡ skip (charsAt bs m.next)
-    unfolding skip isOneOf codes
-    skip-one q = rw (chars-marked M, either (eqb m.code 0x09) (eqb m.code 0x20) q)
+    pub skip-one : (not (eqb m.code 0x09) && not (eqb m.code 0x20)) ≡ false → skip (chars_at bs at) ≡ skip (chars_at bs m.next)
+    unfolding skip is_one_of codes
+    skip-one q = rw (chars_marked M, either (eqb m.code 0x09) (eqb m.code 0x20) q)
 
 -- ---- the closing mark
 
-behind-push : (c : ℕ) (g : Got) → behindGot (push c g) ≡ behindGot g
-unfolding behindGot push
+behind-push : (c : ℕ) (g : Got) → behind_got (push c g) ≡ behind_got g
+unfolding behind_got push
 behind-push c none = refl
 behind-push c (got cs rest) = refl
 
 -- What is behind a closing mark that is still to come.
 abbrev pub closes : Bool → List ℕ → ℕ → Behind
-closes iri bs at = behindGot (scan (step_of iri) outside (charsAt bs at))
+closes iri bs at = behind_got (scan (step_of iri) outside (chars_at bs at))
 
 module _ (iri : Bool) (bs : List ℕ) (at : ℕ) where
-  pub closes-broken : IsPiece (step_of iri) outside bs at Broken → closes iri bs at ≡ nowhere
-  unfolding behindGot
-  closes-broken q = rw q
+  pub closes_broken : IsPiece (step_of iri) outside bs at Broken → closes iri bs at ≡ nowhere
+  unfolding behind_got
+  closes_broken q = rw q
 
   pub closes_here : (next : ℕ) → IsPiece (step_of iri) outside bs at (Ends next) → Ended bs (closes iri bs at) next
-  unfolding behindGot
+  unfolding behind_got
   closes_here next q = record { same = rw q.0; from = q.1 }
 
-  pub closes-later : (c next : ℕ) → IsPiece (step_of iri) outside bs at (Gives c next) → closes iri bs at ≡ closes iri bs next
-  closes-later c next q = rw q.0 (behind-push c (scan (step_of iri) outside (charsAt bs next)))
+  pub closes_later : (c next : ℕ) → IsPiece (step_of iri) outside bs at (Gives c next) → closes iri bs at ≡ closes iri bs next
+  closes_later c next q = rw q.0 (behind-push c (scan (step_of iri) outside (chars_at bs next)))
 
-  pub closes-end : length bs ≤ at → closes iri bs at ≡ nowhere
-  unfolding behindGot scan
-  closes-end h = rw (chars-end bs at h)
+  pub closes_end : length bs ≤ at → closes iri bs at ≡ nowhere
+  unfolding behind_got scan
+  closes_end h = rw (chars_end bs at h)
 
 -- ---- the scheme
 
 -- What is behind an IRI inside its scheme, and before it.
-abbrev pub inScheme : List ℕ → ℕ → Behind
-inScheme bs at = behindWhere isScheme (scan (step_of true) outside (charsAt bs at))
+abbrev pub in_scheme : List ℕ → ℕ → Behind
+in_scheme bs at = behind_where is_scheme (scan (step_of true) outside (chars_at bs at))
 
-abbrev pub inAbsolute : List ℕ → ℕ → Behind
-inAbsolute bs at = behindWhere isAbsolute (scan (step_of true) outside (charsAt bs at))
+abbrev pub in_absolute : List ℕ → ℕ → Behind
+in_absolute bs at = behind_where is_absolute (scan (step_of true) outside (chars_at bs at))
 
 -- The colon ends a scheme; other characters may stand in it or not.
-colon : (c : ℕ) (g : Got) → c ≡ code ":" → behindWhere isScheme (push c g) ≡ behindGot g
-unfolding behindWhere behindGot push isScheme
+colon : (c : ℕ) (g : Got) → c ≡ code ":" → behind_where is_scheme (push c g) ≡ behind_got g
+unfolding behind_where behind_got push is_scheme
 colon c none h = refl
 colon c (got cs rest) h = rw (eq-eqb c (code ":") h)
 
 scheme-char
-    : (c : ℕ) (g : Got) → (c ≡ code ":" → ⊥) → (isLetterOrDigit c || isOneOf (codes "+-.") c) ≡ true
-    → behindWhere isScheme (push c g) ≡ behindWhere isScheme g
-unfolding behindWhere push isScheme
+    : (c : ℕ) (g : Got) → (c ≡ code ":" → ⊥) → (is_letter_or_digit c || is_one_of (codes "+-.") c) ≡ true
+    → behind_where is_scheme (push c g) ≡ behind_where is_scheme g
+unfolding behind_where push is_scheme
 scheme-char c none n q = refl
 scheme-char c (got cs rest) n q = rw (ne_eqb c (code ":") n, q)
 
 no-scheme-char
-    : (c : ℕ) (g : Got) → (c ≡ code ":" → ⊥) → (isLetterOrDigit c || isOneOf (codes "+-.") c) ≡ false → behindWhere isScheme (push c g) ≡ nowhere
-unfolding behindWhere push isScheme
+    : (c : ℕ) (g : Got) → (c ≡ code ":" → ⊥) → (is_letter_or_digit c || is_one_of (codes "+-.") c) ≡ false → behind_where is_scheme (push c g) ≡ nowhere
+unfolding behind_where push is_scheme
 no-scheme-char c none n q = refl
 no-scheme-char c (got cs rest) n q = rw (ne_eqb c (code ":") n, q)
 
-letter : (c : ℕ) (g : Got) → isLetter c ≡ true → behindWhere isAbsolute (push c g) ≡ behindWhere isScheme g
-unfolding behindWhere push isAbsolute
+letter : (c : ℕ) (g : Got) → is_letter c ≡ true → behind_where is_absolute (push c g) ≡ behind_where is_scheme g
+unfolding behind_where push is_absolute
 letter c none q = refl
 letter c (got cs rest) q = rw q
 
-no-letter : (c : ℕ) (g : Got) → isLetter c ≡ false → behindWhere isAbsolute (push c g) ≡ nowhere
-unfolding behindWhere push isAbsolute
-no-letter c none q = refl
-no-letter c (got cs rest) q = rw q
+no_letter : (c : ℕ) (g : Got) → is_letter c ≡ false → behind_where is_absolute (push c g) ≡ nowhere
+unfolding behind_where push is_absolute
+no_letter c none q = refl
+no_letter c (got cs rest) q = rw q
 
 module _ (bs : List ℕ) (at : ℕ) where
-  pub scheme-broken : IsPiece (step_of true) outside bs at Broken → inScheme bs at ≡ nowhere
-  unfolding behindWhere
-  scheme-broken q = rw q
+  pub scheme_broken : IsPiece (step_of true) outside bs at Broken → in_scheme bs at ≡ nowhere
+  unfolding behind_where
+  scheme_broken q = rw q
 
-  pub scheme-cut : (next : ℕ) → IsPiece (step_of true) outside bs at (Ends next) → inScheme bs at ≡ nowhere
-  unfolding behindWhere isScheme
-  scheme-cut next q = rw q.0
+  pub scheme_cut : (next : ℕ) → IsPiece (step_of true) outside bs at (Ends next) → in_scheme bs at ≡ nowhere
+  unfolding behind_where is_scheme
+  scheme_cut next q = rw q.0
 
-  pub scheme-end : length bs ≤ at → inScheme bs at ≡ nowhere
-  unfolding behindWhere scan
-  scheme-end h = rw (chars-end bs at h)
+  pub scheme_end : length bs ≤ at → in_scheme bs at ≡ nowhere
+  unfolding behind_where scan
+  scheme_end h = rw (chars_end bs at h)
 
-  pub absolute-broken : IsPiece (step_of true) outside bs at Broken → inAbsolute bs at ≡ nowhere
-  unfolding behindWhere
-  absolute-broken q = rw q
+  pub absolute_broken : IsPiece (step_of true) outside bs at Broken → in_absolute bs at ≡ nowhere
+  unfolding behind_where
+  absolute_broken q = rw q
 
-  pub absolute-cut : (next : ℕ) → IsPiece (step_of true) outside bs at (Ends next) → inAbsolute bs at ≡ nowhere
-  unfolding behindWhere isAbsolute
-  absolute-cut next q = rw q.0
+  pub absolute_cut : (next : ℕ) → IsPiece (step_of true) outside bs at (Ends next) → in_absolute bs at ≡ nowhere
+  unfolding behind_where is_absolute
+  absolute_cut next q = rw q.0
 
-  pub absolute-end : length bs ≤ at → inAbsolute bs at ≡ nowhere
-  unfolding behindWhere scan
-  absolute-end h = rw (chars-end bs at h)
+  pub absolute_end : length bs ≤ at → in_absolute bs at ≡ nowhere
+  unfolding behind_where scan
+  absolute_end h = rw (chars_end bs at h)
 
   module _ (c next : ℕ) (q : IsPiece (step_of true) outside bs at (Gives c next)) where
-    pub scheme-colon : c ≡ code ":" → inScheme bs at ≡ closes true bs next
-    scheme-colon h = rw q.0 (colon c (scan (step_of true) outside (charsAt bs next)) h)
+    pub scheme-colon : c ≡ code ":" → in_scheme bs at ≡ closes true bs next
+    scheme-colon h = rw q.0 (colon c (scan (step_of true) outside (chars_at bs next)) h)
 
-    pub scheme-on : (c ≡ code ":" → ⊥) → (isLetterOrDigit c || isOneOf (codes "+-.") c) ≡ true → inScheme bs at ≡ inScheme bs next
-    scheme-on n t = rw q.0 (scheme-char c (scan (step_of true) outside (charsAt bs next)) n t)
+    pub scheme-on : (c ≡ code ":" → ⊥) → (is_letter_or_digit c || is_one_of (codes "+-.") c) ≡ true → in_scheme bs at ≡ in_scheme bs next
+    scheme-on n t = rw q.0 (scheme-char c (scan (step_of true) outside (chars_at bs next)) n t)
 
-    pub scheme-off : (c ≡ code ":" → ⊥) → (isLetterOrDigit c || isOneOf (codes "+-.") c) ≡ false → inScheme bs at ≡ nowhere
-    scheme-off n t = rw q.0 (no-scheme-char c (scan (step_of true) outside (charsAt bs next)) n t)
+    pub scheme-off : (c ≡ code ":" → ⊥) → (is_letter_or_digit c || is_one_of (codes "+-.") c) ≡ false → in_scheme bs at ≡ nowhere
+    scheme-off n t = rw q.0 (no-scheme-char c (scan (step_of true) outside (chars_at bs next)) n t)
 
-    pub absolute-on : isLetter c ≡ true → inAbsolute bs at ≡ inScheme bs next
-    absolute-on t = rw q.0 (letter c (scan (step_of true) outside (charsAt bs next)) t)
+    pub absolute-on : is_letter c ≡ true → in_absolute bs at ≡ in_scheme bs next
+    absolute-on t = rw q.0 (letter c (scan (step_of true) outside (chars_at bs next)) t)
 
-    pub absolute-off : isLetter c ≡ false → inAbsolute bs at ≡ nowhere
-    absolute-off t = rw q.0 (no-letter c (scan (step_of true) outside (charsAt bs next)) t)
+    pub absolute-off : is_letter c ≡ false → in_absolute bs at ≡ nowhere
+    absolute-off t = rw q.0 (no_letter c (scan (step_of true) outside (chars_at bs next)) t)
 
 -- ---- IRIs
 
-iri-behind : (g : Got) → behindRead (iriOf g) ≡ behindWhere isAbsolute g
-unfolding behindRead iriOf behindWhere
-iri-behind none = refl
-iri-behind (got cs rest) = by-test (isAbsolute cs) (λ q. rw q) (λ q. rw q)
+iri_behind : (g : Got) → behind_read (iri_of g) ≡ behind_where is_absolute g
+unfolding behind_read iri_of behind_where
+iri_behind none = refl
+iri_behind (got cs rest) = by_test (is_absolute cs) (λ q. rw q) (λ q. rw q)
 
 module _ (bs : List ℕ) (at : ℕ) where
-  pub iri-end : length bs ≤ at → behindRead (readIri (charsAt bs at)) ≡ nowhere
-  unfolding behindRead readIri
-  iri-end h = rw (chars-end bs at h)
+  pub iri_end : length bs ≤ at → behind_read (read_iri (chars_at bs at)) ≡ nowhere
+  unfolding behind_read read_iri
+  iri_end h = rw (chars_end bs at h)
 
   module _ (m : Mark) (M : Marks bs at m) where
-    pub iri-none : (m.code ≡ code "<" → ⊥) → behindRead (readIri (charsAt bs at)) ≡ nowhere
-    unfolding behindRead readIri
-    iri-none n = rw (chars-marked M, ne_eqb m.code (code "<") n)
+    pub iri-none : (m.code ≡ code "<" → ⊥) → behind_read (read_iri (chars_at bs at)) ≡ nowhere
+    unfolding behind_read read_iri
+    iri-none n = rw (chars_marked M, ne_eqb m.code (code "<") n)
 
-    pub iri-some : m.code ≡ code "<" → behindRead (readIri (charsAt bs at)) ≡ inAbsolute bs m.next
-    unfolding readIri step_of
-    iri-some h = rw (chars-marked M, eq-eqb m.code (code "<") h) (iri-behind (scan iriStep outside (charsAt bs m.next)))
+    pub iri-some : m.code ≡ code "<" → behind_read (read_iri (chars_at bs at)) ≡ in_absolute bs m.next
+    unfolding read_iri step_of
+    iri-some h = rw (chars_marked M, eq-eqb m.code (code "<") h) (iri_behind (scan iri_step outside (chars_at bs m.next)))

@@ -1,11 +1,11 @@
 // The terminals of N-Triples in bytes of UTF-8: where each ends.
 ghost use Rattle.std.specs.Prelude.{true, false, ◌<◌, eqb};
-ghost use Rattle.spec_ntriples.specs.computed.Terminals.{outside, stringStep, scan, skip};
-ghost use Rattle.spec_ntriples.specs.Texts.{isScheme, isAbsolute};
-ghost use Rattle.spec_ntriples.specs.computed.Lines.{readIri};
-ghost use Rattle.ntriples_bytes.specs.inside.Places.{At, Utf8From, charsAt};
+ghost use Rattle.spec_ntriples.specs.computed.Terminals.{outside, string_step, scan, skip};
+ghost use Rattle.spec_ntriples.specs.Texts.{is_scheme, is_absolute};
+ghost use Rattle.spec_ntriples.specs.computed.Lines.{read_iri};
+ghost use Rattle.ntriples_bytes.specs.inside.Places.{At, Utf8From, chars_at};
 ghost use Rattle.ntriples_pieces.specs.inside.Pieces.{step_of};
-ghost use Rattle.ntriples_terminals.specs.inside.Ends.{behindHead, behindWhere, behindGot, behindRead, IsEnd};
+ghost use Rattle.ntriples_terminals.specs.inside.Ends.{behind_head, behind_where, behind_got, behind_read, IsEnd};
 
 use ntriples_bytes::char_at;
 use ntriples_chars::{is_letter, is_scheme_char};
@@ -23,7 +23,7 @@ pub enum Found {
 // Behind the white space at an index.
 pub fn skip(line: &[u8], from: usize) -> usize
     requires { Utf8From line.now from }
-    ensures { At line.now result (skip (charsAt line.now from)) }
+    ensures { At line.now result (skip (chars_at line.now from)) }
 {
     let mut at = from;
     while at < line.len() {
@@ -41,7 +41,7 @@ pub fn skip(line: &[u8], from: usize) -> usize
 // Behind a mark, where it stands at an index.
 pub fn mark_end(line: &[u8], at: usize, mark: u32) -> Found
     requires { Utf8From line.now at }
-    ensures { IsEnd line.now (behindHead (λ c. eqb c mark) (charsAt line.now at)) result }
+    ensures { IsEnd line.now (behind_head (λ c. eqb c mark) (chars_at line.now at)) result }
 {
     if line.len() <= at {
         return Found::Nothing;
@@ -58,7 +58,7 @@ pub fn mark_end(line: &[u8], at: usize, mark: u32) -> Found
 // Behind the mark that closes an IRI, or a string.
 fn closing_end(line: &[u8], iri: bool, from: usize) -> Found
     requires { Utf8From line.now from }
-    ensures { IsEnd line.now (behindGot (scan (step_of iri) outside (charsAt line.now from))) result }
+    ensures { IsEnd line.now (behind_got (scan (step_of iri) outside (chars_at line.now from))) result }
 {
     let mut at = from;
     while at < line.len() {
@@ -84,7 +84,7 @@ fn closing_end(line: &[u8], iri: bool, from: usize) -> Found
 // Where a string ends, from behind its first quote.
 pub fn string_end(line: &[u8], from: usize) -> Found
     requires { Utf8From line.now from }
-    ensures { IsEnd line.now (behindGot (scan stringStep outside (charsAt line.now from))) result }
+    ensures { IsEnd line.now (behind_got (scan string_step outside (chars_at line.now from))) result }
 {
     closing_end(line, false, from)
 }
@@ -92,7 +92,7 @@ pub fn string_end(line: &[u8], from: usize) -> Found
 // Where an IRI ends, from behind the first character of its scheme.
 fn scheme_end(line: &[u8], from: usize) -> Found
     requires { Utf8From line.now from }
-    ensures { IsEnd line.now (behindWhere isScheme (scan (step_of true) outside (charsAt line.now from))) result }
+    ensures { IsEnd line.now (behind_where is_scheme (scan (step_of true) outside (chars_at line.now from))) result }
 {
     let mut at = from;
     while at < line.len() {
@@ -120,7 +120,7 @@ fn scheme_end(line: &[u8], from: usize) -> Found
 // Where an absolute IRI ends, from behind its first mark.
 fn absolute_end(line: &[u8], from: usize) -> Found
     requires { Utf8From line.now from }
-    ensures { IsEnd line.now (behindWhere isAbsolute (scan (step_of true) outside (charsAt line.now from))) result }
+    ensures { IsEnd line.now (behind_where is_absolute (scan (step_of true) outside (chars_at line.now from))) result }
 {
     if line.len() <= from {
         return Found::Nothing;
@@ -141,7 +141,7 @@ fn absolute_end(line: &[u8], from: usize) -> Found
 // Where an IRI ends.
 pub fn iri_end(line: &[u8], from: usize) -> Found
     requires { Utf8From line.now from }
-    ensures { IsEnd line.now (behindRead (readIri (charsAt line.now from))) result }
+    ensures { IsEnd line.now (behind_read (read_iri (chars_at line.now from))) result }
 {
     if line.len() <= from {
         return Found::Nothing;

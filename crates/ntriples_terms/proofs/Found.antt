@@ -10,23 +10,23 @@ use Rattle.spec.specs.declared.Triple.{Triple}
 use Rattle.spec.specs.Terms.{triple}
 use Rattle.spec.proofs.Ascending.{and_left, and_right}
 use Rattle.spec_ntriples.specs.Texts.{TextTriple}
-use Rattle.spec_ntriples.specs.Dictionary.{Entry, termIn}
-use Rattle.ntriples_words.specs.inside.Named.{isNamed}
-use Rattle.ntriples_terms.specs.inside.Words.{foundWord, foundRow}
+use Rattle.spec_ntriples.specs.Dictionary.{Entry, term_in}
+use Rattle.ntriples_words.specs.inside.Named.{is_named}
+use Rattle.ntriples_terms.specs.inside.Words.{found_word, found_row}
 
 module _ (es : List Entry) (t : List ℕ) (w : ℕ) where
-  pub found-kept : (w ≡ 0 → ⊥) → w ≡ foundWord es t w
-  unfolding foundWord
-  found-kept h = rw (ne_eqb w 0 h)
+  pub found_kept : (w ≡ 0 → ⊥) → w ≡ found_word es t w
+  unfolding found_word
+  found_kept h = rw (ne_eqb w 0 h)
 
-  pub found-new : (r : ℕ) → w ≡ 0 → r ≡ termIn es t → r ≡ foundWord es t w
-  unfolding foundWord
-  found-new r h e = rw (eq-eqb w 0 h) e
+  pub found_new : (r : ℕ) → w ≡ 0 → r ≡ term_in es t → r ≡ found_word es t w
+  unfolding found_word
+  found_new r h e = rw (eq-eqb w 0 h) e
 
 pub found-row
-    : (es : List Entry) (t : TextTriple) (row : Triple) (s p o : ℕ) → s ≡ foundWord es t.subject.bytes row.subject → p ≡ foundWord es t.property.bytes row.property → o ≡ foundWord es t.object.bytes row.object
-    → triple s p o ≡ foundRow es t row
-unfolding foundRow
+    : (es : List Entry) (t : TextTriple) (row : Triple) (s p o : ℕ) → s ≡ found_word es t.subject.bytes row.subject → p ≡ found_word es t.property.bytes row.property → o ≡ found_word es t.object.bytes row.object
+    → triple s p o ≡ found_row es t row
+unfolding found_row
 found-row es t row s p o a b c = rw (a, b, c)
 
 -- The words of a row of which none is 0.
@@ -35,8 +35,8 @@ pub record Named (row : Triple) : Type 0 where
   pub property : 0 < row.property
   pub object : 0 < row.object
 
-pub named-words : (row : Triple) → isNamed row ≡ true → Named row
-unfolding isNamed
+pub named-words : (row : Triple) → is_named row ≡ true → Named row
+unfolding is_named
 named-words row h =
     let a = ltb 0 row.subject in
     let b = ltb 0 row.property in
@@ -49,10 +49,10 @@ named-words row h =
     }
 
 -- Such a row stays.
-pub row_kept : (es : List Entry) (t : TextTriple) (row : Triple) → isNamed row ≡ true → row ≡ foundRow es t row
+pub row_kept : (es : List Entry) (t : TextTriple) (row : Triple) → is_named row ≡ true → row ≡ found_row es t row
 row_kept es t row h =
     let N = named-words row h in
     found-row es t row row.subject row.property row.object
-    (found-kept es t.subject.bytes row.subject (λ e. omega (arith, N.subject, e)))
-    (found-kept es t.property.bytes row.property (λ e. omega (arith, N.property, e)))
-    (found-kept es t.object.bytes row.object (λ e. omega (arith, N.object, e)))
+    (found_kept es t.subject.bytes row.subject (λ e. omega (arith, N.subject, e)))
+    (found_kept es t.property.bytes row.property (λ e. omega (arith, N.property, e)))
+    (found_kept es t.object.bytes row.object (λ e. omega (arith, N.object, e)))

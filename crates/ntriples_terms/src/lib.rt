@@ -1,13 +1,13 @@
 // The terms of the lines of a batch: those of the vocabulary, and those found in a segment of a dictionary.
 ghost use Rattle.std.specs.Prelude.{◌≡◌, List};
 ghost use Rattle.spec_ntriples.specs.Texts.{Text, TextTriple};
-ghost use Rattle.spec_ntriples.specs.Dictionary.{Entry, vocabularyOf};
+ghost use Rattle.spec_ntriples.specs.Dictionary.{Entry, vocabulary_of};
 ghost use Rattle.ntriples_bytes.specs.inside.Places.{HasText};
 ghost use Rattle.ntriples_text.specs.inside.Tokens.{IsToken};
 ghost use Rattle.ntriples_batch.specs.inside.Batches.{LineAt, HaveTexts};
 ghost use Rattle.dictionary_index.specs.inside.Index.{LeadWithin};
 ghost use Rattle.dictionary_search.specs.inside.IndexOf.{IndexOf};
-ghost use Rattle.ntriples_terms.specs.inside.Words.{tripleBy, foundWord, foundRow, IsTripleAt, AreTokens, LinesAt, CanBeNamed, RowsBy};
+ghost use Rattle.ntriples_terms.specs.inside.Words.{triple_by, found_word, found_row, IsTripleAt, AreTokens, LinesAt, CanBeNamed, RowsBy};
 
 use dictionary_search::find_term;
 use ntriples_batch::tokens_at;
@@ -21,7 +21,7 @@ use table::row_from;
 // The vocabulary's terms for the texts of a line, 0 for each that is none.
 fn vocabulary_in(line: &[u8], k: Tokens) -> Triple
     requires { AreTokens line.now k }
-    ensures { (t : TextTriple) → HaveTexts line.now k t → result ≡ tripleBy vocabularyOf t }
+    ensures { (t : TextTriple) → HaveTexts line.now k t → result ≡ triple_by vocabulary_of t }
 {
     Triple {
         subject: vocabulary_of(line, k.subject.from, k.subject.end),
@@ -33,7 +33,7 @@ fn vocabulary_in(line: &[u8], k: Tokens) -> Triple
 // The same for the line that begins at an index.
 fn vocabulary_at(file: &[u8], begin: usize) -> Triple
     requires { IsTripleAt file.now begin }
-    ensures { (t : TextTriple) → LineAt file.now begin t → result ≡ tripleBy vocabularyOf t }
+    ensures { (t : TextTriple) → LineAt file.now begin t → result ≡ triple_by vocabulary_of t }
 {
     let end = line_end(file, begin);
     let k = tokens_at(file, begin, end);
@@ -43,7 +43,7 @@ fn vocabulary_at(file: &[u8], begin: usize) -> Triple
 // Writes the vocabulary's terms for the first n lines of a batch, 0 for each text that is none.
 pub fn name_vocabulary(file: &[u8], lines: &[usize], n: usize, terms: &mut [u32])
     requires { CanBeNamed file.now lines.now n terms.old }
-    ensures { (ts : List TextTriple) → LinesAt file.now lines.now n ts → RowsBy (λ t r. tripleBy vocabularyOf t) ts n terms.old terms.new }
+    ensures { (ts : List TextTriple) → LinesAt file.now lines.now n ts → RowsBy (λ t r. triple_by vocabulary_of t) ts n terms.old terms.new }
 {
     let mut i = 0;
     while i < n {
@@ -64,7 +64,7 @@ fn find_word(
 ) -> u32
     requires lead_within { LeadWithin slots.now dictionary.now first }
     requires token { IsToken line.now at.from at.end }
-    ensures { (es : List Entry) (t : Text) → IndexOf slots.now dictionary.now first es → HasText line.now at.from at.end t → result ≡ foundWord es t.bytes word }
+    ensures { (es : List Entry) (t : Text) → IndexOf slots.now dictionary.now first es → HasText line.now at.from at.end t → result ≡ found_word es t.bytes word }
 {
     if 0 < word {
         return word;
@@ -83,7 +83,7 @@ fn find_in(
 ) -> Triple
     requires lead_within { LeadWithin slots.now dictionary.now first }
     requires are_tokens { AreTokens line.now k }
-    ensures { (es : List Entry) (t : TextTriple) → IndexOf slots.now dictionary.now first es → HaveTexts line.now k t → result ≡ foundRow es t row }
+    ensures { (es : List Entry) (t : TextTriple) → IndexOf slots.now dictionary.now first es → HaveTexts line.now k t → result ≡ found_row es t row }
 {
     let subject = k.subject;
     let property = k.property;
@@ -106,7 +106,7 @@ fn find_at(
 ) -> Triple
     requires lead_within { LeadWithin slots.now dictionary.now first }
     requires triple_at { IsTripleAt file.now begin }
-    ensures { (es : List Entry) (t : TextTriple) → IndexOf slots.now dictionary.now first es → LineAt file.now begin t → result ≡ foundRow es t row }
+    ensures { (es : List Entry) (t : TextTriple) → IndexOf slots.now dictionary.now first es → LineAt file.now begin t → result ≡ found_row es t row }
 {
     if is_named(row) {
         return row;
@@ -128,7 +128,7 @@ pub fn find_terms(
 )
     requires lead_within { LeadWithin slots.now dictionary.now first }
     requires can_be_named { CanBeNamed file.now lines.now n terms.old }
-    ensures { (es : List Entry) (ts : List TextTriple) → IndexOf slots.now dictionary.now first es → LinesAt file.now lines.now n ts → RowsBy (foundRow es) ts n terms.old terms.new }
+    ensures { (es : List Entry) (ts : List TextTriple) → IndexOf slots.now dictionary.now first es → LinesAt file.now lines.now n ts → RowsBy (found_row es) ts n terms.old terms.new }
 {
     let mut i = 0;
     while i < n {

@@ -2,7 +2,7 @@
 ghost use Rattle.std.specs.Prelude.{◌≡◌, ◌+◌, ◌≤◌, ◌<◌, length, take};
 ghost use Rattle.spec_ntriples.specs.Texts.{Text};
 ghost use Rattle.ntriples_bytes.specs.inside.Places.{HasText};
-ghost use Rattle.dictionary_hash.specs.inside.Hashes.{hashFrom, hash};
+ghost use Rattle.dictionary_hash.specs.inside.Hashes.{hash_from, hash};
 ghost use Rattle.ntriples_text.specs.inside.Tokens.{IsToken};
 
 use dictionary_hash::{hash_from, hash_on};
@@ -44,7 +44,7 @@ pub fn text_length(line: &[u8], from: usize, end: usize) -> usize
 fn hash_piece(h: u64, p: Piece) -> u64
     requires h_bound { h < 4294967296 }
     requires len_bound { (p.len ≤ 4) × (4 ≤ length p.bytes) }
-    ensures value { result ≡ hashFrom h (take p.len p.bytes) }
+    ensures value { result ≡ hash_from h (take p.len p.bytes) }
     ensures upper_bound { result < 4294967296 }
 {
     let bytes = p.bytes;

@@ -1,7 +1,7 @@
 // The kind of a term that stands in a line, and the vocabulary URI that it is.
 ghost use Rattle.std.specs.Prelude.{◌≡◌};
 ghost use Rattle.spec_ntriples.specs.Texts.{Text};
-ghost use Rattle.spec_ntriples.specs.Dictionary.{vocabularyOf};
+ghost use Rattle.spec_ntriples.specs.Dictionary.{vocabulary_of};
 ghost use Rattle.ntriples_bytes.specs.inside.Places.{HasText};
 ghost use Rattle.ntriples_text.specs.inside.Tokens.{IsToken};
 
@@ -30,7 +30,7 @@ pub fn kind_of(line: &[u8], from: usize, end: usize) -> u32
 // The vocabulary URI that a term is, from 1 to 5, and 0 where it is none.
 pub fn vocabulary_of(line: &[u8], from: usize, end: usize) -> u32
     requires { IsToken line.now from end }
-    ensures { (t : Text) → HasText line.now from end t → result ≡ vocabularyOf t.bytes }
+    ensures { (t : Text) → HasText line.now from end t → result ≡ vocabulary_of t.bytes }
 {
     let rdf_type = b"<http://www.w3.org/1999/02/22-rdf-syntax-ns#type>";
     if is_text(line, from, end, rdf_type, 0, rdf_type.len()) {

@@ -1,6 +1,6 @@
 // Whether the canonical text of a term that stands in a line is a text.
 ghost use Rattle.std.specs.Prelude.{◌≡◌, true, ◌&&◌, List, ◌∷◌, ℕ, ◌+◌, ◌-◌, ◌≤◌, length, take, drop};
-ghost use Rattle.spec_ntriples.specs.Texts.{Text, isSameText};
+ghost use Rattle.spec_ntriples.specs.Texts.{Text, is_same_text};
 ghost use Rattle.ntriples_bytes.specs.inside.Places.{HasText};
 ghost use Rattle.ntriples_text.specs.inside.Tokens.{IsToken};
 
@@ -12,7 +12,7 @@ use ntriples_own::is_own;
 fn is_byte(b: u8, text: &[u8], at: usize, left: usize) -> bool
     requires { at + left ≤ length text.now }
     ensures fits { result ≡ true → 1 ≤ left }
-    ensures first { (later : List ℕ) → isSameText (b ∷ later) (take left (drop at text.now)) ≡ (result && isSameText later (take (left - 1) (drop (at + 1) text.now))) }
+    ensures first { (later : List ℕ) → is_same_text (b ∷ later) (take left (drop at text.now)) ≡ (result && is_same_text later (take (left - 1) (drop (at + 1) text.now))) }
 {
     if left == 0 {
         return false;
@@ -24,7 +24,7 @@ fn is_byte(b: u8, text: &[u8], at: usize, left: usize) -> bool
 pub fn is_text(line: &[u8], from: usize, end: usize, text: &[u8], at: usize, n: usize) -> bool
     requires token { IsToken line.now from end }
     requires n_in_bounds { at + n ≤ length text.now }
-    ensures { (t : Text) → HasText line.now from end t → result ≡ isSameText t.bytes (take n (drop at text.now)) }
+    ensures { (t : Text) → HasText line.now from end t → result ≡ is_same_text t.bytes (take n (drop at text.now)) }
 {
     let mut c = Cursor {
         place: from,

@@ -1,7 +1,7 @@
 // The three words of a triple: written as a row, and whether each is there.
 ghost use Rattle.std.specs.Prelude.{◌≡◌, [], ◌∷◌, ◌+◌, ◌*◌, ◌≤◌, length};
 ghost use Rattle.std.proofs.lemmas.List.Edits.{sets};
-ghost use Rattle.ntriples_words.specs.inside.Named.{isNamed};
+ghost use Rattle.ntriples_words.specs.inside.Named.{is_named};
 
 use spec::Triple;
 
@@ -18,7 +18,7 @@ pub fn put_row(terms: &mut [u32], i: usize, t: Triple)
 
 // Whether no word of a row is 0.
 pub fn is_named(row: Triple) -> bool
-    ensures { result ≡ isNamed row }
+    ensures { result ≡ is_named row }
 {
     (0 < row.subject) & ((0 < row.property) & (0 < row.object))
 }

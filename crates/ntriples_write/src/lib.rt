@@ -2,8 +2,8 @@
 ghost use Rattle.std.specs.Prelude.{◌≡◌, true, length, replicate};
 ghost use Rattle.spec.specs.inside.Laid.{Laid};
 ghost use Rattle.spec_ntriples.specs.declared.ByteReply.TheVariants.{Refused};
-ghost use Rattle.spec_ntriples.specs.Dictionary.{entries, isDictionary};
-ghost use Rattle.spec_writing.specs.Writing.{written, writeRows, writeStatements, writeFacts, writeKept};
+ghost use Rattle.spec_ntriples.specs.Dictionary.{entries, is_dictionary};
+ghost use Rattle.spec_writing.specs.Writing.{written, write_rows, write_statements, write_facts, write_kept};
 ghost use Rattle.dictionary_bytes.specs.inside.Entries.{FilledBy};
 
 use dictionary_bytes::Filled;
@@ -28,8 +28,8 @@ fn refuse(number: u32, out: &mut [u8]) -> ByteReply
 // Writes the rows of a well-formed table with a well-formed dictionary, which is filled so far: question 16, then question 8 with the lines.
 fn write_lines(table: &[u32], dictionary: &[u8], f: Filled, out: &mut [u8]) -> ByteReply
     requires laid { Laid table.now }
-    requires dictionary_value { (isDictionary dictionary.now ≡ true) × FilledBy dictionary.now f (entries dictionary.now) }
-    ensures { written result out.new ≡ writeRows true table.now dictionary.now (length out.old) }
+    requires dictionary_value { (is_dictionary dictionary.now ≡ true) × FilledBy dictionary.now f (entries dictionary.now) }
+    ensures { written result out.new ≡ write_rows true table.now dictionary.now (length out.old) }
 {
     if !have_texts(table, f) {
         return refuse(16, out);
@@ -42,7 +42,7 @@ fn write_lines(table: &[u32], dictionary: &[u8], f: Filled, out: &mut [u8]) -> B
 // Writes the rows of a table that is well formed or not: questions 1, 16 and 8, in this order, and the lines. Refused, the output is zero.
 fn write_table(formed: bool, table: &[u32], dictionary: &[u8], out: &mut [u8]) -> ByteReply
     requires { formed ≡ true → Laid table.now }
-    ensures { written result out.new ≡ writeRows formed table.now dictionary.now (length out.old) }
+    ensures { written result out.new ≡ write_rows formed table.now dictionary.now (length out.old) }
 {
     if !formed {
         return refuse(1, out);
@@ -55,21 +55,21 @@ fn write_table(formed: bool, table: &[u32], dictionary: &[u8], out: &mut [u8]) -
 
 // Writes the statements.
 pub fn write_statements(table: &[u32], dictionary: &[u8], out: &mut [u8]) -> ByteReply
-    ensures { written result out.new ≡ writeStatements table.now dictionary.now (length out.old) }
+    ensures { written result out.new ≡ write_statements table.now dictionary.now (length out.old) }
 {
     write_table(is_statement_table(table), table, dictionary, out)
 }
 
 // Writes the facts.
 pub fn write_facts(table: &[u32], dictionary: &[u8], out: &mut [u8]) -> ByteReply
-    ensures { written result out.new ≡ writeFacts table.now dictionary.now (length out.old) }
+    ensures { written result out.new ≡ write_facts table.now dictionary.now (length out.old) }
 {
     write_table(is_fact_table(table), table, dictionary, out)
 }
 
 // Writes the kept facts, without their supports.
 pub fn write_kept(table: &[u32], dictionary: &[u8], out: &mut [u8]) -> ByteReply
-    ensures { written result out.new ≡ writeKept table.now dictionary.now (length out.old) }
+    ensures { written result out.new ≡ write_kept table.now dictionary.now (length out.old) }
 {
     write_table(is_kept_table(table), table, dictionary, out)
 }

@@ -7,12 +7,12 @@ use lib.ListN.{length, take, drop, replicate, length-replicate, replicate-append
 use lib.Seq.{sets, sets-eq, take_at, drop_at}
 
 -- Zeros of a length that stayed.
-pub zeros-kept : (m d : List ℕ) → m ≡ replicate (length d) 0 → length m ≡ length d → m ≡ replicate (length m) 0
-zeros-kept m d e l = e ∙ ap (λ (n : ℕ). replicate n 0) (sym l)
+pub zeros_kept : (m d : List ℕ) → m ≡ replicate (length d) 0 → length m ≡ length d → m ≡ replicate (length m) 0
+zeros_kept m d e l = e ∙ ap (λ (n : ℕ). replicate n 0) (sym l)
 
 -- Bytes stored among zeros.
-pub sets-zeros : (a b : ℕ) (vs : List ℕ) → sets (replicate (a + (length vs + b)) 0) a vs ≡ replicate a 0 ++ (vs ++ replicate b 0)
-sets-zeros a b vs =
+pub sets_zeros : (a b : ℕ) (vs : List ℕ) → sets (replicate (a + (length vs + b)) 0) a vs ≡ replicate a 0 ++ (vs ++ replicate b 0)
+sets_zeros a b vs =
     let z : List ℕ = replicate (a + (length vs + b)) 0 in
     let n : length z ≡ a + (length vs + b) = length-replicate {A = ℕ} (a + (length vs + b)) 0 in
     let s : z ≡ replicate a 0 ++ replicate (length vs + b) 0 = sym (replicate-append-replicate {A = ℕ} a (length vs + b) 0) in

@@ -4,21 +4,21 @@ use mathlib.Core.Path.{◌≡◌, refl}
 use mathlib.Core.List.{[], ◌∷◌}
 use native.Mathlib.Omega.{arith}
 use lib.ListN.{replicate}
-use Rattle.spec.specs.Terms.{isUri, isBlank, isLiteral, isVocabulary, isTriple, isStatement, areSidesAllowed, isAllowedStatement, isAllowedFact}
+use Rattle.spec.specs.Terms.{is_uri, is_blank, is_literal, is_vocabulary, is_triple, is_statement, are_sides_allowed, is_allowed_statement, is_allowed_fact}
 use Rattle.spec.specs.Lists.{all}
 use Rattle.spec.specs.Rows.{less}
-use Rattle.spec.specs.Order.{isAscending}
-use Rattle.spec.specs.Refusals.{firstRefusal}
-use Rattle.spec.specs.Tables.{capacity, count, firstRows, rows, flatten, layout, areZero, isTable, isSupportTable, Tables, tables}
-use Rattle.spec.proofs.Lists.{by-test}
+use Rattle.spec.specs.Order.{is_ascending}
+use Rattle.spec.specs.Refusals.{first_refusal}
+use Rattle.spec.specs.Tables.{capacity, count, first_rows, rows, flatten, layout, are_zero, is_table, is_support_table, Tables, tables}
+use Rattle.spec.proofs.Lists.{by_test}
 use Rattle.old_store.specs.declared.Lengths.{Lengths}
-use Rattle.old_store.specs.CarryingOver.{isOldStore, lengths, carriedTables, zeroTables, carried, carryOver}
+use Rattle.old_store.specs.CarryingOver.{is_old_store, lengths, carried_tables, zero_tables, carried, carry_over}
 use Rattle.old_store.specs.CarryingPromises.{CarryingRefusedBy}
-use Rattle.old_store.proofs.Carrying.{old-counts, carrying-refused}
+use Rattle.old_store.proofs.Carrying.{old_counts, carrying_refused}
 
 -- Where `worked` unfolds, carrying over computes on closed terms.
 unfoldable worked : Unit {0}
-unfolding isUri isBlank isLiteral isVocabulary isTriple isStatement areSidesAllowed isAllowedStatement isAllowedFact all less isAscending firstRefusal capacity firstRows rows flatten layout areZero isTable isSupportTable isOldStore carriedTables zeroTables carryOver
+unfolding is_uri is_blank is_literal is_vocabulary is_triple is_statement are_sides_allowed is_allowed_statement is_allowed_fact all less is_ascending first_refusal capacity first_rows rows flatten layout are_zero is_table is_support_table is_old_store carried_tables zero_tables carry_over
 worked = tt
 
 -- ---- an empty store
@@ -28,19 +28,19 @@ abbrev empty : Tables
 empty = tables (0 ∷ []) (0 ∷ []) (0 ∷ []) []
 
 -- A new table of statements with no word has no space for its count: 4, and every word is zero.
-pub no-word-refused : carryOver empty (lengths 0 2 3 1) ≡ carried 4 (tables [] (0 ∷ 0 ∷ []) (0 ∷ 0 ∷ 0 ∷ []) (0 ∷ []))
+pub no_word_refused : carry_over empty (lengths 0 2 3 1) ≡ carried 4 (tables [] (0 ∷ 0 ∷ []) (0 ∷ 0 ∷ 0 ∷ []) (0 ∷ []))
 unfolding worked
-no-word-refused = refl
+no_word_refused = refl
 
 -- New kept facts with no word: 5.
-pub no-kept-word-refused : carryOver empty (lengths 1 2 0 1) ≡ carried 5 (tables (0 ∷ []) (0 ∷ 0 ∷ []) [] (0 ∷ []))
+pub no_kept-word_refused : carry_over empty (lengths 1 2 0 1) ≡ carried 5 (tables (0 ∷ []) (0 ∷ 0 ∷ []) [] (0 ∷ []))
 unfolding worked
-no-kept-word-refused = refl
+no_kept-word_refused = refl
 
 -- One word each is enough.
-pub one-word-enough : carryOver empty (lengths 1 1 1 0) ≡ carried 0 empty
+pub one_word_enough : carry_over empty (lengths 1 1 1 0) ≡ carried 0 empty
 unfolding worked
-one-word-enough = refl
+one_word_enough = refl
 
 -- ---- a store with rows
 
@@ -50,60 +50,60 @@ drinks = tables (1 ∷ 16 ∷ 2 ∷ 17 ∷ []) (2 ∷ 32 ∷ 19 ∷ 33 ∷ 40 �
 
 -- Into longer and shorter tables: the rows and supports, and zeros behind them.
 pub drinks-carried
-    : carryOver drinks (lengths 6 7 7 2)
+    : carry_over drinks (lengths 6 7 7 2)
     ≡ carried 0 (tables (1 ∷ 16 ∷ 2 ∷ 17 ∷ 0 ∷ 0 ∷ []) (2 ∷ 32 ∷ 19 ∷ 33 ∷ 40 ∷ 19 ∷ 41 ∷ []) (2 ∷ 32 ∷ 19 ∷ 33 ∷ 40 ∷ 19 ∷ 41 ∷ []) (2 ∷ 1 ∷ []))
 unfolding worked
 drinks-carried = refl
 
 pub drinks-longer
-    : carryOver drinks (lengths 4 7 8 4)
+    : carry_over drinks (lengths 4 7 8 4)
     ≡ carried 0 (tables (1 ∷ 16 ∷ 2 ∷ 17 ∷ []) (2 ∷ 32 ∷ 19 ∷ 33 ∷ 40 ∷ 19 ∷ 41 ∷ []) (2 ∷ 32 ∷ 19 ∷ 33 ∷ 40 ∷ 19 ∷ 41 ∷ 0 ∷ []) (2 ∷ 1 ∷ 0 ∷ 0 ∷ []))
 unfolding worked
 drinks-longer = refl
 
 -- Statements one word short: 4. Facts and kept facts one word short: 4.
-pub statements-short : carryOver drinks (lengths 3 7 7 2) ≡ carried 4 (tables (replicate 3 0) (replicate 7 0) (replicate 7 0) (replicate 2 0))
+pub statements-short : carry_over drinks (lengths 3 7 7 2) ≡ carried 4 (tables (replicate 3 0) (replicate 7 0) (replicate 7 0) (replicate 2 0))
 unfolding worked
 statements-short = refl
 
-pub facts-and-kept-short : carryOver drinks (lengths 4 6 6 2) ≡ carried 4 (tables (replicate 4 0) (replicate 6 0) (replicate 6 0) (replicate 2 0))
+pub facts_and_kept-short : carry_over drinks (lengths 4 6 6 2) ≡ carried 4 (tables (replicate 4 0) (replicate 6 0) (replicate 6 0) (replicate 2 0))
 unfolding worked
-facts-and-kept-short = refl
+facts_and_kept-short = refl
 
 -- Only kept facts one word short, or only supports one place short: 5, and statements and facts are zero, too.
-pub kept-short : carryOver drinks (lengths 4 7 6 2) ≡ carried 5 (tables (replicate 4 0) (replicate 7 0) (replicate 6 0) (replicate 2 0))
+pub kept-short : carry_over drinks (lengths 4 7 6 2) ≡ carried 5 (tables (replicate 4 0) (replicate 7 0) (replicate 6 0) (replicate 2 0))
 unfolding worked
 kept-short = refl
 
-pub supports-short : carryOver drinks (lengths 4 7 7 1) ≡ carried 5 (tables (replicate 4 0) (replicate 7 0) (replicate 7 0) (replicate 1 0))
+pub supports-short : carry_over drinks (lengths 4 7 7 1) ≡ carried 5 (tables (replicate 4 0) (replicate 7 0) (replicate 7 0) (replicate 1 0))
 unfolding worked
 supports-short = refl
 
 -- A support of 0 under a row, and new tables too small: 1.
 pub no-support-first
-    : carryOver (tables (0 ∷ []) (1 ∷ 32 ∷ 19 ∷ 33 ∷ []) (1 ∷ 32 ∷ 19 ∷ 33 ∷ []) (0 ∷ [])) (lengths 0 1 0 0) ≡ carried 1 (tables [] (0 ∷ []) [] [])
+    : carry_over (tables (0 ∷ []) (1 ∷ 32 ∷ 19 ∷ 33 ∷ []) (1 ∷ 32 ∷ 19 ∷ 33 ∷ []) (0 ∷ [])) (lengths 0 1 0 0) ≡ carried 1 (tables [] (0 ∷ []) [] [])
 unfolding worked
 no-support-first = refl
 
 -- ---- the old limits
 
 -- More than 65,535 facts, as 65,536 whose rows are right, are refused by 1, whatever the new tables are.
-pub more-facts : (T : Tables) (L : Lengths) → 65535 < count T.facts → (carryOver T L).0 ≡ 1
-more-facts T L h =
-    by-test (isOldStore T)
-    (λ e. absurd (omega (arith, (old-counts T e).1)))
-    (λ e. ((carrying-refused T L 1).1 (CarryingRefusedBy.no_store refl e)).1)
+pub more_facts : (T : Tables) (L : Lengths) → 65535 < count T.facts → (carry_over T L).0 ≡ 1
+more_facts T L h =
+    by_test (is_old_store T)
+    (λ e. absurd (omega (arith, (old_counts T e).1)))
+    (λ e. ((carrying_refused T L 1).1 (CarryingRefusedBy.no_store refl e)).1)
 
 -- So are more than 262,143 kept facts,
-pub more-kept : (T : Tables) (L : Lengths) → 262143 < count T.kept → (carryOver T L).0 ≡ 1
-more-kept T L h =
-    by-test (isOldStore T)
-    (λ e. absurd (omega (arith, (old-counts T e).2)))
-    (λ e. ((carrying-refused T L 1).1 (CarryingRefusedBy.no_store refl e)).1)
+pub more_kept : (T : Tables) (L : Lengths) → 262143 < count T.kept → (carry_over T L).0 ≡ 1
+more_kept T L h =
+    by_test (is_old_store T)
+    (λ e. absurd (omega (arith, (old_counts T e).2)))
+    (λ e. ((carrying_refused T L 1).1 (CarryingRefusedBy.no_store refl e)).1)
 
 -- and more than 512 statements.
-pub more-statements : (T : Tables) (L : Lengths) → 512 < count T.statements → (carryOver T L).0 ≡ 1
-more-statements T L h =
-    by-test (isOldStore T)
-    (λ e. absurd (omega (arith, (old-counts T e).0)))
-    (λ e. ((carrying-refused T L 1).1 (CarryingRefusedBy.no_store refl e)).1)
+pub more_statements : (T : Tables) (L : Lengths) → 512 < count T.statements → (carry_over T L).0 ≡ 1
+more_statements T L h =
+    by_test (is_old_store T)
+    (λ e. absurd (omega (arith, (old_counts T e).0)))
+    (λ e. ((carrying_refused T L 1).1 (CarryingRefusedBy.no_store refl e)).1)

@@ -1,9 +1,9 @@
 // What a store of document 01's form is, with its limits and with supports of 16 bits, and what is asked before it is carried over into lent tables
 // of the new form (document 02, slip 5).
 ghost use Rattle.std.specs.Prelude.{◌≡◌};
-ghost use Rattle.spec.specs.Refusals.{firstRefusal};
+ghost use Rattle.spec.specs.Refusals.{first_refusal};
 ghost use Rattle.spec.specs.Tables.{tables};
-ghost use Rattle.old_store.specs.CarryingOver.{isOldStore, hasRoom, carryingChecks};
+ghost use Rattle.old_store.specs.CarryingOver.{is_old_store, has_room, carrying_checks};
 
 use table::MOST_STATEMENTS;
 use table_check::is_table;
@@ -26,7 +26,7 @@ pub struct Lengths {
 
 // Question 1: whether four tables are well formed together as a store of the old form.
 pub fn is_old_store(statements: &[u32], facts: &[u32], kept: &[u32], supports: &[u16]) -> bool
-    ensures { result ≡ isOldStore (tables statements.now facts.now kept.now supports.now) }
+    ensures { result ≡ is_old_store (tables statements.now facts.now kept.now supports.now) }
 {
     if !is_table(statements, true, MOST_STATEMENTS) {
         return false;
@@ -42,7 +42,7 @@ pub fn is_old_store(statements: &[u32], facts: &[u32], kept: &[u32], supports: &
 
 // Whether n rows and their count have room in so many words.
 fn has_room(n: u32, words: usize) -> bool
-    ensures { result ≡ hasRoom n words }
+    ensures { result ≡ has_room n words }
 {
     n as usize * 3 + 1 <= words
 }
@@ -55,7 +55,7 @@ pub fn refusal(
     supports: &[u16],
     new: Lengths,
 ) -> u32
-    ensures { result ≡ firstRefusal (carryingChecks (tables statements.now facts.now kept.now supports.now) new) }
+    ensures { result ≡ first_refusal (carrying_checks (tables statements.now facts.now kept.now supports.now) new) }
 {
     if !is_old_store(statements, facts, kept, supports) {
         return 1;

@@ -12,11 +12,11 @@ use Rattle.rows.specs.inside.Rows.{rows}
 use Rattle.spec.specs.Rows.{flat}
 use Rattle.rows_zero.specs.inside.Effects.{WordsZeroed}
 use Rattle.rows.proofs.HeldWords.{flat_rows}
-use Rattle.spec.specs.Outputs.{areFitting, filled}
+use Rattle.spec.specs.Outputs.{are_fitting, filled}
 
 -- Words that are set to zero up to their end.
-pub all-zero : (i : ℕ) (t s : List ℕ) → WordsZeroed 0 i t s → length s ≡ length t → length s ≤ i → s ≡ replicate (length t) 0
-all-zero i t s z l h =
+pub all_zero : (i : ℕ) (t s : List ℕ) → WordsZeroed 0 i t s → length s ≡ length t → length s ≤ i → s ≡ replicate (length t) 0
+all_zero i t s z l h =
     ext_get_or 0 s (replicate (length t) 0) (l ∙ sym (length-replicate {A = ℕ} (length t) 0))
     (λ w g. z.zeros w (omega arith) (omega arith) ∙ sym (get_or-replicate {A = ℕ} (length t) w 0 0 (omega arith)))
 
@@ -25,16 +25,16 @@ pub cleared : (ws : List ℕ) (n : ℕ) → ws ≡ replicate n 0 → ws ≡ repl
 cleared ws n e = e ∙ ap (λ (k : ℕ). replicate {A = ℕ} k 0) (sym (ap length e ∙ length-replicate {A = ℕ} n 0))
 
 -- Each of some zero words is zero, and so is what is read behind them.
-pub getD-zeros : (n w : ℕ) → get_or (replicate {A = ℕ} n 0) w 0 ≡ 0
-getD-zeros zero w = refl
-getD-zeros (suc n) zero = refl
-getD-zeros (suc n) (suc w) = getD-zeros n w
+pub get_or_zeros : (n w : ℕ) → get_or (replicate {A = ℕ} n 0) w 0 ≡ 0
+get_or_zeros zero w = refl
+get_or_zeros (suc n) zero = refl
+get_or_zeros (suc n) (suc w) = get_or_zeros n w
 
 -- Zero words without some of them.
-pub drop-zeros : (k n : ℕ) → drop k (replicate {A = ℕ} n 0) ≡ replicate (n - k) 0
-drop-zeros zero n = simp unary_clauses
-drop-zeros (suc k) zero = let z : 0 - suc k ≡ 0 = omega arith in rw z
-drop-zeros (suc k) (suc n) = simp unary_clauses (drop-zeros k n)
+pub drop_zeros : (k n : ℕ) → drop k (replicate {A = ℕ} n 0) ≡ replicate (n - k) 0
+drop_zeros zero n = simp unary_clauses
+drop_zeros (suc k) zero = let z : 0 - suc k ≡ 0 = omega arith in rw z
+drop_zeros (suc k) (suc n) = simp unary_clauses (drop_zeros k n)
 
 -- Words whose first r rows are R, and that are zero behind them.
 pub rows-filled : (m r len : ℕ) (s : List ℕ) (R : List (List ℕ)) → length s ≡ len → r * m ≤ len → rows m s 0 r ≡ R → drop (r * m) s ≡ drop (r * m) (replicate len 0) → s ≡ filled len R
@@ -44,9 +44,9 @@ rows-filled m r len s R l h e d =
     let o : 0 * m ≡ 0 = zero-mul m in
     let a : take (r * m) s ≡ flat R = sym (q ∙ ap (λ (x : ℕ). take (r * m) (drop x s)) o) ∙ ap flat e in
     let z : length (flat R) ≡ r * m = ap length (sym a) ∙ length-take-le (r * m) s (omega arith) in
-    sym (take-append-drop (r * m) s) ∙ ap₂ (λ (x y : List ℕ). x ++ y) a (d ∙ drop-zeros (r * m) len ∙ ap (λ (k : ℕ). replicate (len - k) 0) (sym z))
+    sym (take-append-drop (r * m) s) ∙ ap₂ (λ (x y : List ℕ). x ++ y) a (d ∙ drop_zeros (r * m) len ∙ ap (λ (k : ℕ). replicate (len - k) 0) (sym z))
 
 -- Whether rows fit depends on their number alone.
-pub fitting-count : (m len n : ℕ) (R : List (List ℕ)) → length R ≡ n → leb n (len / m) ≡ areFitting m len R
-unfolding areFitting
+pub fitting-count : (m len n : ℕ) (R : List (List ℕ)) → length R ≡ n → leb n (len / m) ≡ are_fitting m len R
+unfolding are_fitting
 fitting-count m len n R e = rw e

@@ -7,32 +7,32 @@ use mathlib.Core.List.{List, [], ◌∷◌, ◌++◌, map, flat_map, map-append,
 use native.Mathlib.Numerals.{add-one}
 use native.Mathlib.Omega.{arith}
 use Rattle.spec.specs.declared.Triple.{Triple}
-use Rattle.spec.proofs.Lists.{flatMap-in}
-use Rattle.spec.specs.Tables.{tripleFrom, firstRows}
-use Rattle.spec.proofs.TableRows.{length-firstRows, firstRows-snoc, getD-firstRows}
-use Rattle.table.proofs.Place.{getD-member}
+use Rattle.spec.proofs.Lists.{flat_map_in}
+use Rattle.spec.specs.Tables.{triple_from, first_rows}
+use Rattle.spec.proofs.TableRows.{length-first_rows, first_rows-snoc, get_or-first_rows}
+use Rattle.table.proofs.Place.{get_or-member}
 use Rattle.rows.specs.inside.Rows.{row}
 use Rattle.spec.specs.Rows.{words}
 use Rattle.rows_distinct.specs.declared.Collected.{Collected}
 use Rattle.rows_distinct.specs.inside.Collected.{Collects}
 use Rattle.rows_distinct.specs.inside.Effects.{Within}
-use Rattle.rows_distinct.proofs.Collecting.{collects-ext, collects-then}
+use Rattle.rows_distinct.proofs.Collecting.{collects_ext, collects_then}
 use Rattle.query_alternatives.specs.inside.Putting.{Puts}
 
 -- ---- lists
 
 -- What two lists give is what the first gives and then what the second gives.
-flatMap-append : {A B : Type 0} (f : A → List B) (l m : List A) → flat_map f (l ++ m) ≡ flat_map f l ++ flat_map f m
+flat_map-append : {A B : Type 0} (f : A → List B) (l m : List A) → flat_map f (l ++ m) ≡ flat_map f l ++ flat_map f m
 unfolding flat_map
-flatMap-append f [] m = refl
-flatMap-append f (x ∷ l) m = ap (λ r. f x ++ r) (flatMap-append f l m) ∙ sym (append_assoc (f x) (flat_map f l) (flat_map f m))
+flat_map-append f [] m = refl
+flat_map-append f (x ∷ l) m = ap (λ r. f x ++ r) (flat_map-append f l m) ∙ sym (append_assoc (f x) (flat_map f l) (flat_map f m))
 
 -- One row more.
-flatMap-more : (f : Triple → List Triple) (i : ℕ) (ws : List ℕ) → flat_map f (firstRows (i + 1) ws) ≡ flat_map f (firstRows i ws) ++ f (tripleFrom ws (i * 3))
+flat_map_more : (f : Triple → List Triple) (i : ℕ) (ws : List ℕ) → flat_map f (first_rows (i + 1) ws) ≡ flat_map f (first_rows i ws) ++ f (triple_from ws (i * 3))
 unfolding flat_map
-flatMap-more f i ws =
-    rw (add-one i, firstRows-snoc i ws, flatMap-append f (firstRows i ws) (tripleFrom ws (i * 3) ∷ []))
-    (ap (λ (l : List Triple). flat_map f (firstRows i ws) ++ l) (append-nil (f (tripleFrom ws (i * 3)))))
+flat_map_more f i ws =
+    rw (add-one i, first_rows-snoc i ws, flat_map-append f (first_rows i ws) (triple_from ws (i * 3) ∷ []))
+    (ap (λ (l : List Triple). flat_map f (first_rows i ws) ++ l) (append-nil (f (triple_from ws (i * 3)))))
 
 -- ---- what was put
 
@@ -50,7 +50,7 @@ module _ {out : List ℕ} {c : Collected} where
     pub puts-ext : (us vs : List Triple) → ((u : Triple) → Memᴰ u us ↔ Memᴰ u vs) → Puts us out c out₁ c₁ → Puts vs out c out₁ c₁
     puts-ext us vs e A = record {
       within = A.within;
-      collects = λ R h. collects-ext (λ r. (along us vs (λ u. (e u).0) R r, along vs us (λ u. (e u).1) R r)) (A.collects R h);
+      collects = λ R h. collects_ext (λ r. (along us vs (λ u. (e u).0) R r, along vs us (λ u. (e u).1) R r)) (A.collects R h);
     }
       where
         along : (xs ys : List Triple) → ((u : Triple) → Memᴰ u xs → Memᴰ u ys) → (R : List (List ℕ)) (r : List ℕ) → Memᴰ r (map words xs ++ R) → Memᴰ r (map words ys ++ R)
@@ -64,33 +64,33 @@ module _ {out : List ℕ} {c : Collected} where
     pub puts_then : {out₂ : List ℕ} {c₂ : Collected} (us vs : List Triple) → Puts us out c out₁ c₁ → Puts vs out₁ c₁ out₂ c₂ → Puts (us ++ vs) out c out₂ c₂
     puts_then us vs A B = record {
       within = B.within;
-      collects = λ R h. rw (map-append words us vs) (collects-then (map words us) (map words vs) R (B.collects (map words us ++ R) (A.collects R h)));
+      collects = λ R h. rw (map-append words us vs) (collects_then (map words us) (map words vs) R (B.collects (map words us ++ R) (A.collects R h)));
     }
 
 -- ---- row by row
 
 -- No row yet.
-pub puts-start : (f : Triple → List Triple) (ws : List ℕ) {out : List ℕ} {c : Collected} → Within 3 out c → Puts (flat_map f (firstRows 0 ws)) out c out c
-unfolding flat_map firstRows
-puts-start f ws w = puts_none w
+pub puts_start : (f : Triple → List Triple) (ws : List ℕ) {out : List ℕ} {c : Collected} → Within 3 out c → Puts (flat_map f (first_rows 0 ws)) out c out c
+unfolding flat_map first_rows
+puts_start f ws w = puts_none w
 
-module _ (f : Triple → List Triple) (ws : List ℕ) (i : ℕ) {out : List ℕ} {c : Collected} {out₁ : List ℕ} {c₁ : Collected} (A : Puts (flat_map f (firstRows i ws)) out c out₁ c₁) where
+module _ (f : Triple → List Triple) (ws : List ℕ) (i : ℕ) {out : List ℕ} {c : Collected} {out₁ : List ℕ} {c₁ : Collected} (A : Puts (flat_map f (first_rows i ws)) out c out₁ c₁) where
   -- What row i gives is put.
-  pub puts-more : (t : Triple) → t ≡ tripleFrom ws (i * 3) → {out₂ : List ℕ} {c₂ : Collected} → Puts (f t) out₁ c₁ out₂ c₂ → Puts (flat_map f (firstRows (i + 1) ws)) out c out₂ c₂
-  puts-more t e B = rw (flatMap-more f i ws, sym e) (puts_then (flat_map f (firstRows i ws)) (f t) A B)
+  pub puts_more : (t : Triple) → t ≡ triple_from ws (i * 3) → {out₂ : List ℕ} {c₂ : Collected} → Puts (f t) out₁ c₁ out₂ c₂ → Puts (flat_map f (first_rows (i + 1) ws)) out c out₂ c₂
+  puts_more t e B = rw (flat_map_more f i ws, sym e) (puts_then (flat_map f (first_rows i ws)) (f t) A B)
 
   -- Row i gives what the row before gave.
-  pub puts-again : 0 < i → f (tripleFrom ws ((i - 1) * 3)) ≡ f (tripleFrom ws (i * 3)) → Puts (flat_map f (firstRows (i + 1) ws)) out c out₁ c₁
-  puts-again h e = puts-ext (flat_map f (firstRows i ws)) (flat_map f (firstRows (i + 1) ws)) (λ u. (more u, less u)) A
+  pub puts_again : 0 < i → f (triple_from ws ((i - 1) * 3)) ≡ f (triple_from ws (i * 3)) → Puts (flat_map f (first_rows (i + 1) ws)) out c out₁ c₁
+  puts_again h e = puts-ext (flat_map f (first_rows i ws)) (flat_map f (first_rows (i + 1) ws)) (λ u. (more u, less u)) A
     where
-      listed : Memᴰ (tripleFrom ws ((i - 1) * 3)) (firstRows i ws)
+      listed : Memᴰ (triple_from ws ((i - 1) * 3)) (first_rows i ws)
       listed =
-          Memᴰ.cast (sym (getD-firstRows i ws (i - 1) (tripleFrom ws 0) (omega arith))) (getD-member (firstRows i ws) (i - 1) (tripleFrom ws 0) (omega (arith, length-firstRows i ws)))
+          Memᴰ.cast (sym (get_or-first_rows i ws (i - 1) (triple_from ws 0) (omega arith))) (get_or-member (first_rows i ws) (i - 1) (triple_from ws 0) (omega (arith, length-first_rows i ws)))
 
-      more : (u : Triple) → Memᴰ u (flat_map f (firstRows i ws)) → Memᴰ u (flat_map f (firstRows (i + 1) ws))
-      more u m = rw (flatMap-more f i ws) (Memᴰ.append_left (f (tripleFrom ws (i * 3))) m)
+      more : (u : Triple) → Memᴰ u (flat_map f (first_rows i ws)) → Memᴰ u (flat_map f (first_rows (i + 1) ws))
+      more u m = rw (flat_map_more f i ws) (Memᴰ.append_left (f (triple_from ws (i * 3))) m)
 
-      less : (u : Triple) → Memᴰ u (flat_map f (firstRows (i + 1) ws)) → Memᴰ u (flat_map f (firstRows i ws))
+      less : (u : Triple) → Memᴰ u (flat_map f (first_rows (i + 1) ws)) → Memᴰ u (flat_map f (first_rows i ws))
       less u m =
-          ⊎_elim (λ j. j) (λ j. flatMap-in f (firstRows i ws) listed (subst (Memᴰ u) (sym e) j))
-          (Memᴰ.append_cases (flat_map f (firstRows i ws)) (rw (flatMap-more f i ws) at m))
+          ⊎_elim (λ j. j) (λ j. flat_map_in f (first_rows i ws) listed (subst (Memᴰ u) (sym e) j))
+          (Memᴰ.append_cases (flat_map f (first_rows i ws)) (rw (flat_map_more f i ws) at m))

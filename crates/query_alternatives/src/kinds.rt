@@ -1,7 +1,7 @@
 // Which alternatives qualify for an atom. An alternative is a triple of kind, source and target.
 ghost use Rattle.std.specs.Prelude.{◌≡◌};
 ghost use Rattle.spec.specs.Questions.{admits};
-ghost use Rattle.query_alternatives.specs.inside.Putting.{alternativeBy, admitsTarget, qualifies};
+ghost use Rattle.query_alternatives.specs.inside.Putting.{alternative_by, admits_target, qualifies};
 
 use spec::Triple;
 use terms::Term;
@@ -25,7 +25,7 @@ fn admits(word: u32, term: u32) -> bool
 
 // Whether an atom admits the target of an alternative: a property for kind 4, else a class.
 fn admits_target(atom: Triple, alternative: Triple) -> bool
-    ensures { result ≡ admitsTarget atom alternative }
+    ensures { result ≡ admits_target atom alternative }
 {
     if alternative.subject == BY_SUBPROPERTY {
         return admits(atom.property, alternative.object);
@@ -44,7 +44,7 @@ pub fn qualifies(atom: Triple, alternative: Triple) -> bool
 
 // The alternative with a source that a row carried by a made-up fact comes to.
 pub fn alternative_by(source: u32, row: Triple) -> Triple
-    ensures { result ≡ alternativeBy source row }
+    ensures { result ≡ alternative_by source row }
 {
     if row.property == Term::TYPE {
         return Triple {

@@ -1,9 +1,9 @@
 // Alternatives of an atom (document 01, "Questions and their rewriting").
 ghost use Rattle.std.specs.Prelude.{◌≡◌, true, length, replicate};
-ghost use Rattle.spec.specs.Tables.{isStatementTable};
+ghost use Rattle.spec.specs.Tables.{is_statement_table};
 ghost use Rattle.spec.specs.Outputs.{replied};
 ghost use Rattle.spec.specs.Alternatives.{reformulate};
-ghost use Rattle.query_alternatives.specs.inside.Putting.{giveAlternatives};
+ghost use Rattle.query_alternatives.specs.inside.Putting.{give_alternatives};
 
 use output::clear;
 use query::questions::is_atom;
@@ -18,8 +18,8 @@ mod sources; // sources.rt: alternatives by their source, put into an output
 
 // The alternatives of an atom, into an output of zeros, unless they do not fit (question 8).
 fn gather(statements: &[u32], atom: Triple, out: &mut [u32]) -> Reply
-    requires { (isStatementTable statements.now ≡ true) × (out.old ≡ replicate (length out.old) 0) }
-    ensures { replied result out.new ≡ giveAlternatives statements.now atom (length out.old) }
+    requires { (is_statement_table statements.now ≡ true) × (out.old ≡ replicate (length out.old) 0) }
+    ensures { replied result out.new ≡ give_alternatives statements.now atom (length out.old) }
 {
     let explicit = Triple {
         subject: 0,

@@ -1,13 +1,13 @@
 // Alternatives by their source, put into an output. What a source gives is read off what two made-up facts carry.
 ghost use Rattle.std.specs.Prelude.{◌≡◌, true, false, ℕ, ◌+◌, ◌-◌, ◌*◌, ◌≤◌, ◌<◌, length};
 ghost use mathlib.Core.List.{List, [], ◌∷◌, flat_map};
-ghost use Rattle.spec.specs.Terms.{isVocabulary};
-ghost use Rattle.spec.specs.Tables.{count, rowAt, firstRows, rows, isStatementTable};
+ghost use Rattle.spec.specs.Terms.{is_vocabulary};
+ghost use Rattle.spec.specs.Tables.{count, row_at, first_rows, rows, is_statement_table};
 ghost use Rattle.spec.specs.computed.Carried.{carried};
 ghost use Rattle.rows_distinct.specs.declared.Collected.{Collected};
 ghost use Rattle.rows_distinct.specs.inside.Effects.{Within};
-ghost use Rattle.spec.specs.computed.Reformulated.{alternativesFrom};
-ghost use Rattle.query_alternatives.specs.inside.Putting.{Puts, given, alternativesBelow};
+ghost use Rattle.spec.specs.computed.Reformulated.{alternatives_from};
+ghost use Rattle.query_alternatives.specs.inside.Putting.{Puts, given, alternatives_below};
 
 use crate::kinds::{BY_DOMAIN, BY_RANGE, BY_SUBCLASS, alternative_by, qualifies};
 use query::questions::atom_at;
@@ -52,7 +52,7 @@ fn put_rows(
     c0: Collected,
 ) -> Collected
     requires { (n * 3 ≤ length list.now) × Within 3 out.old c0 }
-    ensures { Puts (flat_map (given atom source) (firstRows n list.now)) out.old c0 out.new result }
+    ensures { Puts (flat_map (given atom source) (first_rows n list.now)) out.old c0 out.new result }
 {
     let mut c = c0;
     let mut i = 0;
@@ -73,7 +73,7 @@ fn put_carried(
     fact: Triple,
     c: Collected,
 ) -> Collected
-    requires { (isStatementTable statements.now ≡ true) × Within 3 out.old c }
+    requires { (is_statement_table statements.now ≡ true) × Within 3 out.old c }
     ensures { Puts (flat_map (given atom source) (carried (rows statements.now) fact)) out.old c out.new result }
 {
     let mut list = rdfs_carry::no_rows();
@@ -91,8 +91,8 @@ fn put_source(
     source: u32,
     c: Collected,
 ) -> Collected
-    requires { (isStatementTable statements.now ≡ true) × ((isVocabulary source ≡ false) × Within 3 out.old c) }
-    ensures { Puts (alternativesFrom (rows statements.now) atom source) out.old c out.new result }
+    requires { (is_statement_table statements.now ≡ true) × ((is_vocabulary source ≡ false) × Within 3 out.old c) }
+    ensures { Puts (alternatives_from (rows statements.now) atom source) out.old c out.new result }
 {
     let of_class = Triple {
         subject: BY_SUBCLASS,
@@ -111,7 +111,7 @@ fn put_source(
 // Whether the statement before has the same subject.
 fn is_repeated(statements: &[u32], i: usize) -> bool
     requires { i * 3 + 3 < length statements.now }
-    ensures { result ≡ true → (0 < i) × ((rowAt statements.now (i - 1)).subject ≡ (rowAt statements.now i).subject) }
+    ensures { result ≡ true → (0 < i) × ((row_at statements.now (i - 1)).subject ≡ (row_at statements.now i).subject) }
 {
     if i == 0 {
         return false;
@@ -129,8 +129,8 @@ fn put_statement(
     i: usize,
     c: Collected,
 ) -> Collected
-    requires { (isStatementTable statements.now ≡ true) × ((i < count statements.now) × Within 3 out.old c) }
-    ensures { (out₀ : List ℕ) (c₀ : Collected) → Puts (alternativesBelow statements.now atom i) out₀ c₀ out.old c → Puts (alternativesBelow statements.now atom (i + 1)) out₀ c₀ out.new result }
+    requires { (is_statement_table statements.now ≡ true) × ((i < count statements.now) × Within 3 out.old c) }
+    ensures { (out₀ : List ℕ) (c₀ : Collected) → Puts (alternatives_below statements.now atom i) out₀ c₀ out.old c → Puts (alternatives_below statements.now atom (i + 1)) out₀ c₀ out.new result }
 {
     if is_repeated(statements, i) {
         return c;
@@ -141,8 +141,8 @@ fn put_statement(
 
 // Puts the alternatives of all sources: each is the subject of a statement.
 pub fn put_statements(out: &mut [u32], statements: &[u32], atom: Triple, c0: Collected) -> Collected
-    requires { (isStatementTable statements.now ≡ true) × Within 3 out.old c0 }
-    ensures { Puts (alternativesBelow statements.now atom (count statements.now)) out.old c0 out.new result }
+    requires { (is_statement_table statements.now ≡ true) × Within 3 out.old c0 }
+    ensures { Puts (alternatives_below statements.now atom (count statements.now)) out.old c0 out.new result }
 {
     let n = statements[0] as usize;
     let mut c = c0;

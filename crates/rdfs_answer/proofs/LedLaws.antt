@@ -11,21 +11,21 @@ use lib.ListN.{get_or, drop}
 use lib.Dec.{ltb}
 use borrow.Author.Tests.{ltb-true, ltb-false, eq-eqb, ne_eqb}
 use Rattle.spec.specs.declared.Triple.{Triple}
-use Rattle.spec.specs.Terms.{type, isLiteral, triple}
-use Rattle.spec.proofs.Lists.{true-not-false}
-use Rattle.spec.specs.Tables.{count, firstRows, rows}
-use Rattle.spec.specs.computed.Carried.{properties, subjectClasses, objectClasses}
+use Rattle.spec.specs.Terms.{type, is_literal, triple}
+use Rattle.spec.proofs.Lists.{true-not_false}
+use Rattle.spec.specs.Tables.{count, first_rows, rows}
+use Rattle.spec.specs.computed.Carried.{properties, subject_classes, object_classes}
 use Rattle.rdfs_reach.specs.inside.Marks.{Within}
 use Rattle.table.specs.inside.Bounds.{Tells}
-use Rattle.table.proofs.SearchLaws.{tells-true, tells-false}
+use Rattle.table.proofs.SearchLaws.{tells_true, tells_false}
 use Rattle.rdfs_derive.specs.inside.Conclusions.{Concluded}
-use Rattle.rdfs_relevance.specs.inside.Targets.{example, some, ledTo, Led}
+use Rattle.rdfs_relevance.specs.inside.Targets.{example, some, led_to, Led}
 
 -- ---- what a test tells
 
 -- A test of one tells of the other.
-pub tells-iff : {P Q : Type 0} {r : Bool} → P ↔ Q → Tells r P → Tells r Q
-tells-iff f t = record { if-true = λ e. f.0 (t.if-true e); if-false = λ e q. t.if-false e (f.1 q) }
+pub tells_iff : {P Q : Type 0} {r : Bool} → P ↔ Q → Tells r P → Tells r Q
+tells_iff f t = record { if_true = λ e. f.0 (t.if_true e); if_false = λ e q. t.if_false e (f.1 q) }
 
 -- ---- a term among those found
 
@@ -44,11 +44,11 @@ none_end n l w = n (record { at = w.at; low = w.low; high = omega (arith, w.high
 
 -- ---- the example of a question
 
-pub example-class : (asked w : ℕ) → asked ≡ 3 → triple 6 type w ≡ example asked w
-example-class asked w e = rw (eq-eqb asked 3 e) refl
+pub example_class : (asked w : ℕ) → asked ≡ 3 → triple 6 type w ≡ example asked w
+example_class asked w e = rw (eq-eqb asked 3 e) refl
 
-pub example-property : (asked w : ℕ) → ¬ (asked ≡ 3) → triple 6 w 6 ≡ example asked w
-example-property asked w n = rw (ne_eqb asked 3 n) refl
+pub example_property : (asked w : ℕ) → ¬ (asked ≡ 3) → triple 6 w 6 ≡ example asked w
+example_property asked w n = rw (ne_eqb asked 3 n) refl
 
 -- ---- the answer by the terms found
 
@@ -62,18 +62,18 @@ some-any [] = (λ i. absurd (Memᴰ.not-nil i), λ n. absurd (n refl))
 some-any (x ∷ xs) = (λ i e. Memᴰ.not-nil (rw e at (first x xs)), λ n. Memᴰ.head refl)
 
 module _ (st : List ℕ) (m asked w target : ℕ) (f : Triple) (found : List ℕ) (a b e : ℕ) (q : m ≡ count st) (g : f ≡ example asked w)
-    (k : Concluded (firstRows m (drop 1 st)) m f found a b e) {r : Bool} where
-  pub led-property : asked ≡ 1 → Tells r (Within found 0 a target) → Tells r (Led (rows st) asked w target)
-  unfolding ledTo rows
-  led-property h t = rw (← q, ← g, eq-eqb asked 1 h) (tells-iff (k.as-property target) t)
+    (k : Concluded (first_rows m (drop 1 st)) m f found a b e) {r : Bool} where
+  pub led_property : asked ≡ 1 → Tells r (Within found 0 a target) → Tells r (Led (rows st) asked w target)
+  unfolding led_to rows
+  led_property h t = rw (← q, ← g, eq-eqb asked 1 h) (tells_iff (k.as_property target) t)
 
   pub led-object : asked ≡ 4 → Tells r (Within found b e target) → Tells r (Led (rows st) asked w target)
-  unfolding ledTo rows
-  led-object h t = rw (← q, ← g, ne_eqb asked 1 (λ z. omega arith), eq-eqb asked 4 h) (tells-iff (k.as-object target) t)
+  unfolding led_to rows
+  led-object h t = rw (← q, ← g, ne_eqb asked 1 (λ z. omega arith), eq-eqb asked 4 h) (tells_iff (k.as_object target) t)
 
   pub led-subject : ¬ (asked ≡ 1) → ¬ (asked ≡ 4) → ¬ (asked ≡ 5) → Tells r (Within found a b target) → Tells r (Led (rows st) asked w target)
-  unfolding ledTo rows
-  led-subject n o p t = rw (← q, ← g, ne_eqb asked 1 n, ne_eqb asked 4 o, ne_eqb asked 5 p) (tells-iff (k.as-subject target) t)
+  unfolding led_to rows
+  led-subject n o p t = rw (← q, ← g, ne_eqb asked 1 n, ne_eqb asked 4 o, ne_eqb asked 5 p) (tells_iff (k.as_subject target) t)
 
 none_list : (ys : List ℕ) → ((c : ℕ) → Memᴰ c ys → ⊥) → ys ≡ []
 none_list [] n = refl
@@ -82,13 +82,13 @@ none_list (y ∷ ys) n = absurd (n y (Memᴰ.head refl))
 -- There are classes of the object where the places of these are not empty.
 any_found : {found xs : List ℕ} {b e : ℕ} → ((c : ℕ) → Within found b e c ↔ Memᴰ c xs) → Tells (ltb b e) (¬ (xs ≡ []))
 any_found {found} {xs} {b} {e} h = record {
-  if-true = λ l z. Memᴰ.not-nil (rw z at ((h (get_or found b 0)).0 (record { at = b; low = omega arith; high = ltb-true b e l; is = refl })));
-  if-false = λ l n. n (none_list xs (λ c i. let v = (h c).1 i in omega (arith, v.low, v.high, ltb-false b e l)));
+  if_true = λ l z. Memᴰ.not-nil (rw z at ((h (get_or found b 0)).0 (record { at = b; low = omega arith; high = ltb-true b e l; is = refl })));
+  if_false = λ l n. n (none_list xs (λ c i. let v = (h c).1 i in omega (arith, v.low, v.high, ltb-false b e l)));
 }
 
-pub led-any : (st : List ℕ) (m asked w target : ℕ) (f : Triple) (found : List ℕ) (a b e : ℕ) → m ≡ count st → f ≡ example asked w → Concluded (firstRows m (drop 1 st)) m f found a b e →
+pub led-any : (st : List ℕ) (m asked w target : ℕ) (f : Triple) (found : List ℕ) (a b e : ℕ) → m ≡ count st → f ≡ example asked w → Concluded (first_rows m (drop 1 st)) m f found a b e →
     asked ≡ 5 → target ≡ 0 → Tells (ltb b e) (Led (rows st) asked w target)
-unfolding ledTo rows
+unfolding led_to rows
 led-any st m asked w target f found a b e q g k h z =
-    let i = some-any (objectClasses (firstRows m (drop 1 st)) f) in
-    rw (← q, ← g, ne_eqb asked 1 (λ z. omega arith), ne_eqb asked 4 (λ z. omega arith), eq-eqb asked 5 h, z) (tells-iff (i.1, i.0) (any_found k.as-object))
+    let i = some-any (object_classes (first_rows m (drop 1 st)) f) in
+    rw (← q, ← g, ne_eqb asked 1 (λ z. omega arith), ne_eqb asked 4 (λ z. omega arith), eq-eqb asked 5 h, z) (tells_iff (i.1, i.0) (any_found k.as_object))

@@ -1,6 +1,6 @@
 // Whether a property or a class leads to a target, worked out from the statements.
 ghost use Rattle.std.specs.Prelude.{◌≡◌, true, ◌≤◌, length};
-ghost use Rattle.spec.specs.Tables.{rows, isStatementTable};
+ghost use Rattle.spec.specs.Tables.{rows, is_statement_table};
 ghost use Rattle.rdfs_reach.specs.inside.Marks.{Within};
 ghost use Rattle.table.specs.inside.Bounds.{Tells};
 ghost use Rattle.rdfs_relevance.specs.inside.Targets.{example, Led};
@@ -47,7 +47,7 @@ fn is_found(found: &[u32], a: usize, b: usize, x: u32) -> bool
 
 // The answer to a question, worked out.
 pub fn work_out(statements: &[u32], asked: u32, word: u32, target: u32) -> bool
-    requires statements_value { isStatementTable statements.now ≡ true }
+    requires statements_value { is_statement_table statements.now ≡ true }
     requires target_value { asked ≡ 5 → target ≡ 0 }
     ensures { Tells result (Led (rows statements.now) asked word target) }
 {

@@ -1,9 +1,9 @@
 // The properties of a fact, and the classes of its subject and of its object.
 ghost use Rattle.std.specs.Prelude.{◌≡◌, cond, ◌↔◌, ℕ, ◌+◌, ◌<◌, ◌≤◌, length, get_or, drop, eqb};
 ghost use mathlib.Core.List.{[], ◌∷◌, Memᴰ};
-ghost use Rattle.spec.specs.Terms.{type, subClassOf, subPropertyOf, domain, range};
-ghost use Rattle.spec.specs.Tables.{rowAt, firstRows};
-ghost use Rattle.spec.specs.computed.Carried.{properties, subjectClasses, objectClasses};
+ghost use Rattle.spec.specs.Terms.{type, sub_class_of, sub_property_of, domain, range};
+ghost use Rattle.spec.specs.Tables.{row_at, first_rows};
+ghost use Rattle.spec.specs.computed.Carried.{properties, subject_classes, object_classes};
 ghost use Rattle.rdfs_reach.specs.inside.Marks.{Statements, Within, unused, Uniform, Unused, Room};
 ghost use Rattle.rdfs_classes.specs.inside.Listed.{Listed};
 
@@ -21,10 +21,10 @@ pub fn append_properties(
 ) -> usize
     requires statements { Statements st.now m }
     requires room { Room st.now m used.old found.old 1 }
-    requires unused { Unused st.now m subPropertyOf used.old }
-    ensures listed { Listed (properties (firstRows m (drop 1 st.now)) fact) found.old 0 found.new result }
+    requires unused { Unused st.now m sub_property_of used.old }
+    ensures listed { Listed (properties (first_rows m (drop 1 st.now)) fact) found.old 0 found.new result }
     ensures used_after { result + unused m used.new ≡ 1 + unused m used.old }
-    ensures by_index { (j : ℕ) → j < m → ¬ ((rowAt st.now j).property ≡ subPropertyOf) → get_or used.new j 0 ≡ get_or used.old j 0 }
+    ensures by_index { (j : ℕ) → j < m → ¬ ((row_at st.now j).property ≡ sub_property_of) → get_or used.new j 0 ≡ get_or used.old j 0 }
     ensures uniform { Uniform st.now m used.new }
 {
     found[0] = fact.property;
@@ -56,9 +56,9 @@ pub fn append_subject_classes(
 ) -> usize
     requires statements { Statements st.now m }
     requires room { Room st.now m used.old found.old (n + 1) }
-    requires unused { Unused st.now m domain used.old × Unused st.now m subClassOf used.old }
-    requires by_index { (q : ℕ) → Within found.old 0 n q ↔ Memᴰ q (properties (firstRows m (drop 1 st.now)) fact) }
-    ensures listed { Listed (subjectClasses (firstRows m (drop 1 st.now)) fact) found.old n found.new result }
+    requires unused { Unused st.now m domain used.old × Unused st.now m sub_class_of used.old }
+    requires by_index { (q : ℕ) → Within found.old 0 n q ↔ Memᴰ q (properties (first_rows m (drop 1 st.now)) fact) }
+    ensures listed { Listed (subject_classes (first_rows m (drop 1 st.now)) fact) found.old n found.new result }
     ensures upper_bound { result ≤ n + 1 + unused m used.old }
 {
     let e = append_type(fact, found, n);
@@ -79,9 +79,9 @@ pub fn append_object_classes(
 ) -> usize
     requires statements { Statements st.now m }
     requires room { Room st.now m used.old found.old n × (a ≤ n) }
-    requires unused { Unused st.now m range used.old × Unused st.now m subClassOf used.old }
-    requires by_index { (q : ℕ) → Within found.old 0 a q ↔ Memᴰ q (properties (firstRows m (drop 1 st.now)) fact) }
-    ensures listed { Listed (objectClasses (firstRows m (drop 1 st.now)) fact) found.old n found.new result }
+    requires unused { Unused st.now m range used.old × Unused st.now m sub_class_of used.old }
+    requires by_index { (q : ℕ) → Within found.old 0 a q ↔ Memᴰ q (properties (first_rows m (drop 1 st.now)) fact) }
+    ensures listed { Listed (object_classes (first_rows m (drop 1 st.now)) fact) found.old n found.new result }
     ensures upper_bound { result ≤ n + unused m used.old }
 {
     let object = Term { word: fact.object };

@@ -7,13 +7,13 @@ use Prim.Native.Nat.{ℕ, ◌+◌, ◌*◌, ◌≤◌, ◌<◌}
 use native.Mathlib.Omega.{arith}
 use lib.ListN.{length, get_or, drop, replicate, length-replicate}
 use Rattle.spec.specs.declared.Triple.{Triple}
-use Rattle.spec.specs.Terms.{subPropertyOf}
-use Rattle.spec.specs.Tables.{rowAt, firstRows, count, isStatementTable}
-use Rattle.spec.specs.computed.Carried.{properties, subjectClasses, objectClasses}
+use Rattle.spec.specs.Terms.{sub_property_of}
+use Rattle.spec.specs.Tables.{row_at, first_rows, count, is_statement_table}
+use Rattle.spec.specs.computed.Carried.{properties, subject_classes, object_classes}
 use Rattle.rdfs_reach.specs.inside.Marks.{Statements, unused, Uniform, Unused, Room}
-use Rattle.rdfs_reach.proofs.MarkLaws.{zeros-unused, zeros-room, zeros-count, table-statements}
+use Rattle.rdfs_reach.proofs.MarkLaws.{zeros-unused, zeros_room, zeros-count, table_statements}
 use Rattle.rdfs_classes.specs.inside.Listed.{Listed}
-use Rattle.rdfs_classes.proofs.ConclusionLaws.{both, kept-iff}
+use Rattle.rdfs_classes.proofs.ConclusionLaws.{both, kept_iff}
 use Rattle.rdfs_derive.specs.inside.Conclusions.{Concluded}
 
 -- After the properties there is room for the subject's classes, and no mark of another property.
@@ -25,27 +25,27 @@ module _ (st : List ℕ) (m : ℕ) (used used' : List ℕ) (r : ℕ) (zeros : us
     uniform = uni;
   }
 
-  pub unused-after : (k : ℕ) → ¬ (k ≡ subPropertyOf) → ((j : ℕ) → j < m → ¬ ((rowAt st j).property ≡ subPropertyOf) → get_or used' j 0 ≡ get_or used j 0) → Unused st m k used'
-  unused-after k d h j l e = h j l (λ q. d (sym e ∙ q)) ∙ zeros-unused st m k used zeros j l e
+  pub unused_after : (k : ℕ) → ¬ (k ≡ sub_property_of) → ((j : ℕ) → j < m → ¬ ((row_at st j).property ≡ sub_property_of) → get_or used' j 0 ≡ get_or used j 0) → Unused st m k used'
+  unused_after k d h j l e = h j l (λ q. d (sym e ∙ q)) ∙ zeros-unused st m k used zeros j l e
 
   -- There is room for the object's classes, with marks of their own.
-  pub room-again : (found again : List ℕ) (b : ℕ) → Statements st m → again ≡ replicate 512 0 → b ≤ r + 1 + unused m used' → 1026 ≤ length found → Room st m again found b
-  room-again found again b s z l g = zeros-room st m again found b s z (omega (arith, s.few, cost, zeros-count m used zeros))
+  pub room_again : (found again : List ℕ) (b : ℕ) → Statements st m → again ≡ replicate 512 0 → b ≤ r + 1 + unused m used' → 1026 ≤ length found → Room st m again found b
+  room_again found again b s z l g = zeros_room st m again found b s z (omega (arith, s.few, cost, zeros-count m used zeros))
 
-  pub few-terms : (again : List ℕ) (b e : ℕ) → again ≡ replicate 512 0 → b ≤ r + 1 + unused m used' → e ≤ b + unused m again → e ≤ 2 + 2 * m
-  few-terms again b e z l g = omega (arith, cost, zeros-count m used zeros, zeros-count m again z)
+  pub few_terms : (again : List ℕ) (b e : ℕ) → again ≡ replicate 512 0 → b ≤ r + 1 + unused m used' → e ≤ b + unused m again → e ≤ 2 + 2 * m
+  few_terms again b e z l g = omega (arith, cost, zeros-count m used zeros, zeros-count m again z)
 
-pub all-concluded : (S : List Triple) (m : ℕ) (f : Triple) (found₀ found₁ found₂ found₃ : List ℕ) (a b e : ℕ) → Listed (properties S f) found₀ 0 found₁ a → Listed (subjectClasses S f) found₁ a found₂ b →
-    Listed (objectClasses S f) found₂ b found₃ e → e ≤ 2 + 2 * m → Concluded S m f found₃ a b e
-all-concluded S m f found₀ found₁ found₂ found₃ a b e p q o l = record {
+pub all_concluded : (S : List Triple) (m : ℕ) (f : Triple) (found₀ found₁ found₂ found₃ : List ℕ) (a b e : ℕ) → Listed (properties S f) found₀ 0 found₁ a → Listed (subject_classes S f) found₁ a found₂ b →
+    Listed (object_classes S f) found₂ b found₃ e → e ≤ 2 + 2 * m → Concluded S m f found₃ a b e
+all_concluded S m f found₀ found₁ found₂ found₃ a b e p q o l = record {
   low = q.grows;
   high = o.grows;
   few = l;
-  as-property = λ x. both (kept-iff a (λ i h. o.kept i (omega (arith, q.grows)) ∙ q.kept i h) (omega arith)) (p.exact x);
-  as-subject = λ x. both (kept-iff b o.kept (omega arith)) (q.exact x);
-  as-object = o.exact;
+  as_property = λ x. both (kept_iff a (λ i h. o.kept i (omega (arith, q.grows)) ∙ q.kept i h) (omega arith)) (p.exact x);
+  as_subject = λ x. both (kept_iff b o.kept (omega arith)) (q.exact x);
+  as_object = o.exact;
 }
 
 -- They fit the words lent.
-pub few-rows : (ws : List ℕ) (m : ℕ) (f : Triple) (found : List ℕ) (a b e : ℕ) → isStatementTable ws ≡ true → m ≡ count ws → Concluded (firstRows m (drop 1 ws)) m f found a b e → e ≤ 1026
-few-rows ws m f found a b e h z c = omega (arith, c.few, (table-statements ws m h z).few)
+pub few-rows : (ws : List ℕ) (m : ℕ) (f : Triple) (found : List ℕ) (a b e : ℕ) → is_statement_table ws ≡ true → m ≡ count ws → Concluded (first_rows m (drop 1 ws)) m f found a b e → e ≤ 1026
+few-rows ws m f found a b e h z c = omega (arith, c.few, (table_statements ws m h z).few)

@@ -1,6 +1,6 @@
 // The terms that the conclusions from a fact are made of (document 01, "What follows").
 ghost use Rattle.std.specs.Prelude.{◌≡◌, ◌≤◌, length, drop, replicate};
-ghost use Rattle.spec.specs.Tables.{firstRows};
+ghost use Rattle.spec.specs.Tables.{first_rows};
 ghost use Rattle.rdfs_reach.specs.inside.Marks.{Statements};
 ghost use Rattle.rdfs_derive.specs.inside.Conclusions.{Concluded};
 
@@ -32,7 +32,7 @@ pub fn no_terms() -> [u32; MOST_TERMS]
 pub fn find_terms(st: &[u32], m: usize, fact: Triple, found: &mut [u32]) -> Ends
     requires statements { Statements st.now m }
     requires in_bounds { 1026 ≤ length found.old }
-    ensures { Concluded (firstRows m (drop 1 st.now)) m fact found.new result.properties result.subject result.object }
+    ensures { Concluded (first_rows m (drop 1 st.now)) m fact found.new result.properties result.subject result.object }
 {
     let mut used = no_marks();
     let mut again = no_marks();

@@ -2,8 +2,8 @@
 // met, and remembered.
 ghost use Rattle.std.specs.Prelude.{◌≡◌, true};
 ghost use mathlib.Core.List.{[], Memᴰ};
-ghost use Rattle.spec.specs.Tables.{rows, isStatementTable};
-ghost use Rattle.spec.specs.computed.Carried.{properties, subjectClasses, objectClasses};
+ghost use Rattle.spec.specs.Tables.{rows, is_statement_table};
+ghost use Rattle.spec.specs.computed.Carried.{properties, subject_classes, object_classes};
 ghost use Rattle.table.specs.inside.Bounds.{Tells};
 ghost use Rattle.rdfs_relevance.specs.inside.Targets.{Led, Remembers};
 
@@ -22,7 +22,7 @@ fn leads_otherwise(
     word: u32,
     target: u32,
 ) -> bool
-    requires statements_value { isStatementTable statements.now ≡ true }
+    requires statements_value { is_statement_table statements.now ≡ true }
     requires remembers { Remembers (rows statements.now) memory.old }
     requires not_asked { ¬ (asked ≡ 0) × (asked ≡ 5 → target ≡ 0) }
     ensures answer { Tells result (Led (rows statements.now) asked word target) }
@@ -45,7 +45,7 @@ fn leads_otherwise(
 
 // The answer to a question: the one remembered, or worked out and remembered.
 pub fn leads(statements: &[u32], memory: &mut [u32], asked: u32, word: u32, target: u32) -> bool
-    requires statements_value { isStatementTable statements.now ≡ true }
+    requires statements_value { is_statement_table statements.now ≡ true }
     requires remembers { Remembers (rows statements.now) memory.old }
     requires not_asked { ¬ (asked ≡ 0) × (asked ≡ 5 → target ≡ 0) }
     ensures answer { Tells result (Led (rows statements.now) asked word target) }
@@ -60,7 +60,7 @@ pub fn leads(statements: &[u32], memory: &mut [u32], asked: u32, word: u32, targ
 
 // Whether a fact has a property, or one that leads to it.
 pub fn has_property(statements: &[u32], memory: &mut [u32], fact: Triple, property: u32) -> bool
-    requires statements_value { isStatementTable statements.now ≡ true }
+    requires statements_value { is_statement_table statements.now ≡ true }
     requires remembers { Remembers (rows statements.now) memory.old }
     ensures answer { Tells result (Memᴰ property (properties (rows statements.now) fact)) }
     ensures memory { Remembers (rows statements.now) memory.new }
@@ -70,9 +70,9 @@ pub fn has_property(statements: &[u32], memory: &mut [u32], fact: Triple, proper
 
 // Whether a fact gives its subject a class.
 pub fn gives_subject(statements: &[u32], memory: &mut [u32], fact: Triple, class: u32) -> bool
-    requires statements_value { isStatementTable statements.now ≡ true }
+    requires statements_value { is_statement_table statements.now ≡ true }
     requires remembers { Remembers (rows statements.now) memory.old }
-    ensures answer { Tells result (Memᴰ class (subjectClasses (rows statements.now) fact)) }
+    ensures answer { Tells result (Memᴰ class (subject_classes (rows statements.now) fact)) }
     ensures memory { Remembers (rows statements.now) memory.new }
 {
     if fact.property == Term::TYPE {
@@ -83,9 +83,9 @@ pub fn gives_subject(statements: &[u32], memory: &mut [u32], fact: Triple, class
 
 // Whether a fact gives its object a class. It gives a literal none.
 pub fn gives_object(statements: &[u32], memory: &mut [u32], fact: Triple, class: u32) -> bool
-    requires statements_value { isStatementTable statements.now ≡ true }
+    requires statements_value { is_statement_table statements.now ≡ true }
     requires remembers { Remembers (rows statements.now) memory.old }
-    ensures answer { Tells result (Memᴰ class (objectClasses (rows statements.now) fact)) }
+    ensures answer { Tells result (Memᴰ class (object_classes (rows statements.now) fact)) }
     ensures memory { Remembers (rows statements.now) memory.new }
 {
     let object = Term { word: fact.object };
@@ -97,9 +97,9 @@ pub fn gives_object(statements: &[u32], memory: &mut [u32], fact: Triple, class:
 
 // Whether a fact gives its object a class at all.
 pub fn gives_any(statements: &[u32], memory: &mut [u32], fact: Triple) -> bool
-    requires statements_value { isStatementTable statements.now ≡ true }
+    requires statements_value { is_statement_table statements.now ≡ true }
     requires remembers { Remembers (rows statements.now) memory.old }
-    ensures answer { Tells result (¬ (objectClasses (rows statements.now) fact ≡ [])) }
+    ensures answer { Tells result (¬ (object_classes (rows statements.now) fact ≡ [])) }
     ensures memory { Remembers (rows statements.now) memory.new }
 {
     let object = Term { word: fact.object };

@@ -7,28 +7,28 @@ use native.Mathlib.Decide.{dec_lt}
 use native.Mathlib.Omega.{arith}
 use Rattle.spec.specs.declared.Triple.{Triple}
 use Rattle.spec.specs.Terms.{triple}
-use Rattle.spec.specs.inside.Comparison.{Less, by-subject, by-property, by-object}
-use Rattle.spec.specs.Tables.{rowAt}
+use Rattle.spec.specs.inside.Comparison.{Less, by_subject_lem, by_property, by_object_lem}
+use Rattle.spec.specs.Tables.{row_at}
 use Rattle.rdfs_reach.specs.inside.Marks.{Begins}
 use Rattle.table.specs.inside.Bounds.{Below}
 
 -- A row that is less than x k 0 is not of the subject x and the property k.
-not-below : (t : Triple) (x k : ℕ) → Less t (triple x k 0) → t.subject ≡ x → t.property ≡ k → ⊥
-not-below t x k (by-subject h) p q = omega arith
-not-below t x k (by-property e h) p q = omega arith
-not-below t x k (by-object e f h) p q = omega arith
+not_below : (t : Triple) (x k : ℕ) → Less t (triple x k 0) → t.subject ≡ x → t.property ≡ k → ⊥
+not_below t x k (by_subject_lem h) p q = omega arith
+not_below t x k (by_property e h) p q = omega arith
+not_below t x k (by_object_lem e f h) p q = omega arith
 
 -- A row that is not less is below none of them.
-not-less : (t : Triple) (x k : ℕ) → ¬ Less t (triple x k 0) → (x ≤ t.subject) × (t.subject ≡ x → k ≤ t.property)
-not-less t x k n = (
-  by_cases (dec_lt t.subject x) (λ (l : t.subject < x). absurd (n (by-subject l))) (λ l. omega arith),
-  λ e. by_cases (dec_lt t.property k) (λ (l : t.property < k). absurd (n (by-property e l))) (λ l. omega arith),
+not_less : (t : Triple) (x k : ℕ) → ¬ Less t (triple x k 0) → (x ≤ t.subject) × (t.subject ≡ x → k ≤ t.property)
+not_less t x k n = (
+  by_cases (dec_lt t.subject x) (λ (l : t.subject < x). absurd (n (by_subject_lem l))) (λ l. omega arith),
+  λ e. by_cases (dec_lt t.property k) (λ (l : t.property < k). absurd (n (by_property e l))) (λ l. omega arith),
 )
 
-pub begins-from : (st : List ℕ) (m x k i : ℕ) → Below st m (triple x k 0) i → Begins st m x k i
-begins-from st m x k i b = record {
+pub begins_from : (st : List ℕ) (m x k i : ℕ) → Below st m (triple x k 0) i → Begins st m x k i
+begins_from st m x k i b = record {
   high = b.within;
-  before = λ j l g. not-below (rowAt st j) x k (b.less j l) g.subject g.property;
-  subjects = λ j a l. (not-less (rowAt st j) x k (b.other j a l)).0;
-  properties = λ j a l. (not-less (rowAt st j) x k (b.other j a l)).1;
+  before = λ j l g. not_below (row_at st j) x k (b.less j l) g.subject g.property;
+  subjects = λ j a l. (not_less (row_at st j) x k (b.other j a l)).0;
+  properties = λ j a l. (not_less (row_at st j) x k (b.other j a l)).1;
 }

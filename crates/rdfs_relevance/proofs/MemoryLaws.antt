@@ -16,15 +16,15 @@ use Rattle.table.specs.inside.Bounds.{Tells}
 use Rattle.rdfs_relevance.specs.inside.Targets.{Led, Remembers}
 
 -- Nothing is remembered at the start.
-pub remembers-nothing : (S : List Triple) → Remembers S (replicate 16384 0)
-remembers-nothing S = record {
+pub remembers_nothing : (S : List Triple) → Remembers S (replicate 16384 0)
+remembers_nothing S = record {
   size = length-replicate {A = ℕ} 16384 0;
   each = λ k l n. absurd (n (get_or-replicate {A = ℕ} 16384 (k * 4 + 1) 0 0 (omega arith)));
 }
 
 -- The three words of a question are compared.
-pub same-question : (x w y q z t : ℕ) → (eqb x w && eqb y q && eqb z t) ≡ true → (x ≡ w) × ((y ≡ q) × (z ≡ t))
-same-question x w y q z t e =
+pub same_question : (x w y q z t : ℕ) → (eqb x w && eqb y q && eqb z t) ≡ true → (x ≡ w) × ((y ≡ q) × (z ≡ t))
+same_question x w y q z t e =
     let h = and_left (eqb x w && eqb y q) (eqb z t) e in
     (eqb-true x w (and_left _ (eqb y q) h), (eqb-true y q (and_right (eqb x w) _ h), eqb-true z t (and_right (eqb x w && eqb y q) _ e)))
 
@@ -62,27 +62,27 @@ module _ (memory : List ℕ) (p w q t a : ℕ) where
       get_or-set_other three (p * 4 + 3) (p * 4 + 1) a 0 (λ z. omega arith)
       ∙ (get_or-set_other two (p * 4 + 2) (p * 4 + 1) t 0 (λ z. omega arith) ∙ get_or-set_same one (p * 4 + 1) q 0 (simp length-set (omega arith)))
 
-  stored-target : p * 4 + 4 ≤ length memory → get_or stored (p * 4 + 2) 0 ≡ t
-  stored-target l = get_or-set_other three (p * 4 + 3) (p * 4 + 2) a 0 (λ z. omega arith) ∙ get_or-set_same two (p * 4 + 2) t 0 (simp length-set (omega arith))
+  stored_target : p * 4 + 4 ≤ length memory → get_or stored (p * 4 + 2) 0 ≡ t
+  stored_target l = get_or-set_other three (p * 4 + 3) (p * 4 + 2) a 0 (λ z. omega arith) ∙ get_or-set_same two (p * 4 + 2) t 0 (simp length-set (omega arith))
 
   stored_answer : p * 4 + 4 ≤ length memory → get_or stored (p * 4 + 3) 0 ≡ a
   stored_answer l = get_or-set_same three (p * 4 + 3) a 0 (simp length-set (omega arith))
 
 -- 1 is stored for yes, and 0 for no.
-pub answer-one : (a : ℕ) (r : Bool) → a ≡ 1 → r ≡ true → eqb a 1 ≡ r
-answer-one a r e h = rw (e, h) refl
+pub answer_one : (a : ℕ) (r : Bool) → a ≡ 1 → r ≡ true → eqb a 1 ≡ r
+answer_one a r e h = rw (e, h) refl
 
-pub answer-zero : (a : ℕ) (r : Bool) → a ≡ 0 → r ≡ false → eqb a 1 ≡ r
-answer-zero a r e h = rw (e, h) refl
+pub answer_zero : (a : ℕ) (r : Bool) → a ≡ 0 → r ≡ false → eqb a 1 ≡ r
+answer_zero a r e h = rw (e, h) refl
 
 -- A true answer is remembered, and the others still are.
-pub remembers-stored : (memory : List ℕ) (p w q t a : ℕ) (r : Bool) → p < 4096 → length memory ≡ 16384 → eqb a 1 ≡ r → (S : List Triple) → Tells r (Led S q w t) → Remembers S memory → Remembers S (stored memory p w q t a)
-remembers-stored memory p w q t a r l s e S h m = record {
+pub remembers_stored : (memory : List ℕ) (p w q t a : ℕ) (r : Bool) → p < 4096 → length memory ≡ 16384 → eqb a 1 ≡ r → (S : List Triple) → Tells r (Led S q w t) → Remembers S memory → Remembers S (stored memory p w q t a)
+remembers_stored memory p w q t a r l s e S h m = record {
   size = simp length-set s;
   each = λ k c n. by_cases (ℕ_discrete k p)
       (λ (z : k ≡ p).
       let g : p * 4 + 4 ≤ length memory = omega arith in
-      rw (z, stored-word memory p w q t a g, stored-asked memory p w q t a g, stored-target memory p w q t a g, stored_answer memory p w q t a g, e) h)
+      rw (z, stored-word memory p w q t a g, stored-asked memory p w q t a g, stored_target memory p w q t a g, stored_answer memory p w q t a g, e) h)
       (λ z.
       let o : (i : ℕ) → k * 4 ≤ i → i < k * 4 + 4 → get_or (stored memory p w q t a) i 0 ≡ get_or memory i 0 =
       λ i u v. stored_other memory p w q t a i (λ y. z (omega arith)) (λ y. z (omega arith)) (λ y. z (omega arith)) (λ y. z (omega arith)) in

@@ -4,9 +4,9 @@ use Rattle.spec_ntriples.specs.Characters.{codes}
 use Rattle.report_text.specs.Text.{newline, labelled}
 
 -- The most bytes of a file.
-abbrev pub mostInput : ℕ
-mostInput = 1048576
+abbrev pub most_input : ℕ
+most_input = 1048576
 
 -- What is printed for a file that is longer.
-unfoldable pub tooLong : List ℕ
-tooLong = labelled (codes "the input has more bytes than ") mostInput newline
+unfoldable pub too_long : List ℕ
+too_long = labelled (codes "the input has more bytes than ") most_input newline

@@ -1,10 +1,10 @@
 // What the program `kept_ntriples` prints: the kept facts of a file of N-Triples, as N-Triples, or why there are none.
 ghost use Rattle.std.specs.Prelude.{◌≡◌, ◌≤◌, length, take};
 ghost use Rattle.spec.specs.Deliveries.{deliver};
-ghost use Rattle.report_text.specs.inside.Appended.{headRoom};
+ghost use Rattle.report_text.specs.inside.Appended.{head_room};
 ghost use Rattle.report_printout.specs.Printout.{printout};
-ghost use Rattle.report_kept_lines.specs.Lines.{mostOutput};
-ghost use Rattle.report_kept.specs.Printing.{emptyStore, printedResult, printedFrom};
+ghost use Rattle.report_kept_lines.specs.Lines.{most_output};
+ghost use Rattle.report_kept.specs.Printing.{empty_store, printed_result, printed_from};
 
 use delivery_run::deliver;
 use ntriples_read::read_ntriples;
@@ -18,11 +18,11 @@ use spec_ntriples::ByteReply;
 
 // Delivers bytes to the empty store, and writes what is printed of that with a dictionary.
 fn print_delivery(dictionary: &[u8], delivery: &[u8], out: &mut [u8], errors: &mut [u8]) -> Lengths
-    requires out_len { length out.old ≡ mostOutput }
-    requires head_room_in_bounds { headRoom ≤ length errors.old }
-    ensures errors_after { printout (take result.output out.new) (take result.errors errors.new) ≡ printedResult dictionary.now (deliver emptyStore delivery.now) }
-    ensures output_le_most_output { result.output ≤ mostOutput }
-    ensures errors_le_head_room { result.errors ≤ headRoom }
+    requires out_len { length out.old ≡ most_output }
+    requires head_room_in_bounds { head_room ≤ length errors.old }
+    ensures errors_after { printout (take result.output out.new) (take result.errors errors.new) ≡ printed_result dictionary.now (deliver empty_store delivery.now) }
+    ensures output_le_most_output { result.output ≤ most_output }
+    ensures errors_le_head_room { result.errors ≤ head_room }
 {
     let mut statements = no_statements();
     let mut facts = no_facts();
@@ -43,11 +43,11 @@ fn print_delivery(dictionary: &[u8], delivery: &[u8], out: &mut [u8], errors: &m
 
 // Reads a file of N-Triples with an empty dictionary, delivers it to an empty store, and writes what is printed.
 pub fn respond(file: &[u8], out: &mut [u8], errors: &mut [u8]) -> Lengths
-    requires out_len { length out.old ≡ mostOutput }
-    requires head_room_in_bounds { headRoom ≤ length errors.old }
-    ensures text { printout (take result.output out.new) (take result.errors errors.new) ≡ printedFrom file.now }
-    ensures output { result.output ≤ mostOutput }
-    ensures errors { result.errors ≤ headRoom }
+    requires out_len { length out.old ≡ most_output }
+    requires head_room_in_bounds { head_room ≤ length errors.old }
+    ensures text { printout (take result.output out.new) (take result.errors errors.new) ≡ printed_from file.now }
+    ensures output { result.output ≤ most_output }
+    ensures errors { result.errors ≤ head_room }
 {
     if MOST_INPUT < file.len() {
         return Lengths {

@@ -4,19 +4,19 @@ use Rattle.spec.specs.declared.Delivered.{Delivered}
 use Rattle.spec_ntriples.specs.declared.ByteReply.{ByteReply}
 use Rattle.spec_ntriples.specs.declared.ByteReply.TheVariants.{Length, Refused}
 use Rattle.spec_writing.specs.Writing.{Written}
-use Rattle.report_text.specs.Text.{resultLine}
+use Rattle.report_text.specs.Text.{result_line}
 use Rattle.report_printout.specs.Printout.{Printout, printout, refusal}
 
 -- The most bytes of kept facts that are printed.
-abbrev pub mostOutput : ℕ
-mostOutput = 3145728
+abbrev pub most_output : ℕ
+most_output = 3145728
 
 -- What is printed of kept facts that were written, by the reply and the bytes: their lines, and the line of the result of the delivery that led
 -- to them, or the number that refused them.
-unfoldable pub printedKept : Delivered → ByteReply → List ℕ → Printout
-printedKept d (Length n) bytes = printout (take n bytes) (resultLine d)
-printedKept d (Refused n) bytes = refusal n
+unfoldable pub printed_kept : Delivered → ByteReply → List ℕ → Printout
+printed_kept d (Length n) bytes = printout (take n bytes) (result_line d)
+printed_kept d (Refused n) bytes = refusal n
 
 -- The same, by both together.
-abbrev pub printedWritten : Delivered → Written → Printout
-printedWritten d w = printedKept d w.reply w.bytes
+abbrev pub printed_written : Delivered → Written → Printout
+printed_written d w = printed_kept d w.reply w.bytes

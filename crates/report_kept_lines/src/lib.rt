@@ -1,9 +1,9 @@
 // The lines of the kept facts that a delivery led to, as the program `kept_ntriples` prints them, and the delivery's result.
 ghost use Rattle.std.specs.Prelude.{◌≡◌, ◌≤◌, length, take};
-ghost use Rattle.spec_writing.specs.Writing.{writeKept};
-ghost use Rattle.report_text.specs.inside.Appended.{headRoom};
+ghost use Rattle.spec_writing.specs.Writing.{write_kept};
+ghost use Rattle.report_text.specs.inside.Appended.{head_room};
 ghost use Rattle.report_printout.specs.Printout.{printout};
-ghost use Rattle.report_kept_lines.specs.Lines.{mostOutput, printedWritten};
+ghost use Rattle.report_kept_lines.specs.Lines.{most_output, printed_written};
 
 use ntriples_write::write_kept;
 use report::write_result;
@@ -19,11 +19,11 @@ pub fn write_delivered(
     out: &mut [u8],
     errors: &mut [u8],
 ) -> Lengths
-    requires out_len { length out.old ≡ mostOutput }
-    requires head_room_in_bounds { headRoom ≤ length errors.old }
-    ensures errors_after { printout (take result.output out.new) (take result.errors errors.new) ≡ printedWritten res (writeKept kept.now dictionary.now mostOutput) }
-    ensures output_le_most_output { result.output ≤ mostOutput }
-    ensures errors_le_head_room { result.errors ≤ headRoom }
+    requires out_len { length out.old ≡ most_output }
+    requires head_room_in_bounds { head_room ≤ length errors.old }
+    ensures errors_after { printout (take result.output out.new) (take result.errors errors.new) ≡ printed_written res (write_kept kept.now dictionary.now most_output) }
+    ensures output_le_most_output { result.output ≤ most_output }
+    ensures errors_le_head_room { result.errors ≤ head_room }
 {
     match write_kept(kept, dictionary, out) {
         ByteReply::Length(n) => Lengths {

@@ -1,6 +1,6 @@
 // The rooms of the program `kept_ntriples`: for what it prints, and for the store, which is empty; its statements are those of `report_store`.
 ghost use Rattle.std.specs.Prelude.{◌≡◌, length, replicate};
-ghost use Rattle.report_text.specs.inside.Appended.{headRoom};
+ghost use Rattle.report_text.specs.inside.Appended.{head_room};
 
 // The most bytes of kept facts that are printed,
 const OUTPUT_ROOM: usize = 3145728;
@@ -23,7 +23,7 @@ pub fn output_buffer() -> [u8; OUTPUT_ROOM]
 
 // Room for a line on standard error.
 pub fn errors_buffer() -> [u8; ERRORS_ROOM]
-    ensures { headRoom ≡ length result }
+    ensures { head_room ≡ length result }
 {
     [0u8; ERRORS_ROOM]
 }

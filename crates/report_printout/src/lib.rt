@@ -1,7 +1,7 @@
 // What the program `kept_ntriples` prints on standard output and on standard error, by its lengths; and a refusal.
 ghost use Rattle.std.specs.Prelude.{◌≡◌, ◌≤◌, length};
-ghost use Rattle.report_text.specs.Text.{refusalText};
-ghost use Rattle.report_text.specs.inside.Appended.{Appended, headRoom};
+ghost use Rattle.report_text.specs.Text.{refusal_text};
+ghost use Rattle.report_text.specs.inside.Appended.{Appended, head_room};
 
 use report_text::write_labelled;
 
@@ -14,10 +14,10 @@ pub struct Lengths {
 
 // Writes a refusal.
 pub fn refuse(n: u32, errors: &mut [u8]) -> Lengths
-    requires { headRoom ≤ length errors.old }
+    requires { head_room ≤ length errors.old }
     ensures output_value { result.output ≡ 0 }
-    ensures appended { Appended (refusalText n) 0 errors.old errors.new result.errors }
-    ensures errors_le_head_room { result.errors ≤ headRoom }
+    ensures appended { Appended (refusal_text n) 0 errors.old errors.new result.errors }
+    ensures errors_le_head_room { result.errors ≤ head_room }
 {
     Lengths {
         output: 0,

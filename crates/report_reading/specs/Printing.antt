@@ -1,12 +1,12 @@
 -- What the program `read_ntriples` prints for the bytes of a file (document 02, slip 1; for the longest file docs/DECISIONS.md, 75).
 -- Definitions only.
 use Rattle.std.specs.Prelude.{ℕ, cond, List, length, take, replicate, leb}
-use Rattle.spec.specs.Messages.{mostBytes}
+use Rattle.spec.specs.Messages.{most_bytes}
 use Rattle.spec_ntriples.specs.declared.ByteReply.{ByteReply}
 use Rattle.spec_ntriples.specs.declared.ByteReply.TheVariants.{Length, Refused}
-use Rattle.spec_ntriples.specs.Reading.{readNTriples}
-use Rattle.report_text.specs.Text.{refusalText}
-use Rattle.report_input.specs.Input.{mostInput, tooLong}
+use Rattle.spec_ntriples.specs.Reading.{read_nTriples}
+use Rattle.report_text.specs.Text.{refusal_text}
+use Rattle.report_input.specs.Input.{most_input, too_long}
 use Rattle.report_reading.specs.declared.Printed.{Printed}
 use Rattle.report_reading.specs.declared.Printed.TheVariants.{Output, Errors}
 
@@ -21,21 +21,21 @@ printed (Output n) bytes = output (take n bytes)
 printed (Errors n) bytes = errors (take n bytes)
 
 -- How many bytes that is.
-abbrev pub printedLength : Printed → ℕ
-printedLength (Output n) = n
-printedLength (Errors n) = n
+abbrev pub printed_length : Printed → ℕ
+printed_length (Output n) = n
+printed_length (Errors n) = n
 
 -- A dictionary of 1 MiB, without entries.
-abbrev pub emptyDictionary : List ℕ
-emptyDictionary = replicate 1048576 0
+abbrev pub empty_dictionary : List ℕ
+empty_dictionary = replicate 1048576 0
 
 -- What is printed for a file that was read, by the reply and the delivery (the bytes of the delivery, or the word refused and the number),
-unfoldable pub printedReply : ByteReply → List ℕ → Stream
-printedReply (Length n) delivery = output (take n delivery)
-printedReply (Refused n) delivery = errors (refusalText n)
+unfoldable pub printed_reply : ByteReply → List ℕ → Stream
+printed_reply (Length n) delivery = output (take n delivery)
+printed_reply (Refused n) delivery = errors (refusal_text n)
 
 -- and for any: it is read with that dictionary into a delivery of the most bytes.
-unfoldable pub printedFor : List ℕ → Stream
-printedFor file =
-    let r = readNTriples emptyDictionary file mostBytes in
-    cond (leb (length file) mostInput) (printedReply r.reply r.delivery) (errors tooLong)
+unfoldable pub printed_for : List ℕ → Stream
+printed_for file =
+    let r = read_nTriples empty_dictionary file most_bytes in
+    cond (leb (length file) most_input) (printed_reply r.reply r.delivery) (errors too_long)

@@ -1,7 +1,7 @@
 // What the program `read_ntriples` prints: the delivery of a file of N-Triples, or why there is none.
 ghost use Rattle.std.specs.Prelude.{◌≡◌, ◌≤◌, length};
-ghost use Rattle.spec.specs.Messages.{mostBytes};
-ghost use Rattle.report_reading.specs.Printing.{printed, printedLength, printedFor};
+ghost use Rattle.spec.specs.Messages.{most_bytes};
+ghost use Rattle.report_reading.specs.Printing.{printed, printed_length, printed_for};
 
 use ntriples_read::read_ntriples;
 use report_input::{MOST_INPUT, write_too_long};
@@ -18,9 +18,9 @@ pub enum Printed {
 
 // Reads a file of N-Triples with an empty dictionary, and writes what is printed.
 pub fn respond(file: &[u8], out: &mut [u8]) -> Printed
-    requires { length out.old ≡ mostBytes }
-    ensures text { printed result out.new ≡ printedFor file.now }
-    ensures room { printedLength result ≤ mostBytes }
+    requires { length out.old ≡ most_bytes }
+    ensures text { printed result out.new ≡ printed_for file.now }
+    ensures room { printed_length result ≤ most_bytes }
 {
     if MOST_INPUT < file.len() {
         return Printed::Errors(write_too_long(out));

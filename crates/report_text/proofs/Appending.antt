@@ -9,27 +9,27 @@ use lib.ListN.{length, get_or, take, drop, set, length-append}
 use lib.Seq.{take-suc, take-suc-set, drop-set-lt, drop-drop, take_all, length-take-le}
 use Rattle.report_text.specs.Text.{decimal}
 use Rattle.report_text.specs.inside.Appended.{Appended}
-use Rattle.report_text.proofs.Decimal.{decimal-small, decimal-large}
+use Rattle.report_text.proofs.Decimal.{decimal_small, decimal_large}
 
 -- One byte.
-pub byte-appended : (b : ℕ) (out : List ℕ) (at : ℕ) → at < length out → Appended (b ∷ []) at out (set out at b) (at + 1)
-byte-appended b out at h =
+pub byte_appended : (b : ℕ) (out : List ℕ) (at : ℕ) → at < length out → Appended (b ∷ []) at out (set out at b) (at + 1)
+byte_appended b out at h =
     record {
       ends = refl;
-      start-and-text = rw (add-one at) (take-suc-set out at b h);
+      start_and_text = rw (add-one at) (take-suc-set out at b h);
       rest = drop-set-lt (at + 1) out at b (omega arith);
     }
 
 -- No byte.
-pub none-appended : (out : List ℕ) (at : ℕ) → Appended [] at out out at
-none-appended out at = record { ends = sym (add-zero at); start-and-text = sym (append-nil (take at out)); rest = refl }
+pub none_appended : (out : List ℕ) (at : ℕ) → Appended [] at out out at
+none_appended out at = record { ends = sym (add-zero at); start_and_text = sym (append-nil (take at out)); rest = refl }
 
 -- A text behind another.
-pub both-appended : {s t out out' out'' : List ℕ} {at mid end : ℕ} → Appended s at out out' mid → Appended t mid out' out'' end → Appended (s ++ t) at out out'' end
-both-appended {s} {t} {out} {out'} {out''} {at} {mid} {end} A B =
+pub both_appended : {s t out out' out'' : List ℕ} {at mid end : ℕ} → Appended s at out out' mid → Appended t mid out' out'' end → Appended (s ++ t) at out out'' end
+both_appended {s} {t} {out} {out'} {out''} {at} {mid} {end} A B =
     record {
       ends = omega (arith, A.ends, B.ends, length-append s t);
-      start-and-text = B.start-and-text ∙ ap (λ (l : List ℕ). l ++ t) A.start-and-text ∙ append_assoc (take at out) s t;
+      start_and_text = B.start_and_text ∙ ap (λ (l : List ℕ). l ++ t) A.start_and_text ∙ append_assoc (take at out) s t;
       rest =
           B.rest
           ∙ ap (λ (i : ℕ). drop i out') B.ends
@@ -40,17 +40,17 @@ both-appended {s} {t} {out} {out'} {out''} {at} {mid} {end} A B =
     }
 
 -- Equal texts.
-pub text-appended : {s t out out' : List ℕ} {at end : ℕ} → s ≡ t → Appended s at out out' end → Appended t at out out' end
-text-appended {s} {t} {out} {out'} {at} {end} e A = subst (λ (l : List ℕ). Appended l at out out' end) e A
+pub text_appended : {s t out out' : List ℕ} {at end : ℕ} → s ≡ t → Appended s at out out' end → Appended t at out out' end
+text_appended {s} {t} {out} {out'} {at} {end} e A = subst (λ (l : List ℕ). Appended l at out out' end) e A
 
 -- ---- a word, byte by byte
 
 pub word_more : (word : List ℕ) (i : ℕ) {out out' out'' : List ℕ} {at mid end : ℕ} → i < length word
     → Appended (take i word) at out out' mid → Appended (get_or word i 0 ∷ []) mid out' out'' end → Appended (take (i + 1) word) at out out'' end
-word_more word i h A B = text-appended (rw (add-one i) (sym (take-suc word i 0 h))) (both-appended A B)
+word_more word i h A B = text_appended (rw (add-one i) (sym (take-suc word i 0 h))) (both_appended A B)
 
-pub word-whole : (word : List ℕ) (i : ℕ) {out out' : List ℕ} {at end : ℕ} → length word ≤ i → Appended (take i word) at out out' end → Appended word at out out' end
-word-whole word i h A = text-appended (take_all i word h) A
+pub word_whole : (word : List ℕ) (i : ℕ) {out out' : List ℕ} {at end : ℕ} → length word ≤ i → Appended (take i word) at out out' end → Appended word at out out' end
+word_whole word i h A = text_appended (take_all i word h) A
 
 -- The place of the next byte is within.
 pub word-place : (word : List ℕ) (i : ℕ) {out out' : List ℕ} {at end : ℕ} → i ≤ length word → Appended (take i word) at out out' end → end ≡ at + i
@@ -60,16 +60,16 @@ word-place word i h A = omega (arith, A.ends, length-take-le i word h)
 
 -- It has one digit more than the number without its last digit.
 large-length : (n : ℕ) → 10 ≤ n → length (decimal n) ≡ length (decimal (n / 10)) + 1
-large-length n h = ap length (decimal-large n h) ∙ length-append (decimal (n / 10)) ((48 + n % 10) ∷ [])
+large-length n h = ap length (decimal_large n h) ∙ length-append (decimal (n / 10)) ((48 + n % 10) ∷ [])
 
 -- Where there is room for a number, there is room for its one digit,
-pub small-room : (n at : ℕ) (out : List ℕ) → n < 10 → at + length (decimal n) ≤ length out → at < length out
-small-room n at out h r = let e : length (decimal n) ≡ 1 = ap length (decimal-small n h) in omega arith
+pub small_room : (n at : ℕ) (out : List ℕ) → n < 10 → at + length (decimal n) ≤ length out → at < length out
+small_room n at out h r = let e : length (decimal n) ≡ 1 = ap length (decimal_small n h) in omega arith
 
 -- or for its digits before the last,
-pub large-room : (n at : ℕ) (out : List ℕ) → 10 ≤ n → at + length (decimal n) ≤ length out → at + length (decimal (n / 10)) ≤ length out
-large-room n at out h r = omega (arith, large-length n h)
+pub large_room : (n at : ℕ) (out : List ℕ) → 10 ≤ n → at + length (decimal n) ≤ length out → at + length (decimal (n / 10)) ≤ length out
+large_room n at out h r = omega (arith, large-length n h)
 
 -- and for the last behind them.
-pub last-room : (n at : ℕ) (out out' : List ℕ) (mid : ℕ) → 10 ≤ n → at + length (decimal n) ≤ length out → mid ≡ at + length (decimal (n / 10)) → length out' ≡ length out → mid < length out'
-last-room n at out out' mid h r e k = omega (arith, large-length n h)
+pub last_room : (n at : ℕ) (out out' : List ℕ) (mid : ℕ) → 10 ≤ n → at + length (decimal n) ≤ length out → mid ≡ at + length (decimal (n / 10)) → length out' ≡ length out → mid < length out'
+last_room n at out out' mid h r e k = omega (arith, large-length n h)

@@ -2,7 +2,7 @@
 use Rattle.std.specs.Prelude.{ℕ, zero, suc, ◌+◌, ◌/◌, ◌%◌, cond, List, [], ◌∷◌, ◌++◌, length, replicate, eqb, ltb}
 use Rattle.spec.specs.declared.Triple.{Triple}
 use Rattle.spec.specs.Saturation.{Kept}
-use Rattle.spec.specs.Tables.{Tables, tables, keptOf}
+use Rattle.spec.specs.Tables.{Tables, tables, kept_of}
 use Rattle.spec.specs.declared.Delivered.{Delivered}
 use Rattle.spec.specs.Deliveries.{deliver}
 
@@ -28,24 +28,24 @@ abbrev pub newline : ℕ
 newline = 10
 
 -- "delivery "
-abbrev pub deliveryWord : List ℕ
-deliveryWord = 100 ∷ 101 ∷ 108 ∷ 105 ∷ 118 ∷ 101 ∷ 114 ∷ 121 ∷ 32 ∷ []
+abbrev pub delivery_word : List ℕ
+delivery_word = 100 ∷ 101 ∷ 108 ∷ 105 ∷ 118 ∷ 101 ∷ 114 ∷ 121 ∷ 32 ∷ []
 
 -- "applied "
-abbrev pub appliedWord : List ℕ
-appliedWord = 97 ∷ 112 ∷ 112 ∷ 108 ∷ 105 ∷ 101 ∷ 100 ∷ 32 ∷ []
+abbrev pub applied_word : List ℕ
+applied_word = 97 ∷ 112 ∷ 112 ∷ 108 ∷ 105 ∷ 101 ∷ 100 ∷ 32 ∷ []
 
 -- "idle "
-abbrev pub idleWord : List ℕ
-idleWord = 105 ∷ 100 ∷ 108 ∷ 101 ∷ 32 ∷ []
+abbrev pub idle_word : List ℕ
+idle_word = 105 ∷ 100 ∷ 108 ∷ 101 ∷ 32 ∷ []
 
 -- "refused "
-abbrev pub refusedWord : List ℕ
-refusedWord = 114 ∷ 101 ∷ 102 ∷ 117 ∷ 115 ∷ 101 ∷ 100 ∷ 32 ∷ []
+abbrev pub refused_word : List ℕ
+refused_word = 114 ∷ 101 ∷ 102 ∷ 117 ∷ 115 ∷ 101 ∷ 100 ∷ 32 ∷ []
 
 -- "rows "
-abbrev pub rowsWord : List ℕ
-rowsWord = 114 ∷ 111 ∷ 119 ∷ 115 ∷ 32 ∷ []
+abbrev pub rows_word : List ℕ
+rows_word = 114 ∷ 111 ∷ 119 ∷ 115 ∷ 32 ∷ []
 
 -- ---- lines
 
@@ -58,16 +58,16 @@ abbrev pub labelled : List ℕ → ℕ → ℕ → List ℕ
 labelled word n after = word ++ field n after
 
 -- "The result": the delivery number and the three tallies.
-unfoldable pub resultLine : Delivered → List ℕ
-resultLine d =
-    labelled deliveryWord d.number space
-    ++ (labelled appliedWord d.applied space
-    ++ (labelled idleWord d.idle space
-    ++ labelled refusedWord d.refused newline))
+unfoldable pub result_line : Delivered → List ℕ
+result_line d =
+    labelled delivery_word d.number space
+    ++ (labelled applied_word d.applied space
+    ++ (labelled idle_word d.idle space
+    ++ labelled refused_word d.refused newline))
 
 -- "The number of kept rows."
-unfoldable pub rowsLine : ℕ → List ℕ
-rowsLine n = labelled rowsWord n newline
+unfoldable pub rows_line : ℕ → List ℕ
+rows_line n = labelled rows_word n newline
 
 -- "Each kept row (subject, property, object, support)": one of them.
 unfoldable pub row_line : Triple × ℕ → List ℕ
@@ -81,21 +81,21 @@ row_lines (e ∷ k) = row_line e ++ row_lines k
 -- ---- the whole
 
 -- "The result, the number of kept rows, then each kept row."
-unfoldable pub reportText : Delivered → Kept → List ℕ
-reportText d k = resultLine d ++ (rowsLine (length k) ++ row_lines k)
+unfoldable pub report_text : Delivered → Kept → List ℕ
+report_text d k = result_line d ++ (rows_line (length k) ++ row_lines k)
 
 -- "For a refused delivery it prints only the word refused and the number."
-unfoldable pub refusalText : ℕ → List ℕ
-refusalText n = labelled refusedWord n newline
+unfoldable pub refusal_text : ℕ → List ℕ
+refusal_text n = labelled refused_word n newline
 
 -- The text of a result and the kept facts after it.
-unfoldable pub outcomeText : Delivered → Kept → List ℕ
-outcomeText d k = cond (eqb d.refusal 0) (reportText d k) (refusalText d.refusal)
+unfoldable pub outcome_text : Delivered → Kept → List ℕ
+outcome_text d k = cond (eqb d.refusal 0) (report_text d k) (refusal_text d.refusal)
 
 -- "An empty store of capacities 512 statements, 1,024 facts and 4,096 kept facts."
-abbrev pub emptyStore : Tables
-emptyStore = tables (replicate 1537 0) (replicate 3073 0) (replicate 12289 0) (replicate 4096 0)
+abbrev pub empty_store : Tables
+empty_store = tables (replicate 1537 0) (replicate 3073 0) (replicate 12289 0) (replicate 4096 0)
 
 -- What is printed for the bytes of a delivery to that store.
 unfoldable pub response : List ℕ → List ℕ
-response bs = let r = deliver emptyStore bs in outcomeText r.0 (keptOf r.1.kept r.1.supports)
+response bs = let r = deliver empty_store bs in outcome_text r.0 (kept_of r.1.kept r.1.supports)

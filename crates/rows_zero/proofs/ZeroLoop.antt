@@ -6,12 +6,12 @@ use Prim.Native.Nat.{ℕ, ◌+◌, ◌<◌, ◌≤◌}
 use native.Mathlib.Omega.{arith}
 use lib.ListN.{length, get_or, set}
 use lib.Seq.{get_or-set_same, get_or-set_other}
-use Rattle.spec.proofs.Lists.{le-or}
+use Rattle.spec.proofs.Lists.{le_or}
 use Rattle.rows_zero.specs.inside.Effects.{WordsZeroed}
 
 -- None is set yet; one more; and all are.
-pub zero-none : (a : ℕ) (t : List ℕ) → WordsZeroed a a t t
-zero-none a t = record { low = λ w l. refl; zeros = λ w l d. absurd (omega arith); high = λ w l. refl }
+pub zero_none : (a : ℕ) (t : List ℕ) → WordsZeroed a a t t
+zero_none a t = record { low = λ w l. refl; zeros = λ w l d. absurd (omega arith); high = λ w l. refl }
 
 pub zero_more : (a e : ℕ) (t s : List ℕ) → WordsZeroed a e t s → a ≤ e → e < length s → WordsZeroed a (e + 1) t (set s e 0)
 zero_more a e t s h le fits = record {
@@ -20,7 +20,7 @@ zero_more a e t s h le fits = record {
       ⊎_elim
       (λ (g : e ≤ w). let q : w ≡ e = omega arith in rw q (get_or-set_same s e 0 0 fits))
       (λ (g : w < e). get_or-set_other s e w 0 0 (λ q. omega arith) ∙ h.zeros w l g)
-      (le-or e w);
+      (le_or e w);
   high = λ w l. get_or-set_other s e w 0 0 (λ d. omega arith) ∙ h.high w (omega arith);
 }
 

@@ -16,16 +16,16 @@ zeros-tail : (e : ℕ) (x y : ℕ) (t s : List ℕ) → WordsZeroed 0 (suc e) (x
 zeros-tail e x y t s z = record { low = λ w l. absurd (omega arith); zeros = λ w l h. z.zeros (suc w) (omega arith) (omega arith); high = λ w l. z.high (suc w) (omega arith) }
 
 -- The words before the part, zeros, and the words behind it.
-pub zeroed-is : (a e : ℕ) (t s : List ℕ) → a ≤ e → e ≤ length t → length s ≡ length t → WordsZeroed a e t s → s ≡ take a t ++ (replicate (e - a) 0 ++ drop e t)
-zeroed-is zero zero t s h l q z = ext_get_or 0 s t q (λ w g. z.high w (omega arith))
-zeroed-is zero (suc e) [] s h l q z = absurd (omega arith)
-zeroed-is zero (suc e) (x ∷ t) [] h l q z = absurd (omega arith)
-zeroed-is zero (suc e) (x ∷ t) (y ∷ s) h l q z =
+pub zeroed_is : (a e : ℕ) (t s : List ℕ) → a ≤ e → e ≤ length t → length s ≡ length t → WordsZeroed a e t s → s ≡ take a t ++ (replicate (e - a) 0 ++ drop e t)
+zeroed_is zero zero t s h l q z = ext_get_or 0 s t q (λ w g. z.high w (omega arith))
+zeroed_is zero (suc e) [] s h l q z = absurd (omega arith)
+zeroed_is zero (suc e) (x ∷ t) [] h l q z = absurd (omega arith)
+zeroed_is zero (suc e) (x ∷ t) (y ∷ s) h l q z =
     let k : suc e - 0 ≡ suc (e - 0) = omega arith in
-    rw k (ap₂ ◌∷◌ (z.zeros 0 (omega arith) (omega arith)) (zeroed-is zero e t s (omega arith) (omega arith) (omega arith) (zeros-tail e x y t s z)))
-zeroed-is (suc a) zero t s h l q z = absurd (omega arith)
-zeroed-is (suc a) (suc e) [] s h l q z = absurd (omega arith)
-zeroed-is (suc a) (suc e) (x ∷ t) [] h l q z = absurd (omega arith)
-zeroed-is (suc a) (suc e) (x ∷ t) (y ∷ s) h l q z =
+    rw k (ap₂ ◌∷◌ (z.zeros 0 (omega arith) (omega arith)) (zeroed_is zero e t s (omega arith) (omega arith) (omega arith) (zeros-tail e x y t s z)))
+zeroed_is (suc a) zero t s h l q z = absurd (omega arith)
+zeroed_is (suc a) (suc e) [] s h l q z = absurd (omega arith)
+zeroed_is (suc a) (suc e) (x ∷ t) [] h l q z = absurd (omega arith)
+zeroed_is (suc a) (suc e) (x ∷ t) (y ∷ s) h l q z =
     let k : suc e - suc a ≡ e - a = omega arith in
-    rw k (ap₂ ◌∷◌ (z.low 0 (omega arith)) (zeroed-is a e t s (omega arith) (omega arith) (omega arith) (zeroed-tail a e x y t s z)))
+    rw k (ap₂ ◌∷◌ (z.low 0 (omega arith)) (zeroed_is a e t s (omega arith) (omega arith) (omega arith) (zeroed-tail a e x y t s z)))

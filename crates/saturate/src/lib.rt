@@ -2,7 +2,7 @@
 // bits that say which classes and properties it leads to; then the rows of each subject are put in order, from its facts and from those of
 // which it is the object. The same run counts the rows and, where they fit, writes them. About linear in facts times columns.
 ghost use Rattle.std.specs.Prelude.{◌≡◌, true, ℕ, ◌*◌, ◌≤◌, ◌<◌, length};
-ghost use Rattle.spec.specs.Tables.{isStatementTable, isFactTable, count};
+ghost use Rattle.spec.specs.Tables.{is_statement_table, is_fact_table, count};
 ghost use Rattle.saturate_schema.specs.inside.Nodes.{Columns};
 ghost use Rattle.saturate_schema.specs.inside.Squares.{at};
 ghost use Rattle.saturate_index.specs.inside.Index.{Index, Once, Sorted};
@@ -103,8 +103,8 @@ pub fn saturate(
     supports: &mut [u16],
     room: usize,
 ) -> bool
-    requires statements_value { isStatementTable statements.now ≡ true }
-    requires facts_value { isFactTable facts.now ≡ true }
+    requires statements_value { is_statement_table statements.now ≡ true }
+    requires facts_value { is_fact_table facts.now ≡ true }
     requires room_in_bounds { (room * 3 < length kept.old) × (room ≤ length supports.old) × (room ≤ 262143) }
     ensures* { λ r. ⌜ result r kept.new supports.new ≡ saturated statements.now facts.now room kept.old supports.old ⌝ }
 {

@@ -2,9 +2,9 @@
 ghost use Rattle.std.specs.Prelude.{◌≡◌, ℕ, ◌+◌, ◌-◌, ◌*◌, ◌^◌, ◌≤◌, ◌<◌, length, get_or, eqb};
 ghost use Rattle.saturate_merge.specs.inside.Output.{output, put_all};
 ghost use Rattle.saturate_merge.specs.inside.Streams.{streams, AllRising};
-ghost use Rattle.saturate_schema.specs.inside.Nodes.{propertyNode};
+ghost use Rattle.saturate_schema.specs.inside.Nodes.{property_node};
 ghost use Rattle.saturate_schema.specs.inside.Groups.{Statements};
-ghost use Rattle.saturate_schema.specs.inside.Compiled.{propertyAt, nodeBit};
+ghost use Rattle.saturate_schema.specs.inside.Compiled.{property_at, node_bit};
 ghost use Rattle.saturate_counts.specs.inside.Prepared.{Square};
 ghost use Rattle.saturate_blocks.specs.inside.Blocks.{OneSubject, Block, Gathered};
 ghost use Rattle.saturate_blocks.specs.inside.Plain.{ones, Split};
@@ -18,7 +18,7 @@ fn leads_to(statements: &[u32], sizes: Sizes, domains: &[u8], p: u32, c: usize) 
     requires statements { Statements statements.now sizes.statements }
     requires square { Square statements.now sizes.statements sizes.columns domains.now }
     requires c_lt_columns { (c < sizes.columns) × (sizes.columns ≤ 512) }
-    ensures { result ≡ eqb (nodeBit statements.now sizes.statements domains.now (propertyNode p) c) 1 }
+    ensures { result ≡ eqb (node_bit statements.now sizes.statements domains.now (property_node p) c) 1 }
 {
     let m = sizes.statements;
     let g = saturate_groups::property_group(statements, m, p);
@@ -32,7 +32,7 @@ fn leads_to(statements: &[u32], sizes: Sizes, domains: &[u8], p: u32, c: usize) 
 fn block_end(f: &[u32], a: usize, e: usize) -> usize
     requires a_lt_e { (a < e) × (e * 3 < length f.now) }
     requires one_subject { OneSubject f.now a e }
-    ensures { Block f.now a result e (propertyAt f.now a) }
+    ensures { Block f.now a result e (property_at f.now a) }
 {
     let p = property_at(f, a);
     let mut z = a + 1;

@@ -2,12 +2,12 @@
 ghost use Rattle.std.specs.Prelude.{◌≡◌, cond, ℕ, ◌+◌, ◌-◌, ◌*◌, ◌^◌, ◌≤◌, ◌<◌, length, get_or};
 ghost use Rattle.saturate_schema.specs.inside.Squares.{at};
 ghost use Rattle.saturate_schema.specs.inside.Groups.{Statements};
-ghost use Rattle.saturate_schema.specs.inside.Compiled.{subjectAt, either, ownBit};
+ghost use Rattle.saturate_schema.specs.inside.Compiled.{subject_at, either, own_bit};
 ghost use Rattle.spec.specs.Tables.{count};
-ghost use Rattle.saturate_index.specs.inside.Index.{objectOf, Index, Once};
+ghost use Rattle.saturate_index.specs.inside.Index.{object_of, Index, Once};
 ghost use Rattle.saturate_counts.specs.inside.Prepared.{Square, Facts};
 ghost use Rattle.saturate_counts.specs.inside.Supported.{Range, CountsOf};
-ghost use Rattle.saturate_counts.specs.inside.Counting.{Added, either_at, otherBit, Summed};
+ghost use Rattle.saturate_counts.specs.inside.Counting.{Added, either_at, other_bit, Summed};
 
 use saturate_schema::{MOST_COLUMNS, Sizes};
 use table::{object_at, property_at, subject_at};
@@ -86,7 +86,7 @@ fn count_fact(
     requires square_2 { Square statements.now sizes.statements sizes.columns ranges.now }
     requires y_in_bounds { (y * 3 + 3 < length f.now) × (sizes.columns ≤ 512) × (sizes.columns ≤ length counts.old) }
     requires by_index { (c : ℕ) → c < sizes.columns → get_or counts.old c 0 + 1 < 2 ^ 32 }
-    ensures { Added counts.old counts.new (λ c. ownBit statements.now sizes.statements sizes.classes domains.now ranges.now f.now x c y) sizes.columns }
+    ensures { Added counts.old counts.new (λ c. own_bit statements.now sizes.statements sizes.classes domains.now ranges.now f.now x c y) sizes.columns }
 {
     let m = sizes.statements;
     let nc = sizes.classes;
@@ -125,7 +125,7 @@ fn count_subject(
     requires square_2 { Square statements.now sizes.statements sizes.columns ranges.now }
     requires first_le_end { (own.first ≤ own.end) × (own.end * 3 < length f.now) × (sizes.columns ≤ 512) × (sizes.columns ≤ length counts.old) }
     requires by_index { (c : ℕ) → c < sizes.columns → get_or counts.old c 0 + (own.end - own.first) < 2 ^ 32 }
-    ensures { Summed counts.old counts.new (λ c y. ownBit statements.now sizes.statements sizes.classes domains.now ranges.now f.now own.term c y) sizes.columns own.first own.end }
+    ensures { Summed counts.old counts.new (λ c y. own_bit statements.now sizes.statements sizes.classes domains.now ranges.now f.now own.term c y) sizes.columns own.first own.end }
 {
     let x = own.term;
     let e = own.end;
@@ -150,7 +150,7 @@ fn count_other(
     requires square { Square statements.now sizes.statements sizes.columns ranges.now }
     requires y_in_bounds { (y * 3 + 3 < length f.now) × (sizes.classes ≤ sizes.columns) × (sizes.columns ≤ 512) × (sizes.columns ≤ length counts.old) }
     requires by_index { (c : ℕ) → c < sizes.classes → get_or counts.old c 0 + 1 < 2 ^ 32 }
-    ensures { Added counts.old counts.new (λ c. otherBit statements.now sizes.statements ranges.now f.now x c y) sizes.classes }
+    ensures { Added counts.old counts.new (λ c. other_bit statements.now sizes.statements ranges.now f.now x c y) sizes.classes }
 {
     let m = sizes.statements;
     if subject_at(f, y) == x {
@@ -177,7 +177,7 @@ fn count_object(
     requires from_le_to { (own.from ≤ own.to) × (own.to ≤ length ix.now) × (sizes.classes ≤ sizes.columns) × (sizes.columns ≤ 512) × (sizes.columns ≤ length counts.old) }
     requires by_index { (a : ℕ) → a < own.to → get_or ix.now a 0 * 3 + 3 < length f.now }
     requires by_index_2 { (c : ℕ) → c < sizes.classes → get_or counts.old c 0 + (own.to - own.from) < 2 ^ 32 }
-    ensures { Summed counts.old counts.new (λ c a. otherBit statements.now sizes.statements ranges.now f.now own.term c (get_or ix.now a 0)) sizes.classes own.from own.to }
+    ensures { Summed counts.old counts.new (λ c a. other_bit statements.now sizes.statements ranges.now f.now own.term c (get_or ix.now a 0)) sizes.classes own.from own.to }
 {
     let x = own.term;
     let h = own.to;
@@ -212,8 +212,8 @@ pub fn counts_of(
     requires facts { Facts f.now (count f.now) }
     requires index { Index f.now ix.now (count f.now) }
     requires once { Once (count f.now) ix.now }
-    requires range { Range (subjectAt f.now) (count f.now) own.term own.first own.end }
-    requires range_2 { Range (objectOf f.now ix.now) (count f.now) own.term own.from own.to }
+    requires range { Range (subject_at f.now) (count f.now) own.term own.first own.end }
+    requires range_2 { Range (object_of f.now ix.now) (count f.now) own.term own.from own.to }
     ensures { CountsOf statements.now sizes.statements domains.now ranges.now sizes.classes sizes.columns f.now (count f.now) own.term result }
 {
     let mut counts = no_counts();

@@ -1,5 +1,5 @@
 // The statements of a class or a property, found in the table of statements.
-ghost use Rattle.saturate_schema.specs.inside.Nodes.{propertyNode, subjectNode, Found};
+ghost use Rattle.saturate_schema.specs.inside.Nodes.{property_node, subject_node, Found};
 ghost use Rattle.saturate_schema.specs.inside.Groups.{Statements, Group};
 
 use saturate_schema::subject_node;
@@ -12,7 +12,7 @@ use terms::Term;
 fn first_of_group(statements: &[u32], m: usize, a: u32, k: u32, x: u64) -> usize
     requires statements { Statements statements.now m }
     requires group { Group statements.now m a k x }
-    ensures { Found (subjectNode statements.now) m x result }
+    ensures { Found (subject_node statements.now) m x result }
 {
     let least = Triple {
         subject: a,
@@ -31,7 +31,7 @@ fn first_of_group(statements: &[u32], m: usize, a: u32, k: u32, x: u64) -> usize
 // The first statement 3, 4 or 5 of the property p; m where there is none.
 pub fn property_group(statements: &[u32], m: usize, p: u32) -> usize
     requires { Statements statements.now m }
-    ensures { Found (subjectNode statements.now) m (propertyNode p) result }
+    ensures { Found (subject_node statements.now) m (property_node p) result }
 {
     let x = wide(p) + WORDS;
     first_of_group(statements, m, p, Term::SUB_PROPERTY_OF, x)
@@ -40,7 +40,7 @@ pub fn property_group(statements: &[u32], m: usize, p: u32) -> usize
 // The first statement 2 of the class c; m where there is none.
 pub fn class_group(statements: &[u32], m: usize, c: u32) -> usize
     requires { Statements statements.now m }
-    ensures { Found (subjectNode statements.now) m c result }
+    ensures { Found (subject_node statements.now) m c result }
 {
     let x = wide(c);
     first_of_group(statements, m, c, Term::SUB_CLASS_OF, x)

@@ -7,58 +7,58 @@ use lib.ListN.{length, get_or}
 use Rattle.spec.specs.Terms.{triple}
 use Rattle.spec.specs.Saturation.{Kept}
 use Rattle.spec.specs.inside.Counts.{Counts}
-use Rattle.saturate_merge.specs.inside.Output.{Output, putOne, put_all}
+use Rattle.saturate_merge.specs.inside.Output.{Output, put_one, put_all}
 use Rattle.saturate_merge.specs.inside.Between.{between}
-use Rattle.saturate_merge.specs.inside.Streams.{leastOf, hits, strips, tally, AllRising, streams, Inside, Tallied}
-use Rattle.saturate_merge.proofs.Streams.{tally-below, tally-least, hits-least, tally-strips, rising-strips, least-strips, tally-above, remaining, remaining-strips, least-small}
-use Rattle.saturate_merge.proofs.Listing.{Listing, listing_start, listing-put, listing-end}
+use Rattle.saturate_merge.specs.inside.Streams.{least_of, hits, strips, tally, AllRising, streams, Inside, Tallied}
+use Rattle.saturate_merge.proofs.Streams.{tally_below, tally_least, hits_least, tally-strips, rising-strips, least-strips, tally_above, remaining, remaining-strips, least_small}
+use Rattle.saturate_merge.proofs.Listing.{Listing, listing_start, listing-put, listing_end}
 
 -- The rows below the least object are put, and the streams have the others.
 abbrev Merging : Kept → ℕ → ℕ → ℕ → Output → Output → List (List ℕ) → Type 0
-Merging K x q room out₀ out ls = Listing K x q room out₀ out (λ o. tally o ls) (leastOf ls)
+Merging K x q room out₀ out ls = Listing K x q room out₀ out (λ o. tally o ls) (least_of ls)
 
-merge-start : (K : Kept) (x q room : ℕ) (out : Output) (ls : List (List ℕ)) → Counts K → AllRising ls → Tallied K x q ls → Merging K x q room out out ls
-merge-start K x q room out ls a r t = listing_start K x q room out (λ o. tally o ls) (leastOf ls) a t (λ o h. tally-below o ls r h)
+merge_start : (K : Kept) (x q room : ℕ) (out : Output) (ls : List (List ℕ)) → Counts K → AllRising ls → Tallied K x q ls → Merging K x q room out out ls
+merge_start K x q room out ls a r t = listing_start K x q room out (λ o. tally o ls) (least_of ls) a t (λ o h. tally_below o ls r h)
 
-merge-turn : (K : Kept) (x q room : ℕ) (out₀ out : Output) (ls : List (List ℕ)) → Counts K → AllRising ls → leastOf ls < 2 ^ 32 → Merging K x q room out₀ out ls → Merging K x q room out₀ (putOne room (triple x q (leastOf ls), hits (leastOf ls) ls) out) (strips (leastOf ls) ls)
-merge-turn K x q room out₀ out ls a r lt g =
-    let m = leastOf ls in
-    listing-put K x q room out₀ out (λ o. tally o ls) (λ o. tally o (strips m ls)) m (leastOf (strips m ls)) (hits m ls) a g (tally-least ls r) (hits-least ls lt)
-    (least-strips m ls r (omega arith) lt) (λ o h. tally-strips m o ls h) (λ o _ h. tally-below o (strips m ls) (rising-strips m ls r) h)
+merge_turn : (K : Kept) (x q room : ℕ) (out₀ out : Output) (ls : List (List ℕ)) → Counts K → AllRising ls → least_of ls < 2 ^ 32 → Merging K x q room out₀ out ls → Merging K x q room out₀ (put_one room (triple x q (least_of ls), hits (least_of ls) ls) out) (strips (least_of ls) ls)
+merge_turn K x q room out₀ out ls a r lt g =
+    let m = least_of ls in
+    listing-put K x q room out₀ out (λ o. tally o ls) (λ o. tally o (strips m ls)) m (least_of (strips m ls)) (hits m ls) a g (tally_least ls r) (hits_least ls lt)
+    (least-strips m ls r (omega arith) lt) (λ o h. tally-strips m o ls h) (λ o _ h. tally_below o (strips m ls) (rising-strips m ls r) h)
 
-merge-end : (K : Kept) (x q room : ℕ) (out₀ out : Output) (ls : List (List ℕ)) → Counts K → AllRising ls → leastOf ls ≡ 2 ^ 32 → Merging K x q room out₀ out ls → out ≡ put_all room (between (triple x q 0) (triple x (q + 1) 0) K) out₀
-merge-end K x q room out₀ out ls a r top g = listing-end K x q room out₀ out (λ o. tally o ls) (leastOf ls) a g (λ o h. tally-above o ls r (omega arith))
+merge_end : (K : Kept) (x q room : ℕ) (out₀ out : Output) (ls : List (List ℕ)) → Counts K → AllRising ls → least_of ls ≡ 2 ^ 32 → Merging K x q room out₀ out ls → out ≡ put_all room (between (triple x q 0) (triple x (q + 1) 0) K) out₀
+merge_end K x q room out₀ out ls a r top g = listing_end K x q room out₀ out (λ o. tally o ls) (least_of ls) a g (λ o h. tally_above o ls r (omega arith))
 
 -- What holds at each turn of the loop.
 pub record Turn (f ends₀ ends : List ℕ) (k x q room : ℕ) (out₀ out : Output) (o : ℕ) : Type 0 where
   pub fits : Inside f ends k
   pub rising : AllRising (streams f ends k)
-  pub first : o ≡ leastOf (streams f ends k)
+  pub first : o ≡ least_of (streams f ends k)
   pub same-words : length out.words ≡ length out₀.words
-  pub same-supports : length out.supports ≡ length out₀.supports
+  pub same_supports : length out.supports ≡ length out₀.supports
   pub same_ends : length ends ≡ length ends₀
   pub rows : (K : Kept) → Counts K → Tallied K x q (streams f ends₀ k) → Merging K x q room out₀ out (streams f ends k)
 
-pub turn-start : (f ends : List ℕ) (k x q room : ℕ) (out : Output) (o : ℕ) → Inside f ends k → AllRising (streams f ends k) → o ≡ leastOf (streams f ends k) → Turn f ends ends k x q room out out o
-turn-start f ends k x q room out o i r e = record { fits = i; rising = r; first = e; same-words = refl; same-supports = refl; same_ends = refl; rows = λ K a t. merge-start K x q room out (streams f ends k) a r t }
+pub turn_start : (f ends : List ℕ) (k x q room : ℕ) (out : Output) (o : ℕ) → Inside f ends k → AllRising (streams f ends k) → o ≡ least_of (streams f ends k) → Turn f ends ends k x q room out out o
+turn_start f ends k x q room out o i r e = record { fits = i; rising = r; first = e; same-words = refl; same_supports = refl; same_ends = refl; rows = λ K a t. merge_start K x q room out (streams f ends k) a r t }
 
-pub turn_more : (f ends₀ ends ends' : List ℕ) (k x q room : ℕ) (out₀ out out' : Output) (o o' c : ℕ) → Turn f ends₀ ends k x q room out₀ out o → o < 2 ^ 32 → length ends' ≡ length ends → c ≡ hits o (streams f ends k) → streams f ends' k ≡ strips o (streams f ends k) → ((y : ℕ) → get_or ends' (y * 2 + 1) 0 ≡ get_or ends (y * 2 + 1) 0) → out' ≡ putOne room (triple x q o, c) out → length out'.words ≡ length out.words → length out'.supports ≡ length out.supports → o' ≡ leastOf (streams f ends' k) → Turn f ends₀ ends' k x q room out₀ out' o'
+pub turn_more : (f ends₀ ends ends' : List ℕ) (k x q room : ℕ) (out₀ out out' : Output) (o o' c : ℕ) → Turn f ends₀ ends k x q room out₀ out o → o < 2 ^ 32 → length ends' ≡ length ends → c ≡ hits o (streams f ends k) → streams f ends' k ≡ strips o (streams f ends k) → ((y : ℕ) → get_or ends' (y * 2 + 1) 0 ≡ get_or ends (y * 2 + 1) 0) → out' ≡ put_one room (triple x q o, c) out → length out'.words ≡ length out.words → length out'.supports ≡ length out.supports → o' ≡ least_of (streams f ends' k) → Turn f ends₀ ends' k x q room out₀ out' o'
 turn_more f ends₀ ends ends' k x q room out₀ out out' o o' c g lt l ec es same est lw ls e' =
     record {
       fits = (omega (arith, g.fits.0), λ y h. rw (same y) (g.fits.1 y h));
       rising = rw es (rising-strips o (streams f ends k) g.rising);
       first = e';
       same-words = lw ∙ g.same-words;
-      same-supports = ls ∙ g.same-supports;
+      same_supports = ls ∙ g.same_supports;
       same_ends = l ∙ g.same_ends;
-      rows = λ K a t. rw (est, ec, es, g.first) (merge-turn K x q room out₀ out (streams f ends k) a g.rising (rw g.first at lt) (g.rows K a t));
+      rows = λ K a t. rw (est, ec, es, g.first) (merge_turn K x q room out₀ out (streams f ends k) a g.rising (rw g.first at lt) (g.rows K a t));
     }
 
 pub turn-less : (f ends₀ ends ends' : List ℕ) (k x q room : ℕ) (out₀ out : Output) (o : ℕ) → Turn f ends₀ ends k x q room out₀ out o → o < 2 ^ 32 → streams f ends' k ≡ strips o (streams f ends k) → remaining (streams f ends' k) < remaining (streams f ends k)
 turn-less f ends₀ ends ends' k x q room out₀ out o g lt es =
-    let h : 0 < hits o (streams f ends k) = rw g.first (hits-least (streams f ends k) (rw g.first at lt)) in
+    let h : 0 < hits o (streams f ends k) = rw g.first (hits_least (streams f ends k) (rw g.first at lt)) in
     rw es (omega (arith, remaining-strips o (streams f ends k)))
 
 pub turn_end : (f ends₀ ends : List ℕ) (k x q room : ℕ) (out₀ out : Output) (o : ℕ) → Turn f ends₀ ends k x q room out₀ out o → 2 ^ 32 ≤ o → (K : Kept) → Counts K → Tallied K x q (streams f ends₀ k) → out ≡ put_all room (between (triple x q 0) (triple x (q + 1) 0) K) out₀
 turn_end f ends₀ ends k x q room out₀ out o g le K a t =
-    merge-end K x q room out₀ out (streams f ends k) a g.rising (omega (arith, g.first, least-small (streams f ends k))) (g.rows K a t)
+    merge_end K x q room out₀ out (streams f ends k) a g.rising (omega (arith, g.first, least_small (streams f ends k))) (g.rows K a t)

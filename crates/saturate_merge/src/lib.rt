@@ -4,8 +4,8 @@ ghost use Rattle.std.specs.Prelude.{◌≡◌, ℕ, ◌+◌, ◌-◌, ◌*◌, �
 ghost use Rattle.spec.specs.Terms.{triple};
 ghost use Rattle.spec.specs.Saturation.{Kept};
 ghost use Rattle.spec.specs.inside.Counts.{Counts};
-ghost use Rattle.saturate_merge.specs.inside.Output.{output, putOne, put_all};
-ghost use Rattle.saturate_merge.specs.inside.Streams.{frontOf, lesserOf, objects, streams, leastOf, hits, strips, Inside, AllRising, Tallied};
+ghost use Rattle.saturate_merge.specs.inside.Output.{output, put_one, put_all};
+ghost use Rattle.saturate_merge.specs.inside.Streams.{front_of, lesser_of, objects, streams, least_of, hits, strips, Inside, AllRising, Tallied};
 ghost use Rattle.saturate_merge.specs.inside.Between.{between};
 
 use spec::Triple;
@@ -26,7 +26,7 @@ pub fn put(
     support: u16,
 ) -> usize
     requires { (room * 3 < length kept.old) × (room ≤ length supports.old) × (room ≤ 2 ^ 32) }
-    ensures { output kept.new supports.new result ≡ putOne room (triple s p o, support) (output kept.old supports.old n) }
+    ensures { output kept.new supports.new result ≡ put_one room (triple s p o, support) (output kept.old supports.old n) }
 {
     if n < room {
         let row = Triple {
@@ -46,14 +46,14 @@ pub fn put(
 // The object at the front of the rows a .. b, 2^32 where there are none.
 fn front(f: &[u32], a: usize, b: usize) -> u64
     requires { b * 3 < length f.now }
-    ensures { result ≡ frontOf (objects f.now a (b - a)) }
+    ensures { result ≡ front_of (objects f.now a (b - a)) }
 {
     if a < b { wide(object_at(f, a)) } else { WORDS }
 }
 
 // The lesser of two numbers.
 pub fn lesser(a: u64, b: u64) -> u64
-    ensures { result ≡ lesserOf a b }
+    ensures { result ≡ lesser_of a b }
 {
     if a < b { a } else { b }
 }
@@ -61,7 +61,7 @@ pub fn lesser(a: u64, b: u64) -> u64
 // The least object at the front of the first k streams, 2^32 where all are at their end.
 fn least(f: &[u32], ends: &[usize], k: usize) -> u64
     requires { Inside f.now ends.now k }
-    ensures { result ≡ leastOf (streams f.now ends.now k) }
+    ensures { result ≡ least_of (streams f.now ends.now k) }
 {
     let mut best = WORDS;
     let mut y = 0;

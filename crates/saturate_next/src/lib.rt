@@ -1,8 +1,8 @@
 // The next subject of a row, and the ends of the facts that have it as their subject, and as their object.
 ghost use Rattle.std.specs.Prelude.{◌≡◌, ◌+◌, ◌*◌, ◌≤◌, ◌<◌, length, get_or};
-ghost use Rattle.saturate_schema.specs.inside.Compiled.{subjectAt};
-ghost use Rattle.saturate_index.specs.inside.Index.{objectOf, Index};
-ghost use Rattle.saturate_next.specs.inside.Run.{EndOf, subjectFrom, thingFrom, nextSubject};
+ghost use Rattle.saturate_schema.specs.inside.Compiled.{subject_at};
+ghost use Rattle.saturate_index.specs.inside.Index.{object_of, Index};
+ghost use Rattle.saturate_next.specs.inside.Run.{EndOf, subject_from, thing_from, next_subject};
 
 use saturate_merge::lesser;
 use table::{WORDS, object_at, subject_at, wide};
@@ -10,7 +10,7 @@ use table::{WORDS, object_at, subject_at, wide};
 // The end of the facts from i on, below n, whose subject is x.
 pub fn subject_end(f: &[u32], n: usize, i: usize, x: u32) -> usize
     requires { (i ≤ n) × (n * 3 < length f.now) }
-    ensures { EndOf (subjectAt f.now) n x i result }
+    ensures { EndOf (subject_at f.now) n x i result }
 {
     let mut e = i;
     while e < n {
@@ -26,7 +26,7 @@ pub fn subject_end(f: &[u32], n: usize, i: usize, x: u32) -> usize
 fn object_of(f: &[u32], ix: &[u32], a: usize) -> u32
     requires a_in_bounds { a < length ix.now }
     requires a_in_bounds_2 { get_or ix.now a 0 * 3 + 3 < length f.now }
-    ensures { result ≡ objectOf f.now ix.now a }
+    ensures { result ≡ object_of f.now ix.now a }
 {
     object_at(f, ix[a] as usize)
 }
@@ -35,7 +35,7 @@ fn object_of(f: &[u32], ix: &[u32], a: usize) -> u32
 pub fn object_end(f: &[u32], ix: &[u32], n: usize, j: usize, x: u32) -> usize
     requires j_le_n { j ≤ n }
     requires index { Index f.now ix.now n }
-    ensures { EndOf (objectOf f.now ix.now) n x j result }
+    ensures { EndOf (object_of f.now ix.now) n x j result }
 {
     let mut h = j;
     while h < n {
@@ -50,7 +50,7 @@ pub fn object_end(f: &[u32], ix: &[u32], n: usize, j: usize, x: u32) -> usize
 // The subject of fact i, 2^32 where there is none.
 fn subject_from(f: &[u32], n: usize, i: usize) -> u64
     requires { n * 3 < length f.now }
-    ensures { result ≡ subjectFrom f.now n i }
+    ensures { result ≡ subject_from f.now n i }
 {
     if i < n { wide(subject_at(f, i)) } else { WORDS }
 }
@@ -61,7 +61,7 @@ const LITERALS: u64 = 2147483648;
 // The object at place j of the index, 2^32 where there is none or it is a literal.
 fn thing_from(f: &[u32], ix: &[u32], n: usize, j: usize) -> u64
     requires { Index f.now ix.now n }
-    ensures { result ≡ thingFrom f.now ix.now n j }
+    ensures { result ≡ thing_from f.now ix.now n j }
 {
     if j < n {
         let o = wide(object_of(f, ix, j));
@@ -75,7 +75,7 @@ fn thing_from(f: &[u32], ix: &[u32], n: usize, j: usize) -> u64
 // The next subject of a row, 2^32 where there is none.
 pub fn next_subject(f: &[u32], ix: &[u32], n: usize, i: usize, j: usize) -> u64
     requires { Index f.now ix.now n }
-    ensures { result ≡ nextSubject f.now ix.now n i j }
+    ensures { result ≡ next_subject f.now ix.now n i j }
 {
     lesser(subject_from(f, n, i), thing_from(f, ix, n, j))
 }

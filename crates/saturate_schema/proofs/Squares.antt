@@ -11,12 +11,12 @@ use Rattle.saturate_schema.specs.inside.Nodes.{word}
 use Rattle.saturate_schema.specs.inside.Squares.{at, Bits, United, Joined, Gained}
 
 -- No column was done yet.
-pub united-start : (sq gain : List ℕ) (a : ℕ) → United sq sq gain a 0
-united-start sq gain a = record { hit = λ c h g. absurd (omega arith); miss = λ c h n. refl; past = λ c h k. refl; other = λ i c h n. refl }
+pub united_start : (sq gain : List ℕ) (a : ℕ) → United sq sq gain a 0
+united_start sq gain a = record { hit = λ c h g. absurd (omega arith); miss = λ c h n. refl; past = λ c h k. refl; other = λ i c h n. refl }
 
 -- One column more.
-pub united-more : (sq₀ sq gain : List ℕ) (a k v : ℕ) → United sq₀ sq gain a k → k < 512 → a * 512 + k < length sq → (get_or gain k 0 ≡ 1 → v ≡ 1) → (¬ (get_or gain k 0 ≡ 1) → v ≡ at sq a k) → United sq₀ (set sq (a * 512 + k) v) gain a (k + 1)
-united-more sq₀ sq gain a k v g lk ln one old =
+pub united_more : (sq₀ sq gain : List ℕ) (a k v : ℕ) → United sq₀ sq gain a k → k < 512 → a * 512 + k < length sq → (get_or gain k 0 ≡ 1 → v ≡ 1) → (¬ (get_or gain k 0 ≡ 1) → v ≡ at sq a k) → United sq₀ (set sq (a * 512 + k) v) gain a (k + 1)
+united_more sq₀ sq gain a k v g lk ln one old =
     record {
       hit = λ c h q. by_cases (ℕ_discrete c k)
           (λ e. rw e (get_or-set_same sq (a * 512 + k) v 0 ln ∙ one (rw e at q)))
@@ -29,8 +29,8 @@ united-more sq₀ sq gain a k v g lk ln one old =
     }
 
 -- What is united of bits is bits.
-pub united-bits : (sq₀ sq gain : List ℕ) (a k : ℕ) → United sq₀ sq gain a k → Bits sq₀ → Bits sq
-united-bits sq₀ sq gain a k u b i c l =
+pub united_bits : (sq₀ sq gain : List ℕ) (a k : ℕ) → United sq₀ sq gain a k → Bits sq₀ → Bits sq
+united_bits sq₀ sq gain a k u b i c l =
     by_cases (ℕ_discrete i a)
     (λ e. rw e (by_cases (ℕ_discrete (get_or gain c 0) 1)
     (λ q. by_cases (dec_lt c k) (λ h. omega (arith, u.hit c h q)) (λ h. omega (arith, u.past c l (omega arith), b a c l)))
@@ -53,13 +53,13 @@ pub record Spread (bit₀ bit : ℕ → ℕ → ℕ) (gain : ℕ → ℕ) (leads
   pub rest : (j c : ℕ) → i ≤ j → c < ns → bit j c ≡ bit₀ j c
 
 -- No row was done yet.
-pub spread-start : (bit : ℕ → ℕ → ℕ) (gain : ℕ → ℕ) (leads : ℕ → Type 0) (ns : ℕ) → Spread bit bit gain leads ns 0
-spread-start bit gain leads ns = record { done = λ j c h l. absurd (omega arith); rest = λ j c h l. refl }
+pub spread_start : (bit : ℕ → ℕ → ℕ) (gain : ℕ → ℕ) (leads : ℕ → Type 0) (ns : ℕ) → Spread bit bit gain leads ns 0
+spread_start bit gain leads ns = record { done = λ j c h l. absurd (omega arith); rest = λ j c h l. refl }
 
 module _ (bit₀ bit : ℕ → ℕ → ℕ) (gain : ℕ → ℕ) (leads : ℕ → Type 0) (ns i : ℕ) (g : Spread bit₀ bit gain leads ns i) where
   -- The next row leads there and was united with gain.
-  pub spread-yes : (bit' : ℕ → ℕ → ℕ) (n : ℕ) → ns ≤ n → leads i → Joined bit bit' gain i n → Spread bit₀ bit' gain leads ns (i + 1)
-  spread-yes bit' n le yes' u =
+  pub spread_yes : (bit' : ℕ → ℕ → ℕ) (n : ℕ) → ns ≤ n → leads i → Joined bit bit' gain i n → Spread bit₀ bit' gain leads ns (i + 1)
+  spread_yes bit' n le yes' u =
       record {
         done = λ j c h l. by_cases (ℕ_discrete j i) (λ e. rw e (here c l)) (λ k. rw (u.other j c (omega arith) k) (g.done j c (omega arith) l));
         rest = λ j c h l. u.other j c (omega arith) (λ e. omega arith) ∙ g.rest j c (omega arith) l;
@@ -72,8 +72,8 @@ module _ (bit₀ bit : ℕ → ℕ → ℕ) (gain : ℕ → ℕ) (leads : ℕ �
           (λ h. ⊎_elim (λ o. inl (sym old ∙ o)) (λ q. inr (yes', q)) (k.0 h), λ z. k.1 (⊎_elim (λ o. inl (old ∙ o)) (λ w. inr w.1) z))
 
   -- The next row does not lead there.
-  pub spread-no : ¬ leads i → Spread bit₀ bit gain leads ns (i + 1)
-  spread-no none =
+  pub spread_no : ¬ leads i → Spread bit₀ bit gain leads ns (i + 1)
+  spread_no none =
       record {
         done = λ j c h l. by_cases (ℕ_discrete j i) (λ e. rw e (here c l)) (λ n. g.done j c (omega arith) l);
         rest = λ j c h l. g.rest j c (omega arith) l;
@@ -85,8 +85,8 @@ module _ (bit₀ bit : ℕ → ℕ → ℕ) (gain : ℕ → ℕ) (leads : ℕ �
           (λ h. inl (sym old ∙ h), λ z. ⊎_elim (λ o. old ∙ o) (λ w. absurd (none w.0)) z)
 
 -- One column more.
-pub gained-more : (bit : ℕ → ℕ → ℕ) (gain : List ℕ) (go m so k v : ℕ) → Gained bit (word gain) go m so k → k < length gain → ((v ≡ 1) ↔ ((k ≡ so) ⊎ ((go < m) × (bit go k ≡ 1)))) → Gained bit (word (set gain k v)) go m so (k + 1)
-gained-more bit gain go m so k v g l h c lc =
+pub gained_more : (bit : ℕ → ℕ → ℕ) (gain : List ℕ) (go m so k v : ℕ) → Gained bit (word gain) go m so k → k < length gain → ((v ≡ 1) ↔ ((k ≡ so) ⊎ ((go < m) × (bit go k ≡ 1)))) → Gained bit (word (set gain k v)) go m so (k + 1)
+gained_more bit gain go m so k v g l h c lc =
     by_cases (ℕ_discrete c k)
     (λ e. rw (e, get_or-set_same gain k v 0 l) h)
     (λ n. rw (get_or-set_other gain k c v 0 n) (g c (omega arith)))

@@ -15,25 +15,25 @@ unfolding sum_to
 sum_more h n = rw (add-one n)
 
 -- Equal terms, equal sums.
-pub sum-ext : (h g : ℕ → ℕ) (n : ℕ) → ((y : ℕ) → y < n → h y ≡ g y) → sum_to h n ≡ sum_to g n
+pub sum_ext : (h g : ℕ → ℕ) (n : ℕ) → ((y : ℕ) → y < n → h y ≡ g y) → sum_to h n ≡ sum_to g n
 unfolding sum_to
-sum-ext h g zero e = refl
-sum-ext h g (suc n) e = omega (arith, e n (omega arith), sum-ext h g n (λ y l. e y (omega arith)))
+sum_ext h g zero e = refl
+sum_ext h g (suc n) e = omega (arith, e n (omega arith), sum_ext h g n (λ y l. e y (omega arith)))
 
 -- Nothing is added where each term is 0.
-pub sum-zero : (h : ℕ → ℕ) (n : ℕ) → ((y : ℕ) → y < n → h y ≡ 0) → sum_to h n ≡ 0
+pub sum_zero : (h : ℕ → ℕ) (n : ℕ) → ((y : ℕ) → y < n → h y ≡ 0) → sum_to h n ≡ 0
 unfolding sum_to
-sum-zero h zero e = refl
-sum-zero h (suc n) e = omega (arith, e n (omega arith), sum-zero h n (λ y l. e y (omega arith)))
+sum_zero h zero e = refl
+sum_zero h (suc n) e = omega (arith, e n (omega arith), sum_zero h n (λ y l. e y (omega arith)))
 
 -- Nothing is added from e on, where each term is 0.
-pub sum-rest : (h : ℕ → ℕ) (e n : ℕ) → e ≤ n → ((y : ℕ) → e ≤ y → y < n → h y ≡ 0) → sum_to h n ≡ sum_to h e
+pub sum_rest : (h : ℕ → ℕ) (e n : ℕ) → e ≤ n → ((y : ℕ) → e ≤ y → y < n → h y ≡ 0) → sum_to h n ≡ sum_to h e
 unfolding sum_to
-sum-rest h e zero le z = let q : e ≡ 0 = omega arith in rw q
-sum-rest h e (suc n) le z =
+sum_rest h e zero le z = let q : e ≡ 0 = omega arith in rw q
+sum_rest h e (suc n) le z =
     by_cases (ℕ_discrete e (suc n))
     (λ q. rw q)
-    (λ k. omega (arith, z n (omega arith) (omega arith), sum-rest h e n (omega arith) (λ y a b. z y a (omega arith))))
+    (λ k. omega (arith, z n (omega arith) (omega arith), sum_rest h e n (omega arith) (λ y a b. z y a (omega arith))))
 
 -- A sum of sums, term by term.
 pub sum-add : (h a b : ℕ → ℕ) (n : ℕ) → ((y : ℕ) → y < n → h y ≡ a y + b y) → sum_to h n ≡ sum_to a n + sum_to b n
@@ -51,10 +51,10 @@ sum-between h g i (suc e) le q =
     (λ k. omega (arith, q e (omega arith) (omega arith), sum-between h g i e (omega arith) (λ y a b. q y a (omega arith))))
 
 -- Lesser terms, a lesser sum.
-pub sum-le : (h g : ℕ → ℕ) (n : ℕ) → ((y : ℕ) → y < n → h y ≤ g y) → sum_to h n ≤ sum_to g n
+pub sum_le : (h g : ℕ → ℕ) (n : ℕ) → ((y : ℕ) → y < n → h y ≤ g y) → sum_to h n ≤ sum_to g n
 unfolding sum_to
-sum-le h g zero e = omega arith
-sum-le h g (suc n) e = omega (arith, e n (omega arith), sum-le h g n (λ y l. e y (omega arith)))
+sum_le h g zero e = omega arith
+sum_le h g (suc n) e = omega (arith, e n (omega arith), sum_le h g n (λ y l. e y (omega arith)))
 
 -- A sum of bits is at most the number of places.
 pub sum_bound : (h : ℕ → ℕ) (n : ℕ) → ((y : ℕ) → y < n → h y ≤ 1) → sum_to h n ≤ n
@@ -63,14 +63,14 @@ sum_bound h zero e = omega arith
 sum_bound h (suc n) e = omega (arith, e n (omega arith), sum_bound h n (λ y l. e y (omega arith)))
 
 -- More places, no lesser sum.
-pub sum-grows : (h : ℕ → ℕ) (i n : ℕ) → i ≤ n → sum_to h i ≤ sum_to h n
+pub sum_grows : (h : ℕ → ℕ) (i n : ℕ) → i ≤ n → sum_to h i ≤ sum_to h n
 unfolding sum_to
-sum-grows h i zero le = let q : i ≡ 0 = omega arith in rw q (omega arith)
-sum-grows h i (suc n) le = by_cases (ℕ_discrete i (suc n)) (λ q. rw q (omega arith)) (λ k. omega (arith, sum-grows h i n (omega arith)))
+sum_grows h i zero le = let q : i ≡ 0 = omega arith in rw q (omega arith)
+sum_grows h i (suc n) le = by_cases (ℕ_discrete i (suc n)) (λ q. rw q (omega arith)) (λ k. omega (arith, sum_grows h i n (omega arith)))
 
 -- A term is at most the sum.
-pub sum-term : (h : ℕ → ℕ) (y n : ℕ) → y < n → h y ≤ sum_to h n
-sum-term h y n l = omega (arith, sum_more h y, sum-grows h (y + 1) n (omega arith))
+pub sum_term : (h : ℕ → ℕ) (y n : ℕ) → y < n → h y ≤ sum_to h n
+sum_term h y n l = omega (arith, sum_more h y, sum_grows h (y + 1) n (omega arith))
 
 -- The first place apart.
 pub sum_first : (h : ℕ → ℕ) (n : ℕ) → sum_to h (suc n) ≡ h 0 + sum_to (λ y. h (suc y)) n
@@ -79,11 +79,11 @@ sum_first h zero = refl
 sum_first h (suc n) = omega (arith, sum_first h n)
 
 -- The sum over an index is the sum of what its words give.
-pub sumAt-is : (h : ℕ → ℕ) (ix : List ℕ) (n : ℕ) → sum_at h ix n ≡ sum_to (λ a. h (get_or ix a 0)) n
+pub sum_at_is : (h : ℕ → ℕ) (ix : List ℕ) (n : ℕ) → sum_at h ix n ≡ sum_to (λ a. h (get_or ix a 0)) n
 unfolding sum_to sum_at
-sumAt-is h ix zero = refl
-sumAt-is h ix (suc n) = omega (arith, sumAt-is h ix n)
+sum_at_is h ix zero = refl
+sum_at_is h ix (suc n) = omega (arith, sum_at_is h ix n)
 
 -- Terms that are 0 before i and from e on, and between as those of g, add what those add there.
 pub sum-range : (h g : ℕ → ℕ) (i e n : ℕ) → i ≤ e → e ≤ n → ((y : ℕ) → y < i → h y ≡ 0) → ((y : ℕ) → i ≤ y → y < e → h y ≡ g y) → ((y : ℕ) → e ≤ y → y < n → h y ≡ 0) → sum_to h n + sum_to g i ≡ sum_to g e
-sum-range h g i e n l k a b c = omega (arith, sum-zero h i a, sum-between h g i e l b, sum-rest h e n k c)
+sum-range h g i e n l k a b c = omega (arith, sum_zero h i a, sum-between h g i e l b, sum_rest h e n k c)

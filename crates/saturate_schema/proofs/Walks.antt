@@ -7,14 +7,14 @@ use Prim.Native.Nat.{ℕ}
 use Rattle.saturate_schema.specs.inside.Walks.{Edge, Plus, edge, more}
 
 -- Two walks, one after the other.
-pub plus-trans : {E : List Edge} {a b c : ℕ} → Plus E a b → Plus E b c → Plus E a c
-plus-trans p (edge m) = more p m
-plus-trans p (more q m) = more (plus-trans p q) m
+pub plus_trans : {E : List Edge} {a b c : ℕ} → Plus E a b → Plus E b c → Plus E a c
+plus_trans p (edge m) = more p m
+plus_trans p (more q m) = more (plus_trans p q) m
 
 -- A walk needs no more than its edges.
-plus-weaken : {E : List Edge} (e : Edge) {a b : ℕ} → Plus E a b → Plus (e ∷ E) a b
-plus-weaken e (edge m) = edge (Memᴰ.tail m)
-plus-weaken e (more p m) = more (plus-weaken e p) (Memᴰ.tail m)
+plus_weaken : {E : List Edge} (e : Edge) {a b : ℕ} → Plus E a b → Plus (e ∷ E) a b
+plus_weaken e (edge m) = edge (Memᴰ.tail m)
+plus_weaken e (more p m) = more (plus_weaken e p) (Memᴰ.tail m)
 
 -- The node a is s, where an edge starts, or leads there.
 abbrev pub To : List Edge → ℕ → ℕ → Type 0
@@ -25,31 +25,31 @@ abbrev pub From : List Edge → ℕ → ℕ → Type 0
 From E d b = (b ≡ d) ⊎ Plus E d b
 
 -- A walk through the edge e.
-by-edge : {E : List Edge} (e : Edge) {a b : ℕ} → To E a e.0 → From E e.1 b → Plus (e ∷ E) a b
-by-edge {E} e {a} {b} (inl p) (inl q) = rw (p, q) (edge (Memᴰ.head refl))
-by-edge {E} e {a} {b} (inl p) (inr q) = rw p (plus-trans (edge (Memᴰ.head refl)) (plus-weaken e q))
-by-edge {E} e {a} {b} (inr p) (inl q) = rw q (more (plus-weaken e p) (Memᴰ.head refl))
-by-edge {E} e {a} {b} (inr p) (inr q) = plus-trans (more (plus-weaken e p) (Memᴰ.head refl)) (plus-weaken e q)
+by_edge : {E : List Edge} (e : Edge) {a b : ℕ} → To E a e.0 → From E e.1 b → Plus (e ∷ E) a b
+by_edge {E} e {a} {b} (inl p) (inl q) = rw (p, q) (edge (Memᴰ.head refl))
+by_edge {E} e {a} {b} (inl p) (inr q) = rw p (plus_trans (edge (Memᴰ.head refl)) (plus_weaken e q))
+by_edge {E} e {a} {b} (inr p) (inl q) = rw q (more (plus_weaken e p) (Memᴰ.head refl))
+by_edge {E} e {a} {b} (inr p) (inr q) = plus_trans (more (plus_weaken e p) (Memᴰ.head refl)) (plus_weaken e q)
 
 -- Equal edges start at one node,
-of-fst : {d e : Edge} → d ≡ e → d.0 ≡ e.0
-of-fst q = ap (λ (z : Edge). z.0) q
+of_fst : {d e : Edge} → d ≡ e → d.0 ≡ e.0
+of_fst q = ap (λ (z : Edge). z.0) q
 
 -- and end at one.
-of-snd : {d e : Edge} → d ≡ e → d.1 ≡ e.1
-of-snd q = ap (λ (z : Edge). z.1) q
+of_snd : {d e : Edge} → d ≡ e → d.1 ≡ e.1
+of_snd q = ap (λ (z : Edge). z.1) q
 
 -- The walks with the edge e in front of E.
 abbrev pub Grown : List Edge → Edge → ℕ → ℕ → Type 0
 Grown E e a b = Plus E a b ⊎ (To E a e.0 × From E e.1 b)
 
 -- One edge of them,
-grow-edge : {E : List Edge} (e : Edge) {a b : ℕ} → Memᴰ (a, b) (e ∷ E) → Grown E e a b
-grow-edge e m = ⊎_elim (λ q. inr (inl (of-fst q), inl (of-snd q))) (λ i. inl (edge i)) (Memᴰ.cases_cons m)
+grow_edge : {E : List Edge} (e : Edge) {a b : ℕ} → Memᴰ (a, b) (e ∷ E) → Grown E e a b
+grow_edge e m = ⊎_elim (λ q. inr (inl (of_fst q), inl (of_snd q))) (λ i. inl (edge i)) (Memᴰ.cases_cons m)
 
 -- one more,
-grow-more : {E : List Edge} (e : Edge) {a b c : ℕ} → Grown E e a b → Memᴰ (b, c) (e ∷ E) → Grown E e a c
-grow-more {E} e {a} {b} {c} g m = ⊎_elim (λ q. inr (reach g (of-fst q), inl (of-snd q))) (λ i. on g i) (Memᴰ.cases_cons m)
+grow_more : {E : List Edge} (e : Edge) {a b c : ℕ} → Grown E e a b → Memᴰ (b, c) (e ∷ E) → Grown E e a c
+grow_more {E} e {a} {b} {c} g m = ⊎_elim (λ q. inr (reach g (of_fst q), inl (of_snd q))) (λ i. on g i) (Memᴰ.cases_cons m)
   where
     reach : Grown E e a b → b ≡ e.0 → To E a e.0
     reach (inl p) q = inr (rw q at p)
@@ -62,12 +62,12 @@ grow-more {E} e {a} {b} {c} g m = ⊎_elim (λ q. inr (reach g (of-fst q), inl (
 
 -- or many.
 grow : {E : List Edge} (e : Edge) {a b : ℕ} → Plus (e ∷ E) a b → Grown E e a b
-grow e (edge m) = grow-edge e m
-grow e (more p m) = grow-more e (grow e p) m
+grow e (edge m) = grow_edge e m
+grow e (more p m) = grow_more e (grow e p) m
 
 -- The walks with one edge more are those without it, and those through it.
 pub plus-cons : (E : List Edge) (e : Edge) (a b : ℕ) → Plus (e ∷ E) a b ↔ Grown E e a b
-plus-cons E e a b = (grow e, λ g. ⊎_elim (plus-weaken e) (λ z. by-edge e z.0 z.1) g)
+plus-cons E e a b = (grow e, λ g. ⊎_elim (plus_weaken e) (λ z. by_edge e z.0 z.1) g)
 
 -- Without edges there is no walk.
 pub plus_nil : (a b : ℕ) → ¬ Plus [] a b
@@ -80,9 +80,9 @@ pub record EndsWith (E : List Edge) (b : ℕ) : Type 0 where
   pub there : Memᴰ (start, b) E
 
 -- It ends so.
-pub plus-ends : {E : List Edge} {a b : ℕ} → Plus E a b → EndsWith E b
-plus-ends {a} (edge m) = record { start = a; there = m }
-plus-ends (more {b} p m) = record { start = b; there = m }
+pub plus_ends : {E : List Edge} {a b : ℕ} → Plus E a b → EndsWith E b
+plus_ends {a} (edge m) = record { start = a; there = m }
+plus_ends (more {b} p m) = record { start = b; there = m }
 
 -- An edge that starts at a.
 pub record StartsWith (E : List Edge) (a : ℕ) : Type 0 where
@@ -90,6 +90,6 @@ pub record StartsWith (E : List Edge) (a : ℕ) : Type 0 where
   pub there : Memᴰ (a, end) E
 
 -- A walk starts so.
-pub plus-starts : {E : List Edge} {a b : ℕ} → Plus E a b → StartsWith E a
-plus-starts {b} (edge m) = record { end = b; there = m }
-plus-starts (more p m) = plus-starts p
+pub plus_starts : {E : List Edge} {a b : ℕ} → Plus E a b → StartsWith E a
+plus_starts {b} (edge m) = record { end = b; there = m }
+plus_starts (more p m) = plus_starts p

@@ -1,17 +1,17 @@
 // The rows of one subject, worked out from its facts, from the facts of which it is the object, and from the compiled statements, and put in
 // their order.
 ghost use Rattle.std.specs.Prelude.{◌≡◌, ℕ, ◌+◌, ◌*◌, ◌^◌, ◌≤◌, ◌<◌, length, false};
-ghost use Rattle.spec.specs.Terms.{triple, isLiteral};
+ghost use Rattle.spec.specs.Terms.{triple, is_literal};
 ghost use Rattle.spec.specs.Tables.{count};
 ghost use Rattle.spec.specs.Saturation.{Kept};
 ghost use Rattle.spec.specs.inside.Counts.{Counts};
 ghost use Rattle.saturate_merge.specs.inside.Output.{output, put_all};
 ghost use Rattle.saturate_merge.specs.inside.Between.{between};
 ghost use Rattle.saturate_schema.specs.inside.Groups.{Statements};
-ghost use Rattle.saturate_schema.specs.inside.Compiled.{subjectAt, propertyAt};
+ghost use Rattle.saturate_schema.specs.inside.Compiled.{subject_at, property_at};
 ghost use Rattle.saturate_blocks.specs.inside.Blocks.{OneSubject};
 ghost use Rattle.saturate_counts.specs.inside.Prepared.{Square, Keys, Prepared, Facts};
-ghost use Rattle.saturate_index.specs.inside.Index.{objectOf, Index, Once};
+ghost use Rattle.saturate_index.specs.inside.Index.{object_of, Index, Once};
 ghost use Rattle.saturate_counts.specs.inside.Supported.{Supported, Small, Range};
 ghost use Rattle.saturate_subject.specs.inside.Rows.{Of, ColumnRows, PropertyRows, Uncounted};
 
@@ -55,7 +55,7 @@ fn column_rows(
     requires statements_bound { (sizes.statements ≤ 512) × (column.column < sizes.columns) × (sizes.columns ≤ 512) × (column.first ≤ column.end) × (column.end * 3 < length f.now) × (1026 ≤ length ends.old) }
     requires square { Square statements.now sizes.statements sizes.columns domains.now }
     requires one_subject { OneSubject f.now column.first column.end }
-    requires first_le_from { (column.first ≤ column.from) × (column.from ≤ column.to) × (column.to ≤ column.end) × ((y : ℕ) → column.from ≤ y → y < column.to → propertyAt f.now y ≡ column.key) }
+    requires first_le_from { (column.first ≤ column.from) × (column.from ≤ column.to) × (column.to ≤ column.end) × ((y : ℕ) → column.from ≤ y → y < column.to → property_at f.now y ≡ column.key) }
     requires room_in_bounds { (room * 3 < length kept.old) × (room ≤ length supports.old) × (room ≤ 2 ^ 32) }
     ensures { (K : Kept) → Counts K → ColumnRows K statements.now sizes.statements domains.now column.column f.now column.subject column.key column.from column.to column.first column.end → output kept.new supports.new result ≡ put_all room (between (triple column.subject column.key 0) (triple column.subject (column.key + 1) 0) K) (output kept.old supports.old n0) }
 {
@@ -113,7 +113,7 @@ fn property_rows(
     requires facts { Facts f.now (count f.now) }
     requires statements_bound { (task.sizes.statements ≤ 512) × (t ≤ task.own.end) × (task.own.end ≤ count f.now) × (1026 ≤ length ends.old) }
     requires of { Of f.now task.own.term t task.own.end }
-    requires by_index { (y : ℕ) → t ≤ y → y < task.own.end → 2 ≤ propertyAt f.now y }
+    requires by_index { (y : ℕ) → t ≤ y → y < task.own.end → 2 ≤ property_at f.now y }
     requires uncounted { Uncounted statements.now task.sizes.statements domains.now task.sizes.classes task.sizes.columns counts.now f.now t task.own.end }
     requires room_in_bounds { (task.room * 3 < length kept.old) × (task.room ≤ length supports.old) × (task.room ≤ 2 ^ 32) }
     ensures { (K : Kept) → Counts K → PropertyRows K statements.now task.sizes.statements domains.now keys.now task.sizes.classes task.sizes.columns f.now task.own.term t task.own.end → output kept.new supports.new result ≡ put_all task.room (between (triple task.own.term 2 0) (triple (task.own.term + 1) 0 0) K) (output kept.old supports.old task.rows) }
@@ -170,9 +170,9 @@ pub fn subject_rows(
     requires index { Index f.now ix.now (count f.now) }
     requires once { Once (count f.now) ix.now }
     requires small { Small statements.now task.sizes.statements domains.now ranges.now keys.now task.sizes.classes f.now (count f.now) }
-    requires range { Range (subjectAt f.now) (count f.now) task.own.term task.own.first task.own.end }
-    requires range_2 { Range (objectOf f.now ix.now) (count f.now) task.own.term task.own.from task.own.to }
-    requires term_value { isLiteral task.own.term ≡ false }
+    requires range { Range (subject_at f.now) (count f.now) task.own.term task.own.first task.own.end }
+    requires range_2 { Range (object_of f.now ix.now) (count f.now) task.own.term task.own.from task.own.to }
+    requires term_value { is_literal task.own.term ≡ false }
     requires in_bounds { 1026 ≤ length ends.old }
     requires room_in_bounds { (task.room * 3 < length kept.old) × (task.room ≤ length supports.old) × (task.room ≤ 2 ^ 32) }
     ensures { (K : Kept) → Counts K → Supported K statements.now task.sizes.statements domains.now ranges.now keys.now task.sizes.classes task.sizes.columns f.now (count f.now) → output kept.new supports.new result ≡ put_all task.room (between (triple task.own.term 0 0) (triple (task.own.term + 1) 0 0) K) (output kept.old supports.old task.rows) }

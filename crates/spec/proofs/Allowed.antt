@@ -4,7 +4,7 @@ use mathlib.Core.Bool.{Bool, true, ◌&&◌}
 use mathlib.Core.List.{List, Memᴰ}
 use Prim.Native.Nat.{ℕ}
 use Rattle.spec.specs.declared.Triple.{Triple}
-use Rattle.spec.specs.Terms.{isUri, isResource, isTriple, isStatement, isClass, isProperty, areSidesAllowed, isAllowedStatement, triple, subClassOf, subPropertyOf}
+use Rattle.spec.specs.Terms.{is_uri, is_resource, is_triple, is_statement, is_class, is_property, are_sides_allowed, is_allowed_statement, triple, sub_class_of, sub_property_of}
 use Rattle.spec.proofs.Ascending.{and_left, and_right}
 use Rattle.spec.specs.inside.Stated.{Stated, explicit, rdfs5, rdfs11}
 
@@ -12,45 +12,45 @@ both : (a b : Bool) → a ≡ true → b ≡ true → (a && b) ≡ true
 both a b p q = rw (p, q)
 
 -- Terms that may be the parts make a triple.
-triple-of : (a k b : ℕ) → isResource a ≡ true → isUri k ≡ true → isResource b ≡ true → isTriple (triple a k b) ≡ true
-unfolding isTriple
-triple-of a k b p u q = rw (p, u, q)
+triple_of_lem : (a k b : ℕ) → is_resource a ≡ true → is_uri k ≡ true → is_resource b ≡ true → is_triple (triple a k b) ≡ true
+unfolding is_triple
+triple_of_lem a k b p u q = rw (p, u, q)
 
 -- 2 and 3 are URIs.
-two-uri : isUri 2 ≡ true
-unfolding isUri
-two-uri = refl
+two_uri : is_uri 2 ≡ true
+unfolding is_uri
+two_uri = refl
 
-three-uri : isUri 3 ≡ true
-unfolding isUri
-three-uri = refl
+three_uri : is_uri 3 ≡ true
+unfolding is_uri
+three_uri = refl
 
 -- A URI is a resource.
-uri-resource : (a : ℕ) → isUri a ≡ true → isResource a ≡ true
-uri-resource a e = rw e
+uri_resource : (a : ℕ) → is_uri a ≡ true → is_resource a ≡ true
+uri_resource a e = rw e
 
 -- Two classes make an allowed subclass statement,
-sub-class-allowed : (a b : ℕ) → isClass a ≡ true → isClass b ≡ true → isAllowedStatement (triple a subClassOf b) ≡ true
-unfolding isAllowedStatement isStatement areSidesAllowed
-sub-class-allowed a b p q = both _ _ (triple-of a 2 b (and_left _ _ p) two-uri (and_left _ _ q)) (both _ _ p q)
+sub_class_allowed : (a b : ℕ) → is_class a ≡ true → is_class b ≡ true → is_allowed_statement (triple a sub_class_of b) ≡ true
+unfolding is_allowed_statement is_statement are_sides_allowed
+sub_class_allowed a b p q = both _ _ (triple_of_lem a 2 b (and_left _ _ p) two_uri (and_left _ _ q)) (both _ _ p q)
 
 -- which has two classes.
-sub-class-sides : (a b : ℕ) → isAllowedStatement (triple a subClassOf b) ≡ true → (isClass a ≡ true) × (isClass b ≡ true)
-unfolding isAllowedStatement isStatement areSidesAllowed
-sub-class-sides a b e = let h = and_right (isTriple (triple a subClassOf b)) _ e in (and_left _ _ h, and_right (isClass a) _ h)
+sub_class_sides : (a b : ℕ) → is_allowed_statement (triple a sub_class_of b) ≡ true → (is_class a ≡ true) × (is_class b ≡ true)
+unfolding is_allowed_statement is_statement are_sides_allowed
+sub_class_sides a b e = let h = and_right (is_triple (triple a sub_class_of b)) _ e in (and_left _ _ h, and_right (is_class a) _ h)
 
 -- Two properties make an allowed subproperty statement,
-sub-property-allowed : (a b : ℕ) → isProperty a ≡ true → isProperty b ≡ true → isAllowedStatement (triple a subPropertyOf b) ≡ true
-unfolding isAllowedStatement isStatement areSidesAllowed
-sub-property-allowed a b p q = both _ _ (triple-of a 3 b (uri-resource a (and_left _ _ p)) three-uri (uri-resource b (and_left _ _ q))) (both _ _ p q)
+sub_property_allowed : (a b : ℕ) → is_property a ≡ true → is_property b ≡ true → is_allowed_statement (triple a sub_property_of b) ≡ true
+unfolding is_allowed_statement is_statement are_sides_allowed
+sub_property_allowed a b p q = both _ _ (triple_of_lem a 3 b (uri_resource a (and_left _ _ p)) three_uri (uri_resource b (and_left _ _ q))) (both _ _ p q)
 
 -- which has two properties.
-sub-property-sides : (a b : ℕ) → isAllowedStatement (triple a subPropertyOf b) ≡ true → (isProperty a ≡ true) × (isProperty b ≡ true)
-unfolding isAllowedStatement isStatement areSidesAllowed
-sub-property-sides a b e = let h = and_right (isTriple (triple a subPropertyOf b)) _ e in (and_left _ _ h, and_right (isProperty a) _ h)
+sub_property_sides : (a b : ℕ) → is_allowed_statement (triple a sub_property_of b) ≡ true → (is_property a ≡ true) × (is_property b ≡ true)
+unfolding is_allowed_statement is_statement are_sides_allowed
+sub_property_sides a b e = let h = and_right (is_triple (triple a sub_property_of b)) _ e in (and_left _ _ h, and_right (is_property a) _ h)
 
 -- Of allowed statements only allowed statements follow.
-pub stated-allowed : {S : List Triple} {t : Triple} → ((u : Triple) → Memᴰ u S → isAllowedStatement u ≡ true) → Stated S t → isAllowedStatement t ≡ true
-stated-allowed w (explicit m) = w _ m
-stated-allowed w (rdfs5 {x} {y} {z} p q) = sub-property-allowed x z (sub-property-sides x y (stated-allowed w p)).0 (sub-property-sides y z (stated-allowed w q)).1
-stated-allowed w (rdfs11 {x} {y} {z} p q) = sub-class-allowed x z (sub-class-sides x y (stated-allowed w p)).0 (sub-class-sides y z (stated-allowed w q)).1
+pub stated_allowed : {S : List Triple} {t : Triple} → ((u : Triple) → Memᴰ u S → is_allowed_statement u ≡ true) → Stated S t → is_allowed_statement t ≡ true
+stated_allowed w (explicit m) = w _ m
+stated_allowed w (rdfs5 {x} {y} {z} p q) = sub_property_allowed x z (sub_property_sides x y (stated_allowed w p)).0 (sub_property_sides y z (stated_allowed w q)).1
+stated_allowed w (rdfs11 {x} {y} {z} p q) = sub_class_allowed x z (sub_class_sides x y (stated_allowed w p)).0 (sub_class_sides y z (stated_allowed w q)).1

@@ -10,9 +10,9 @@ module _ {A : Type 0} (P : A → Type 0) where
   each_append (x ∷ xs) ys h k = (h.0, each_append xs ys h.1 k)
 
   -- and back.
-  pub each-front : (xs ys : List A) → Each P (xs ++ ys) → Each P xs
-  each-front [] ys h = tt
-  each-front (x ∷ xs) ys h = (h.0, each-front xs ys h.1)
+  pub each_front : (xs ys : List A) → Each P (xs ++ ys) → Each P xs
+  each_front [] ys h = tt
+  each_front (x ∷ xs) ys h = (h.0, each_front xs ys h.1)
 
   pub each_back : (xs ys : List A) → Each P (xs ++ ys) → Each P ys
   each_back [] ys h = h

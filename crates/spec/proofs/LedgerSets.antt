@@ -6,18 +6,18 @@ use mathlib.Core.Logic.{⊎_elim}
 use mathlib.Core.List.{List, [], ◌∷◌, Memᴰ}
 use native.Mathlib.Omega.{arith}
 use Rattle.spec.specs.declared.Triple.{Triple}
-use Rattle.spec.specs.Terms.{isTriple, isStatement, areSidesAllowed, isAllowedStatement, isAllowedFact}
+use Rattle.spec.specs.Terms.{is_triple, is_statement, are_sides_allowed, is_allowed_statement, is_allowed_fact}
 use Rattle.spec.specs.Order.{ListOf}
 use Rattle.spec.specs.Rules.{FollowsAsFact}
 use Rattle.spec.specs.inside.Comparison.{Ascending}
-use Rattle.spec.specs.Refusals.{firstRefusal, tripleChecks}
-use Rattle.spec.proofs.Lists.{by-test}
-use Rattle.spec.proofs.Ascending.{insert-asc, insert-cases, remove-asc, remove-sub, isAscending-iff}
-use Rattle.spec.specs.Saturation.{keptRows, keptSupports}
+use Rattle.spec.specs.Refusals.{first_refusal, triple_checks}
+use Rattle.spec.proofs.Lists.{by_test}
+use Rattle.spec.proofs.Ascending.{insert_asc, insert_cases, remove_asc, remove_sub, is_ascending_iff}
+use Rattle.spec.specs.Saturation.{kept_rows, kept_supports}
 use Rattle.spec.specs.computed.Saturated.{saturation}
-use Rattle.spec.proofs.Computed.{saturation-is}
-use Rattle.spec.proofs.Kept.{length-keptRows}
-use Rattle.spec.specs.Ledger.{isFitting}
+use Rattle.spec.proofs.Computed.{saturation_is}
+use Rattle.spec.proofs.Kept.{length-kept_rows}
+use Rattle.spec.specs.Ledger.{is_fitting}
 use Rattle.spec.specs.Tables.{Capacities, Ledger}
 use Rattle.spec.specs.declared.Change.{Change}
 use Rattle.spec.specs.declared.Change.TheVariants.{Addition, Withdrawal}
@@ -26,77 +26,77 @@ use Rattle.spec.specs.Demand3.{graph_of, Supported, FitsBy}
 
 -- Both sets ascend and hold allowed rows alone.
 pub record Allowed (L : Ledger) : Type 0 where
-  pub statements-ascend : Ascending L.statements
-  pub facts-ascend : Ascending L.facts
-  pub statements-allowed : (u : Triple) → Memᴰ u L.statements → isAllowedStatement u ≡ true
-  pub facts-allowed : (u : Triple) → Memᴰ u L.facts → isAllowedFact u ≡ true
+  pub statements_ascend : Ascending L.statements
+  pub facts_ascend : Ascending L.facts
+  pub statements_allowed : (u : Triple) → Memᴰ u L.statements → is_allowed_statement u ≡ true
+  pub facts_allowed : (u : Triple) → Memᴰ u L.facts → is_allowed_fact u ≡ true
 
 -- ---- what follows, and what carries it
 
 module _ {L : Ledger} (A : Allowed L) where
   -- The rows of the saturation are the facts that follow, and its supports the numbers of the facts that carry them.
-  saturated : ListOf (FollowsAsFact (graph_of L)) (keptRows (saturation L.statements L.facts))
-      × Supported L.statements L.facts (keptRows (saturation L.statements L.facts)) (keptSupports (saturation L.statements L.facts))
-  saturated = saturation-is A.statements-allowed L.facts ((isAscending-iff L.facts).1 A.facts-ascend) A.facts-allowed
+  saturated : ListOf (FollowsAsFact (graph_of L)) (kept_rows (saturation L.statements L.facts))
+      × Supported L.statements L.facts (kept_rows (saturation L.statements L.facts)) (kept_supports (saturation L.statements L.facts))
+  saturated = saturation_is A.statements_allowed L.facts ((is_ascending_iff L.facts).1 A.facts_ascend) A.facts_allowed
 
-  pub rows-follow : ListOf (FollowsAsFact (graph_of L)) (keptRows (saturation L.statements L.facts))
-  rows-follow = saturated.0
+  pub rows_follow : ListOf (FollowsAsFact (graph_of L)) (kept_rows (saturation L.statements L.facts))
+  rows_follow = saturated.0
 
-  pub rows-supported : Supported L.statements L.facts (keptRows (saturation L.statements L.facts)) (keptSupports (saturation L.statements L.facts))
-  rows-supported = saturated.1
+  pub rows_supported : Supported L.statements L.facts (kept_rows (saturation L.statements L.facts)) (kept_supports (saturation L.statements L.facts))
+  rows_supported = saturated.1
 
   -- Question 5 is asked on what follows.
-  pub fits_by : (C : Capacities) → FitsBy C.kept L (isFitting C L)
-  unfolding isFitting
+  pub fits_by : (C : Capacities) → FitsBy C.kept L (is_fitting C L)
+  unfolding is_fitting
   fits_by C = record {
-    kept = keptRows (saturation L.statements L.facts);
-    follow = rows-follow;
-    decided = rw (length-keptRows (saturation L.statements L.facts)) refl;
+    kept = kept_rows (saturation L.statements L.facts);
+    follow = rows_follow;
+    decided = rw (length-kept_rows (saturation L.statements L.facts)) refl;
   }
 
 -- ---- updates
 
 -- A triple that 2 and 3 pass may stand in its set.
-passed : (a b : Bool) → firstRefusal ((2, a) ∷ (3, b) ∷ []) ≡ 0 → (a ≡ true) × (b ≡ true)
-unfolding firstRefusal
+passed : (a b : Bool) → first_refusal ((2, a) ∷ (3, b) ∷ []) ≡ 0 → (a ≡ true) × (b ≡ true)
+unfolding first_refusal
 passed true true e = (refl, refl)
 passed true false e = absurd (omega arith)
 passed false b e = absurd (omega arith)
 
-passed-statement : (t : Triple) → firstRefusal (tripleChecks t) ≡ 0 → isStatement t ≡ true → isAllowedStatement t ≡ true
-unfolding isAllowedStatement
-passed-statement t e s = let p = passed (isTriple t) (cond (isStatement t) (areSidesAllowed t) true) e in rw (p.0, s) (rw s at p.1)
+passed_statement : (t : Triple) → first_refusal (triple_checks t) ≡ 0 → is_statement t ≡ true → is_allowed_statement t ≡ true
+unfolding is_allowed_statement
+passed_statement t e s = let p = passed (is_triple t) (cond (is_statement t) (are_sides_allowed t) true) e in rw (p.0, s) (rw s at p.1)
 
-passed-fact : (t : Triple) → firstRefusal (tripleChecks t) ≡ 0 → isStatement t ≡ false → isAllowedFact t ≡ true
-unfolding isAllowedFact
-passed-fact t e s = let p = passed (isTriple t) (cond (isStatement t) (areSidesAllowed t) true) e in rw (p.0, s) refl
+passed_fact : (t : Triple) → first_refusal (triple_checks t) ≡ 0 → is_statement t ≡ false → is_allowed_fact t ≡ true
+unfolding is_allowed_fact
+passed_fact t e s = let p = passed (is_triple t) (cond (is_statement t) (are_sides_allowed t) true) e in rw (p.0, s) refl
 
 -- A set that ascends does so after an update,
-changed-ascends : (d : Change) (t : Triple) (F : List Triple) → Ascending F → Ascending (changed d t F)
+changed_ascends : (d : Change) (t : Triple) (F : List Triple) → Ascending F → Ascending (changed d t F)
 unfolding changed
-changed-ascends Addition t F a = insert-asc t F a
-changed-ascends Withdrawal t F a = remove-asc t F a
+changed_ascends Addition t F a = insert_asc t F a
+changed_ascends Withdrawal t F a = remove_asc t F a
 
 -- and a test that each of its rows and t pass, each row after it passes.
-changed-passes : (d : Change) (test : Triple → Bool) (t : Triple) (F : List Triple) → test t ≡ true → ((u : Triple) → Memᴰ u F → test u ≡ true) → (u : Triple) → Memᴰ u (changed d t F) → test u ≡ true
+changed_passes : (d : Change) (test : Triple → Bool) (t : Triple) (F : List Triple) → test t ≡ true → ((u : Triple) → Memᴰ u F → test u ≡ true) → (u : Triple) → Memᴰ u (changed d t F) → test u ≡ true
 unfolding changed
-changed-passes Addition test t F e h u m = ⊎_elim (λ (q : u ≡ t). rw q e) (h u) (insert-cases t F m)
-changed-passes Withdrawal test t F e h u m = h u (remove-sub t F m)
+changed_passes Addition test t F e h u m = ⊎_elim (λ (q : u ≡ t). rw q e) (h u) (insert_cases t F m)
+changed_passes Withdrawal test t F e h u m = h u (remove_sub t F m)
 
 -- So an update of such a triple keeps the sets allowed.
-pub applying-allowed : (d : Change) (t : Triple) (L : Ledger) → Allowed L → firstRefusal (tripleChecks t) ≡ 0 → Allowed (applying d t L)
+pub applying_allowed : (d : Change) (t : Triple) (L : Ledger) → Allowed L → first_refusal (triple_checks t) ≡ 0 → Allowed (applying d t L)
 unfolding applying
-applying-allowed d t L A e =
-    by-test (isStatement t)
+applying_allowed d t L A e =
+    by_test (is_statement t)
     (λ s. rw s (record {
-      statements-ascend = changed-ascends d t L.statements A.statements-ascend;
-      facts-ascend = A.facts-ascend;
-      statements-allowed = changed-passes d isAllowedStatement t L.statements (passed-statement t e s) A.statements-allowed;
-      facts-allowed = A.facts-allowed;
+      statements_ascend = changed_ascends d t L.statements A.statements_ascend;
+      facts_ascend = A.facts_ascend;
+      statements_allowed = changed_passes d is_allowed_statement t L.statements (passed_statement t e s) A.statements_allowed;
+      facts_allowed = A.facts_allowed;
     }))
     (λ s. rw s (record {
-      statements-ascend = A.statements-ascend;
-      facts-ascend = changed-ascends d t L.facts A.facts-ascend;
-      statements-allowed = A.statements-allowed;
-      facts-allowed = changed-passes d isAllowedFact t L.facts (passed-fact t e s) A.facts-allowed;
+      statements_ascend = A.statements_ascend;
+      facts_ascend = changed_ascends d t L.facts A.facts_ascend;
+      statements_allowed = A.statements_allowed;
+      facts_allowed = changed_passes d is_allowed_fact t L.facts (passed_fact t e s) A.facts_allowed;
     }))

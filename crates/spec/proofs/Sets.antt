@@ -7,8 +7,8 @@ use Prim.Native.Nat.{suc, ◌≤◌}
 use native.Mathlib.Omega.{arith}
 use lib.ListN.{length}
 use Rattle.spec.specs.declared.Triple.{Triple}
-use Rattle.spec.specs.inside.Comparison.{Ascending, less-irrefl}
-use Rattle.spec.proofs.Ascending.{above-asc, above-member}
+use Rattle.spec.specs.inside.Comparison.{Ascending, less_irrefl}
+use Rattle.spec.proofs.Ascending.{above_asc, above-member}
 
 -- No element stands twice.
 abbrev pub Distinct : {A : Type 0} → List A → Type 0
@@ -43,4 +43,4 @@ distinct-length (x ∷ xs) ys d h =
 -- An ascending list has no repeats.
 pub ascending-distinct : (F : List Triple) → Ascending F → Distinct F
 ascending-distinct [] a = tt
-ascending-distinct (t ∷ F) a = (λ m. less-irrefl (above-member F a t m), ascending-distinct F (above-asc t F a))
+ascending-distinct (t ∷ F) a = (λ m. less_irrefl (above-member F a t m), ascending-distinct F (above_asc t F a))

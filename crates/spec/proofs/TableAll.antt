@@ -13,12 +13,12 @@ use lib.Dec.{eqb}
 use borrow.Author.Tests.{eqb-true}
 use Rattle.spec.specs.declared.Triple.{Triple}
 use Rattle.spec.proofs.Ascending.{and_left, and_right}
-use Rattle.spec.specs.Tables.{areZero}
+use Rattle.spec.specs.Tables.{are_zero}
 use Rattle.spec.specs.Lists.{all}
 
-pub and-false : (b : Bool) → (b && false) ≡ false
-and-false true = refl
-and-false false = refl
+pub and_false : (b : Bool) → (b && false) ≡ false
+and_false true = refl
+and_false false = refl
 
 pub and_assoc : (a b c : Bool) → (a && (b && c)) ≡ ((a && b) && c)
 and_assoc true b c = refl
@@ -44,10 +44,10 @@ module _ {A : Type 0} (test : A → Bool) where
   all_get_d (x ∷ xs) d e zero h = and_left _ _ e
   all_get_d (x ∷ xs) d e (suc i) h = all_get_d xs d (and_right (test x) _ e) i (omega arith)
 
-  pub getD-all : (xs : List A) (d : A) → ((i : ℕ) → i < length xs → test (get_or xs i d) ≡ true) → all test xs ≡ true
+  pub get_or-all : (xs : List A) (d : A) → ((i : ℕ) → i < length xs → test (get_or xs i d) ≡ true) → all test xs ≡ true
   unfolding all
-  getD-all [] d h = refl
-  getD-all (x ∷ xs) d h = rw (h 0 (omega arith)) (getD-all xs d (λ i k. h (suc i) (omega arith)))
+  get_or-all [] d h = refl
+  get_or-all (x ∷ xs) d h = rw (h 0 (omega arith)) (get_or-all xs d (λ i k. h (suc i) (omega arith)))
 
   pub all_append : (xs ys : List A) → all test xs ≡ true → all test ys ≡ true → all test (xs ++ ys) ≡ true
   unfolding all
@@ -62,8 +62,8 @@ module _ {A : Type 0} (test : A → Bool) where
   pub all_more : (xs : List A) (i : ℕ) (d : A) → i < length xs → test (get_or xs i d) ≡ true → all test (drop i xs) ≡ all test (drop (i + 1) xs)
   all_more xs i d h e = rw (all-next xs i d h, e)
 
-  pub all-stop : (xs : List A) (i : ℕ) (d : A) → i < length xs → test (get_or xs i d) ≡ false → all test (drop i xs) ≡ false
-  all-stop xs i d h e = rw (all-next xs i d h, e)
+  pub all_stop : (xs : List A) (i : ℕ) (d : A) → i < length xs → test (get_or xs i d) ≡ false → all test (drop i xs) ≡ false
+  all_stop xs i d h e = rw (all-next xs i d h, e)
 
   pub all_end : (xs : List A) (i : ℕ) → length xs ≤ i → all test (drop i xs) ≡ true
   unfolding all
@@ -75,23 +75,23 @@ answered test e p q = ap test (sym e) ∙ sym p ∙ q
 
 -- ---- zeros
 
-pub zeros-are : (ws : List ℕ) → areZero ws ≡ true → ws ≡ replicate (length ws) 0
-unfolding areZero all
-zeros-are [] e = refl
-zeros-are (w ∷ ws) e = ap₂ ◌∷◌ (eqb-true w 0 (and_left _ _ e)) (zeros-are ws (and_right (eqb w 0) _ e))
+pub zeros_are : (ws : List ℕ) → are_zero ws ≡ true → ws ≡ replicate (length ws) 0
+unfolding are_zero all
+zeros_are [] e = refl
+zeros_are (w ∷ ws) e = ap₂ ◌∷◌ (eqb-true w 0 (and_left _ _ e)) (zeros_are ws (and_right (eqb w 0) _ e))
 
-pub replicate-of : (ws : List ℕ) (n : ℕ) → areZero ws ≡ true → length ws ≡ n → ws ≡ replicate n 0
-replicate-of ws n e q = subst (λ (k : ℕ). ws ≡ replicate k 0) q (zeros-are ws e)
+pub replicate_of : (ws : List ℕ) (n : ℕ) → are_zero ws ≡ true → length ws ≡ n → ws ≡ replicate n 0
+replicate_of ws n e q = subst (λ (k : ℕ). ws ≡ replicate k 0) q (zeros_are ws e)
 
-pub areZero-replicate : (n : ℕ) → areZero (replicate n 0) ≡ true
-unfolding areZero all
-areZero-replicate zero = refl
-areZero-replicate (suc n) = areZero-replicate n
+pub are_zero-replicate : (n : ℕ) → are_zero (replicate n 0) ≡ true
+unfolding are_zero all
+are_zero-replicate zero = refl
+are_zero-replicate (suc n) = are_zero-replicate n
 
-pub zeros-next : (ws : List ℕ) (i : ℕ) → i < length ws → areZero (drop i ws) ≡ (eqb (get_or ws i 0) 0 && areZero (drop (i + 1) ws))
-unfolding areZero all
+pub zeros-next : (ws : List ℕ) (i : ℕ) → i < length ws → are_zero (drop i ws) ≡ (eqb (get_or ws i 0) 0 && are_zero (drop (i + 1) ws))
+unfolding are_zero all
 zeros-next ws i h = rw (add-one, drop-cons ws i 0 h)
 
-pub zeros-end : (ws : List ℕ) (i : ℕ) → length ws ≤ i → areZero (drop i ws) ≡ true
-unfolding areZero all
-zeros-end ws i h = rw (drop_of_length-le ws h)
+pub zeros_end : (ws : List ℕ) (i : ℕ) → length ws ≤ i → are_zero (drop i ws) ≡ true
+unfolding are_zero all
+zeros_end ws i h = rw (drop_of_length-le ws h)

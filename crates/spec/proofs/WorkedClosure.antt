@@ -5,13 +5,13 @@ use Rattle.spec.specs.declared.Triple.{Triple}
 use Rattle.spec.specs.Terms.{triple}
 use Rattle.spec.specs.Lists.{any, select}
 use Rattle.spec.specs.Rows.{less}
-use Rattle.spec.specs.Order.{isSame, insert}
+use Rattle.spec.specs.Order.{is_same, insert}
 use Rattle.spec.specs.computed.Carried.{leaves, objects, steps, spread, ascend}
-use Rattle.spec.specs.computed.Closed.{pairsFrom, pairs, closed}
+use Rattle.spec.specs.computed.Closed.{pairs_from, pairs, closed}
 
 -- The definitions that these need to compute, by one name.
 unfoldable compute : Unit {0}
-unfolding flat_map any select less isSame insert leaves objects steps spread ascend pairsFrom pairs closed
+unfolding flat_map any select less is_same insert leaves objects steps spread ascend pairs_from pairs closed
 compute = tt
 
 -- The pairs of a chain,

@@ -2,9 +2,9 @@
 use Rattle.std.specs.Prelude.{ℕ, ◌*◌, ◌<◌, ◌≤◌, ◌≡◌, Bool, true, false, ◌↔◌, length, replicate, leb}
 use mathlib.Core.List.{List, [], ◌∷◌, ◌++◌, Memᴰ}
 use Rattle.spec.specs.declared.Triple.{Triple}
-use Rattle.spec.specs.Order.{isAscending, ListOf}
-use Rattle.spec.specs.Refusals.{firstRefusal, tripleChecks}
-use Rattle.spec.specs.Tables.{layout, Tables, tables, capacitiesOf, Ledger}
+use Rattle.spec.specs.Order.{is_ascending, ListOf}
+use Rattle.spec.specs.Refusals.{first_refusal, triple_checks}
+use Rattle.spec.specs.Tables.{layout, Tables, tables, capacities_of, Ledger}
 use Rattle.spec.specs.Lists.{padded}
 use Rattle.spec.specs.Rules.{Follows, FollowsAsFact, Carries}
 use Rattle.spec.specs.declared.Reply.TheVariants.{Rows, Refused}
@@ -12,27 +12,27 @@ use Rattle.spec.specs.Outputs.{Replied, replied, filled}
 use Rattle.spec.specs.declared.Change.{Change}
 use Rattle.spec.specs.Updates.{applying, update}
 use Rattle.spec.specs.Deliveries.{deliver}
-use Rattle.spec.specs.Questions.{headCount, atoms, head, isQuestion, isHeadBound, IsAnswer, askKept, askRewritten}
-use Rattle.spec.specs.Ledger.{Call, empty, isFitting, Run, Entries, calls, ledgerEntries}
+use Rattle.spec.specs.Questions.{head_count, atoms, head, is_question, is_head_bound, IsAnswer, ask_kept, ask_rewritten}
+use Rattle.spec.specs.Ledger.{Call, empty, is_fitting, Run, Entries, calls, ledger_entries}
 use Rattle.spec.specs.Rows.{ordered}
 
 -- ---- the two runs
 
 -- The store's entries, by the definitions that their contracts cite.
-abbrev pub storeEntries : Entries Tables
-storeEntries = record { updates = update; delivers = deliver }
+abbrev pub store_entries : Entries Tables
+store_entries = record { updates = update; delivers = deliver }
 
 -- "It starts at an empty store": tables of s, f and k words and u support places, all zero.
-abbrev pub emptyStore : ℕ → ℕ → ℕ → ℕ → Tables
-emptyStore s f k u = tables (replicate s 0) (replicate f 0) (replicate k 0) (replicate u 0)
+abbrev pub empty_store : ℕ → ℕ → ℕ → ℕ → Tables
+empty_store s f k u = tables (replicate s 0) (replicate f 0) (replicate k 0) (replicate u 0)
 
 -- What a list of calls gives and leaves in an empty store.
-abbrev pub storeRun : ℕ → ℕ → ℕ → ℕ → List Call → Run Tables
-storeRun s f k u cs = calls storeEntries cs (emptyStore s f k u)
+abbrev pub store_run : ℕ → ℕ → ℕ → ℕ → List Call → Run Tables
+store_run s f k u cs = calls store_entries cs (empty_store s f k u)
 
 -- What it gives and leaves in the ledger.
-abbrev pub ledgerRun : ℕ → ℕ → ℕ → ℕ → List Call → Run Ledger
-ledgerRun s f k u cs = calls (ledgerEntries (capacitiesOf (emptyStore s f k u))) cs empty
+abbrev pub ledger_run : ℕ → ℕ → ℕ → ℕ → List Call → Run Ledger
+ledger_run s f k u cs = calls (ledger_entries (capacities_of (empty_store s f k u))) cs empty
 
 -- ---- the lists that the claim speaks of
 
@@ -61,11 +61,11 @@ pub record RowsOf (G : Triple → Type 0) (q : List ℕ) (R : List (List ℕ)) :
 -- What a question q gets among the triples of a graph, into an output of len words: "both refuse it by 6 or 7 alike; otherwise each gives all
 -- of demand 2's rows, with their count, or 8 exactly when these do not fit its output whole". A refusal "leaves its whole output zero".
 pub data Replies (G : Triple → Type 0) (q : List ℕ) (len : ℕ) : Replied → Type 0 where
-  refused-6 : isQuestion q ≡ false → Replies G q len (replied (Refused 6) (replicate len 0))
-  refused-7 : isQuestion q ≡ true → isHeadBound q ≡ false → Replies G q len (replied (Refused 7) (replicate len 0))
-  given : {R : List (List ℕ)} → isQuestion q ≡ true → isHeadBound q ≡ true → RowsOf G q R → length R * headCount q ≤ len
+  refused_6 : is_question q ≡ false → Replies G q len (replied (Refused 6) (replicate len 0))
+  refused_7 : is_question q ≡ true → is_head_bound q ≡ false → Replies G q len (replied (Refused 7) (replicate len 0))
+  given : {R : List (List ℕ)} → is_question q ≡ true → is_head_bound q ≡ true → RowsOf G q R → length R * head_count q ≤ len
       → Replies G q len (replied (Rows (length R)) (filled len R))
-  refused-8 : {R : List (List ℕ)} → isQuestion q ≡ true → isHeadBound q ≡ true → RowsOf G q R → len < length R * headCount q
+  refused_8 : {R : List (List ℕ)} → is_question q ≡ true → is_head_bound q ≡ true → RowsOf G q R → len < length R * head_count q
       → Replies G q len (replied (Refused 8) (replicate len 0))
 
 -- ---- the claim
@@ -75,19 +75,19 @@ pub record Demand3 (s f k u : ℕ) (L : Run Ledger) (T : Run Tables) : Type 0 wh
   -- "Every call has given the ledger's answer";
   pub answers : T.given ≡ L.given
   -- its sets are ascending lists, each triple once;
-  pub statements-ascend : isAscending L.after.statements ≡ true
-  pub facts-ascend : isAscending L.after.facts ≡ true
+  pub statements_ascend : is_ascending L.after.statements ≡ true
+  pub facts_ascend : is_ascending L.after.facts ≡ true
   -- "kept facts its facts with all that follow,
   pub kept : List Triple
-  pub kept-follow : ListOf (FollowsAsFact (graph_of L.after)) kept
+  pub kept_follow : ListOf (FollowsAsFact (graph_of L.after)) kept
   -- each support the number of its facts that carry the row.
   pub supports : List ℕ
-  pub supports-count : Supported L.after.statements L.after.facts kept supports
+  pub supports_count : Supported L.after.statements L.after.facts kept supports
   -- Order and zeros being as under Tables, this fixes every word."
   pub words : T.after ≡ tables (layout s L.after.statements) (layout f L.after.facts) (layout k kept) (padded u supports)
   -- Any update that 2 and 3 pass is then asked 5 on what follows after it, whether it is refused or not.
-  pub fits : (d : Change) (t : Triple) → firstRefusal (tripleChecks t) ≡ 0
-      → FitsBy (capacitiesOf (emptyStore s f k u)).kept (applying d t L.after) (isFitting (capacitiesOf (emptyStore s f k u)) (applying d t L.after))
+  pub fits : (d : Change) (t : Triple) → first_refusal (triple_checks t) ≡ 0
+      → FitsBy (capacities_of (empty_store s f k u)).kept (applying d t L.after) (is_fitting (capacities_of (empty_store s f k u)) (applying d t L.after))
   -- "Any question is then put by both ways, into outputs apart from the store."
-  pub kept-way : (q : List ℕ) (len : ℕ) → Replies (Follows (graph_of L.after)) q len (askKept T.after.statements T.after.kept q len)
-  pub rewritten-way : (q : List ℕ) (len : ℕ) → Replies (Follows (graph_of L.after)) q len (askRewritten T.after.statements T.after.facts q len)
+  pub kept_way : (q : List ℕ) (len : ℕ) → Replies (Follows (graph_of L.after)) q len (ask_kept T.after.statements T.after.kept q len)
+  pub rewritten_way : (q : List ℕ) (len : ℕ) → Replies (Follows (graph_of L.after)) q len (ask_rewritten T.after.statements T.after.facts q len)

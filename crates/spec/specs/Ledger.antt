@@ -2,13 +2,13 @@
 -- Definitions only.
 use Rattle.std.specs.Prelude.{ℕ, Bool, List, [], ◌∷◌, ◌++◌, length, leb}
 use Rattle.spec.specs.declared.Triple.{Triple}
-use Rattle.spec.specs.Refusals.{firstRefusal, tripleChecks}
+use Rattle.spec.specs.Refusals.{first_refusal, triple_checks}
 use Rattle.spec.specs.Tables.{Capacities, Ledger, ledger}
 use Rattle.spec.specs.computed.Saturated.{saturation}
 use Rattle.spec.specs.declared.Answer.{Answer}
 use Rattle.spec.specs.declared.Change.{Change}
-use Rattle.spec.specs.Updates.{applying, isChange, isAdmitted, settle}
-use Rattle.spec.specs.Deliveries.{Update, messageChecks, conclude}
+use Rattle.spec.specs.Updates.{applying, is_change, is_admitted, settle}
+use Rattle.spec.specs.Deliveries.{Update, message_checks, conclude}
 use Rattle.spec.specs.computed.Decoded.{read}
 use Rattle.spec.specs.declared.Delivered.{Delivered}
 
@@ -24,21 +24,21 @@ empty = ledger [] []
 -- ---- updates
 
 -- "Whether the facts, with all that follow, fit the kept capacity."
-unfoldable pub isFitting : Capacities → Ledger → Bool
-isFitting C L = leb (length (saturation L.statements L.facts)) C.kept
+unfoldable pub is_fitting : Capacities → Ledger → Bool
+is_fitting C L = leb (length (saturation L.statements L.facts)) C.kept
 
 -- "An update is asked 2 to 5 on them: 4 whether an added triple is in its set or that set is below capacity, 5 whether the facts
 -- after it, with all that follow, fit the kept capacity."
-abbrev pub entryChecks : Capacities → Change → Ledger → Triple → List (ℕ × Bool)
-entryChecks C d L t = tripleChecks t ++ ((4, isAdmitted C d t L) ∷ (5, isFitting C (applying d t L)) ∷ [])
+abbrev pub entry_checks : Capacities → Change → Ledger → Triple → List (ℕ × Bool)
+entry_checks C d L t = triple_checks t ++ ((4, is_admitted C d t L) ∷ (5, is_fitting C (applying d t L)) ∷ [])
 
 -- The ledger's update. "The first "no" refuses it by that number, and both sets stay."
-unfoldable pub ledgerUpdate : Capacities → Update Ledger
-ledgerUpdate C d L t = settle (firstRefusal (entryChecks C d L t)) (isChange d t L) (applying d t L) L
+unfoldable pub ledger_update : Capacities → Update Ledger
+ledger_update C d L t = settle (first_refusal (entry_checks C d L t)) (is_change d t L) (applying d t L) L
 
 -- "A delivery is asked 9 to 11 on its bytes .. Otherwise its entries run in order as updates, each raising its tally by 1."
 unfoldable pub receive : Capacities → Ledger → List ℕ → Delivered × Ledger
-receive C L bs = conclude (ledgerUpdate C) (firstRefusal (messageChecks bs)) (read bs) L
+receive C L bs = conclude (ledger_update C) (first_refusal (message_checks bs)) (read bs) L
 
 -- ---- lists of calls
 
@@ -73,5 +73,5 @@ module _ {A : Type 0} where
   calls E (c ∷ cs) a = let r = call E a c in let s = calls E cs r.1 in run (r.0 ∷ s.given) s.after
 
 -- The ledger's entries.
-abbrev pub ledgerEntries : Capacities → Entries Ledger
-ledgerEntries C = record { updates = ledgerUpdate C; delivers = receive C }
+abbrev pub ledger_entries : Capacities → Entries Ledger
+ledger_entries C = record { updates = ledger_update C; delivers = receive C }

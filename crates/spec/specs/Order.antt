@@ -6,34 +6,34 @@ use Rattle.spec.specs.Lists.{any}
 use Rattle.spec.specs.Rows.{less, words}
 
 -- "Ascending as unsigned numbers by subject, property, object": whether t is less than u, by the order of their words.
-abbrev pub isLess : Triple → Triple → Bool
-isLess t u = less (words t) (words u)
+abbrev pub is_less : Triple → Triple → Bool
+is_less t u = less (words t) (words u)
 
 -- Whether two triples are the same, word by word.
-unfoldable pub isSame : Triple → Triple → Bool
-isSame t u = eqb t.subject u.subject && (eqb t.property u.property && eqb t.object u.object)
+unfoldable pub is_same : Triple → Triple → Bool
+is_same t u = eqb t.subject u.subject && (eqb t.property u.property && eqb t.object u.object)
 
 -- Whether t is one of some triples.
-abbrev pub isIn : Triple → List Triple → Bool
-isIn t F = any (isSame t) F
+abbrev pub is_in : Triple → List Triple → Bool
+is_in t F = any (is_same t) F
 
 -- Whether a list is strictly ascending: each triple is less than the next.
-unfoldable pub isAscending : List Triple → Bool
-isAscending [] = true
-isAscending (t ∷ []) = true
-isAscending (t ∷ u ∷ F) = isLess t u && isAscending (u ∷ F)
+unfoldable pub is_ascending : List Triple → Bool
+is_ascending [] = true
+is_ascending (t ∷ []) = true
+is_ascending (t ∷ u ∷ F) = is_less t u && is_ascending (u ∷ F)
 
 -- The triples ts are exactly those of which P holds, ascending, each once.
 pub record ListOf (P : Triple → Type 0) (ts : List Triple) : Type 0 where
-  pub ascend : isAscending ts ≡ true
+  pub ascend : is_ascending ts ≡ true
   pub exactly : (t : Triple) → Memᴰ t ts ↔ P t
 
 -- An ascending list with t, which stands in it once.
 unfoldable pub insert : Triple → List Triple → List Triple
 insert t [] = t ∷ []
-insert t (u ∷ F) = cond (isLess t u) (t ∷ u ∷ F) (cond (isSame t u) (u ∷ F) (u ∷ insert t F))
+insert t (u ∷ F) = cond (is_less t u) (t ∷ u ∷ F) (cond (is_same t u) (u ∷ F) (u ∷ insert t F))
 
 -- An ascending list without t.
 unfoldable pub remove : Triple → List Triple → List Triple
 remove t [] = []
-remove t (u ∷ F) = cond (isSame t u) F (u ∷ remove t F)
+remove t (u ∷ F) = cond (is_same t u) F (u ∷ remove t F)

@@ -6,8 +6,8 @@ use Rattle.spec.specs.declared.Reply.{Reply}
 use Rattle.spec.specs.declared.Reply.TheVariants.{Rows, Refused}
 
 -- Question 8: "do all rows fit the lent output?" Rows of m words, "and as many rows as fit whole".
-unfoldable pub areFitting : ℕ → ℕ → List (List ℕ) → Bool
-areFitting m len R = leb (length R) (len / m)
+unfoldable pub are_fitting : ℕ → ℕ → List (List ℕ) → Bool
+are_fitting m len R = leb (length R) (len / m)
 
 -- "Lent outputs hold rows alone, with no count word"; "unused words are zero".
 unfoldable pub filled : ℕ → List (List ℕ) → List ℕ
@@ -28,11 +28,11 @@ give (suc n) R len = replied (Refused (suc n)) (replicate len 0)
 give zero R len = replied (Rows (length R)) (filled len R)
 
 -- The number of a reply, as the exported library gives it: 0, or the number that refused.
-abbrev pub replyNumber : Reply → ℕ
-replyNumber (Rows n) = 0
-replyNumber (Refused n) = n
+abbrev pub reply_number : Reply → ℕ
+reply_number (Rows n) = 0
+reply_number (Refused n) = n
 
 -- The row count of a reply, 0 where it is a refusal.
-abbrev pub replyCount : Reply → ℕ
-replyCount (Rows n) = n
-replyCount (Refused n) = 0
+abbrev pub reply_count : Reply → ℕ
+reply_count (Rows n) = n
+reply_count (Refused n) = 0

@@ -11,11 +11,11 @@ use lib.Dec.{ltb}
 use borrow.Author.Tests.{ne_eqb, le-ltb}
 use Rattle.spec.proofs.Ascending.{and_left}
 use Rattle.spec.specs.inside.Each.{Each}
-use Rattle.spec_ntriples.specs.Texts.{isSameText}
-use Rattle.spec_ntriples.specs.Dictionary.{Entry, numberBytes, bytesOfEntry, bytesOfEntries, dictionaryBytes, bytesNumber, frontTerm, frontLength, entriesAtMost, entries, kind_of, areNumbered, areNumbersEnough, areTexts, isDictionary}
+use Rattle.spec_ntriples.specs.Texts.{is_same_text}
+use Rattle.spec_ntriples.specs.Dictionary.{Entry, number_bytes, bytes_of_entry, bytes_of_entries, dictionary_bytes, bytes_number, front_term, front_length, entries_at_most, entries, kind_of, are_numbered, are_numbers_enough, are_texts, is_dictionary}
 use Rattle.spec_ntriples.specs.inside.Entries.{Writable}
 use Rattle.spec_ntriples.proofs.Canonical.{same_bytes}
-use Rattle.spec_ntriples.proofs.Numbers.{first-positive, Numbered, kind-least}
+use Rattle.spec_ntriples.proofs.Numbers.{first_positive, Numbered, kind_least}
 
 -- ---- numbers
 
@@ -24,19 +24,19 @@ abbrev room : ℕ → ℕ
 room zero = 1
 room (suc k) = 256 * room k
 
-pub length-number : (k n : ℕ) → length (numberBytes k n) ≡ k
-unfolding numberBytes
+pub length-number : (k n : ℕ) → length (number_bytes k n) ≡ k
+unfolding number_bytes
 length-number zero n = refl
 length-number (suc k) n = ap suc (length-number k (n / 256))
 
 -- A number written in enough bytes is read back.
-number-written : (k n : ℕ) → n < room k → bytesNumber (numberBytes k n) ≡ n
-unfolding numberBytes bytesNumber
+number-written : (k n : ℕ) → n < room k → bytes_number (number_bytes k n) ≡ n
+unfolding number_bytes bytes_number
 number-written zero n h = omega (arith, h)
 number-written (suc k) n h = omega (arith, number-written k (n / 256) (omega (arith, h)), mod-add-div' n 256)
 
-zeros-number : (n z : ℕ) → bytesNumber (take n (replicate z 0)) ≡ 0
-unfolding bytesNumber
+zeros-number : (n z : ℕ) → bytes_number (take n (replicate z 0)) ≡ 0
+unfolding bytes_number
 zeros-number zero z = refl
 zeros-number (suc n) zero = refl
 zeros-number (suc n) (suc z) = omega (arith, zeros-number n z)
@@ -45,126 +45,126 @@ zeros-number (suc n) (suc z) = omega (arith, zeros-number n z)
 
 -- The bytes before its text.
 abbrev header : Entry → List ℕ
-header e = numberBytes 4 e.term ++ numberBytes 8 (length e.text)
+header e = number_bytes 4 e.term ++ number_bytes 8 (length e.text)
 
-entry-split : (e : Entry) (rest : List ℕ) → bytesOfEntry e ++ rest ≡ header e ++ (e.text ++ rest)
-unfolding bytesOfEntry
-entry-split e rest =
-    append_assoc (numberBytes 4 e.term) (numberBytes 8 (length e.text) ++ e.text) rest
-    ∙ ap (λ (l : List ℕ). numberBytes 4 e.term ++ l) (append_assoc (numberBytes 8 (length e.text)) e.text rest)
-    ∙ sym (append_assoc (numberBytes 4 e.term) (numberBytes 8 (length e.text)) (e.text ++ rest))
+entry_split : (e : Entry) (rest : List ℕ) → bytes_of_entry e ++ rest ≡ header e ++ (e.text ++ rest)
+unfolding bytes_of_entry
+entry_split e rest =
+    append_assoc (number_bytes 4 e.term) (number_bytes 8 (length e.text) ++ e.text) rest
+    ∙ ap (λ (l : List ℕ). number_bytes 4 e.term ++ l) (append_assoc (number_bytes 8 (length e.text)) e.text rest)
+    ∙ sym (append_assoc (number_bytes 4 e.term) (number_bytes 8 (length e.text)) (e.text ++ rest))
 
-length-header : (e : Entry) → length (header e) ≡ 12
-length-header e = omega (arith, length-append (numberBytes 4 e.term) (numberBytes 8 (length e.text)), length-number 4 e.term, length-number 8 (length e.text))
+length_header : (e : Entry) → length (header e) ≡ 12
+length_header e = omega (arith, length-append (number_bytes 4 e.term) (number_bytes 8 (length e.text)), length-number 4 e.term, length-number 8 (length e.text))
 
-pub length-entry : (e : Entry) → length (bytesOfEntry e) ≡ 12 + length e.text
-unfolding bytesOfEntry
+pub length-entry : (e : Entry) → length (bytes_of_entry e) ≡ 12 + length e.text
+unfolding bytes_of_entry
 length-entry e =
-    omega (arith, length-append (numberBytes 4 e.term) (numberBytes 8 (length e.text) ++ e.text), length-append (numberBytes 8 (length e.text)) e.text, length-number 4 e.term, length-number 8 (length e.text))
+    omega (arith, length-append (number_bytes 4 e.term) (number_bytes 8 (length e.text) ++ e.text), length-append (number_bytes 8 (length e.text)) e.text, length-number 4 e.term, length-number 8 (length e.text))
 
 -- Entries are as many bytes as they have, and no fewer than they are.
-pub length-entries : (es : List Entry) → length es ≤ length (bytesOfEntries es)
-unfolding bytesOfEntries
+pub length-entries : (es : List Entry) → length es ≤ length (bytes_of_entries es)
+unfolding bytes_of_entries
 length-entries [] = omega arith
-length-entries (e ∷ es) = omega (arith, length-entries es, length-entry e, length-append (bytesOfEntry e) (bytesOfEntries es))
+length-entries (e ∷ es) = omega (arith, length-entries es, length-entry e, length-append (bytes_of_entry e) (bytes_of_entries es))
 
 -- ---- entries read back
 
-entries-zeros : (most z : ℕ) → entriesAtMost most (replicate z 0) ≡ []
-unfolding entriesAtMost
-entries-zeros zero z = refl
-entries-zeros (suc m) z = rw (zeros-number 4 z)
+entries_zeros : (most z : ℕ) → entries_at_most most (replicate z 0) ≡ []
+unfolding entries_at_most
+entries_zeros zero z = refl
+entries_zeros (suc m) z = rw (zeros-number 4 z)
 
 -- The front of bytes that begin with an entry.
 module _ (e : Entry) (rest : List ℕ) (w : Writable e) where
   abbrev bytes : List ℕ
-  bytes = bytesOfEntry e ++ rest
+  bytes = bytes_of_entry e ++ rest
 
   abbrev n : ℕ
   n = length e.text
 
-  pub front-term : frontTerm bytes ≡ e.term
-  unfolding bytesOfEntry
-  front-term =
-      ap bytesNumber (ap (λ (l : List ℕ). take 4 l) (append_assoc (numberBytes 4 e.term) (numberBytes 8 n ++ e.text) rest) ∙ take_at (numberBytes 4 e.term) ((numberBytes 8 n ++ e.text) ++ rest) 4 (length-number 4 e.term))
+  pub front_term_lem : front_term bytes ≡ e.term
+  unfolding bytes_of_entry
+  front_term_lem =
+      ap bytes_number (ap (λ (l : List ℕ). take 4 l) (append_assoc (number_bytes 4 e.term) (number_bytes 8 n ++ e.text) rest) ∙ take_at (number_bytes 4 e.term) ((number_bytes 8 n ++ e.text) ++ rest) 4 (length-number 4 e.term))
       ∙ number-written 4 e.term (omega (arith, w.word))
 
-  pub front_length : frontLength bytes ≡ n
-  unfolding bytesOfEntry
-  front_length =
-      ap bytesNumber
-      (ap (λ (l : List ℕ). take 8 (drop 4 l)) (append_assoc (numberBytes 4 e.term) (numberBytes 8 n ++ e.text) rest)
-      ∙ ap (λ (l : List ℕ). take 8 l) (drop_at (numberBytes 4 e.term) ((numberBytes 8 n ++ e.text) ++ rest) 4 (length-number 4 e.term) ∙ append_assoc (numberBytes 8 n) e.text rest)
-      ∙ take_at (numberBytes 8 n) (e.text ++ rest) 8 (length-number 8 n))
+  pub front_length_lem : front_length bytes ≡ n
+  unfolding bytes_of_entry
+  front_length_lem =
+      ap bytes_number
+      (ap (λ (l : List ℕ). take 8 (drop 4 l)) (append_assoc (number_bytes 4 e.term) (number_bytes 8 n ++ e.text) rest)
+      ∙ ap (λ (l : List ℕ). take 8 l) (drop_at (number_bytes 4 e.term) ((number_bytes 8 n ++ e.text) ++ rest) 4 (length-number 4 e.term) ∙ append_assoc (number_bytes 8 n) e.text rest)
+      ∙ take_at (number_bytes 8 n) (e.text ++ rest) 8 (length-number 8 n))
       ∙ number-written 8 n (omega (arith, w.size))
 
-  after-header : drop 12 bytes ≡ e.text ++ rest
-  after-header = ap (λ (l : List ℕ). drop 12 l) (entry-split e rest) ∙ drop_at (header e) (e.text ++ rest) 12 (length-header e)
+  after_header : drop 12 bytes ≡ e.text ++ rest
+  after_header = ap (λ (l : List ℕ). drop 12 l) (entry_split e rest) ∙ drop_at (header e) (e.text ++ rest) 12 (length_header e)
 
   pub front-text : take n (drop 12 bytes) ≡ e.text
-  front-text = ap (λ (l : List ℕ). take n l) after-header ∙ take_at e.text rest n refl
+  front-text = ap (λ (l : List ℕ). take n l) after_header ∙ take_at e.text rest n refl
 
   pub front_rest : drop (12 + n) bytes ≡ rest
-  front_rest = drop_at (bytesOfEntry e) rest (12 + n) (length-entry e)
+  front_rest = drop_at (bytes_of_entry e) rest (12 + n) (length-entry e)
 
   front-within : ltb (length bytes) (12 + n) ≡ false
-  front-within = le-ltb (length bytes) (12 + n) (omega (arith, length-entry e, length-append (bytesOfEntry e) rest))
+  front-within = le-ltb (length bytes) (12 + n) (omega (arith, length-entry e, length-append (bytes_of_entry e) rest))
 
 -- So many entries at most are read back.
-entries-at-most : (most z : ℕ) (es : List Entry) → length es ≤ most → Each Writable es → entriesAtMost most (bytesOfEntries es ++ replicate z 0) ≡ es
-unfolding entriesAtMost bytesOfEntries
-entries-at-most most z [] h w = entries-zeros most z
-entries-at-most zero z (e ∷ es) h w = absurd (omega (arith, h))
-entries-at-most (suc m) z (e ∷ es) h w =
-    let rest : List ℕ = bytesOfEntries es ++ replicate z 0 in
+entries-at_most : (most z : ℕ) (es : List Entry) → length es ≤ most → Each Writable es → entries_at_most most (bytes_of_entries es ++ replicate z 0) ≡ es
+unfolding entries_at_most bytes_of_entries
+entries-at_most most z [] h w = entries_zeros most z
+entries-at_most zero z (e ∷ es) h w = absurd (omega (arith, h))
+entries-at_most (suc m) z (e ∷ es) h w =
+    let rest : List ℕ = bytes_of_entries es ++ replicate z 0 in
     rw (
-      append_assoc (bytesOfEntry e) (bytesOfEntries es) (replicate z 0),
-      front-term e rest w.0,
-      front_length e rest w.0,
+      append_assoc (bytes_of_entry e) (bytes_of_entries es) (replicate z 0),
+      front_term_lem e rest w.0,
+      front_length_lem e rest w.0,
       front-text e rest w.0,
       front_rest e rest w.0,
       front-within e rest w.0,
       ne_eqb e.term 0 (λ (q : e.term ≡ 0). omega (arith, q, w.0.some)),
     )
-    (ap (λ (l : List Entry). e ∷ l) (entries-at-most m z es (omega (arith, h)) w.1))
+    (ap (λ (l : List Entry). e ∷ l) (entries-at_most m z es (omega (arith, h)) w.1))
 
 -- ---- dictionaries
 
-pub dictionary-length : (len : ℕ) (es : List Entry) → length (bytesOfEntries es) ≤ len → length (dictionaryBytes len es) ≡ len
-unfolding dictionaryBytes
+pub dictionary-length : (len : ℕ) (es : List Entry) → length (bytes_of_entries es) ≤ len → length (dictionary_bytes len es) ≡ len
+unfolding dictionary_bytes
 dictionary-length len es h =
-    let z : ℕ = len - length (bytesOfEntries es) in
-    omega (arith, h, length-append (bytesOfEntries es) (replicate z 0), length-replicate z (zero))
+    let z : ℕ = len - length (bytes_of_entries es) in
+    omega (arith, h, length-append (bytes_of_entries es) (replicate z 0), length-replicate z (zero))
 
 -- Entries that can be written and fit are the entries of their dictionary.
-pub entries-written : (len : ℕ) (es : List Entry) → length (bytesOfEntries es) ≤ len → Each Writable es → entries (dictionaryBytes len es) ≡ es
-unfolding entries dictionaryBytes
+pub entries-written : (len : ℕ) (es : List Entry) → length (bytes_of_entries es) ≤ len → Each Writable es → entries (dictionary_bytes len es) ≡ es
+unfolding entries dictionary_bytes
 entries-written len es h w =
-    ap (λ (most : ℕ). entriesAtMost most (dictionaryBytes len es)) (dictionary-length len es h)
-    ∙ entries-at-most len (len - length (bytesOfEntries es)) es (omega (arith, h, length-entries es)) w
+    ap (λ (most : ℕ). entries_at_most most (dictionary_bytes len es)) (dictionary-length len es h)
+    ∙ entries-at_most len (len - length (bytes_of_entries es)) es (omega (arith, h, length-entries es)) w
 
 -- A dictionary is its entries, written.
-pub dictionary-written : (bs : List ℕ) → isDictionary bs ≡ true → bs ≡ dictionaryBytes (length bs) (entries bs)
-unfolding isDictionary
+pub dictionary-written : (bs : List ℕ) → is_dictionary bs ≡ true → bs ≡ dictionary_bytes (length bs) (entries bs)
+unfolding is_dictionary
 dictionary-written bs h =
-    sym (same_bytes (dictionaryBytes (length bs) (entries bs)) bs
-    (and_left (isSameText (dictionaryBytes (length bs) (entries bs)) bs) (areNumbered [] (entries bs) && (areNumbersEnough (entries bs) && areTexts (entries bs))) h))
+    sym (same_bytes (dictionary_bytes (length bs) (entries bs)) bs
+    (and_left (is_same_text (dictionary_bytes (length bs) (entries bs)) bs) (are_numbered [] (entries bs) && (are_numbers_enough (entries bs) && are_texts (entries bs))) h))
 
 -- ---- numbered entries can be written
 
-size-each : (es : List Entry) → length (bytesOfEntries es) < 2 ^ 64 → Each (λ (e : Entry). length e.text < 2 ^ 64) es
-unfolding bytesOfEntries
-size-each [] h = tt
-size-each (e ∷ es) h =
-    (omega (arith, h, length-entry e, length-append (bytesOfEntry e) (bytesOfEntries es)), size-each es (omega (arith, h, length-append (bytesOfEntry e) (bytesOfEntries es))))
+size_each : (es : List Entry) → length (bytes_of_entries es) < 2 ^ 64 → Each (λ (e : Entry). length e.text < 2 ^ 64) es
+unfolding bytes_of_entries
+size_each [] h = tt
+size_each (e ∷ es) h =
+    (omega (arith, h, length-entry e, length-append (bytes_of_entry e) (bytes_of_entries es)), size_each es (omega (arith, h, length-append (bytes_of_entry e) (bytes_of_entries es))))
 
-number-writable : (es : List Entry) (e : Entry) → Numbered es e → length e.text < 2 ^ 64 → Writable e
-number-writable es e N h =
-    record { some = omega (arith, N.is, first-positive (kind_of e.text), N.first); word = omega (arith, N.is, N.small, kind-least e.text); size = h }
+number_writable : (es : List Entry) (e : Entry) → Numbered es e → length e.text < 2 ^ 64 → Writable e
+number_writable es e N h =
+    record { some = omega (arith, N.is, first_positive (kind_of e.text), N.first); word = omega (arith, N.is, N.small, kind_least e.text); size = h }
 
-pub writable : (fs es : List Entry) → Each (Numbered fs) es → length (bytesOfEntries es) < 2 ^ 64 → Each Writable es
-writable fs es N h = go es N (size-each es h)
+pub writable : (fs es : List Entry) → Each (Numbered fs) es → length (bytes_of_entries es) < 2 ^ 64 → Each Writable es
+writable fs es N h = go es N (size_each es h)
   where
     go : (xs : List Entry) → Each (Numbered fs) xs → Each (λ (e : Entry). length e.text < 2 ^ 64) xs → Each Writable xs
     go [] a b = tt
-    go (x ∷ xs) a b = (number-writable fs x a.0 b.0, go xs a.1 b.1)
+    go (x ∷ xs) a b = (number_writable fs x a.0 b.0, go xs a.1 b.1)

@@ -10,9 +10,9 @@ use Rattle.spec_ntriples.specs.Utf8.{utf8}
 use Rattle.spec_ntriples.specs.computed.Decoded.{Decoded, broken, decoded, decode}
 use Rattle.spec_ntriples.specs.Characters.{codes}
 use Rattle.spec_ntriples.specs.Texts.{Text, text, TextTriple}
-use Rattle.spec_ntriples.specs.computed.Lines.{Line, wrong, empty, full, readLine, triples, document}
-use Rattle.spec_ntriples.specs.Dictionary.{entry, dictionaryBytes, isDictionary}
-use Rattle.spec_ntriples.specs.Reading.{readFile, readNTriples}
+use Rattle.spec_ntriples.specs.computed.Lines.{Line, wrong, empty, full, read_line, triples, document}
+use Rattle.spec_ntriples.specs.Dictionary.{entry, dictionary_bytes, is_dictionary}
+use Rattle.spec_ntriples.specs.Reading.{read_file, read_nTriples}
 use Rattle.spec_ntriples.specs.inside.Compute.{compute}
 
 -- ---- lines
@@ -32,8 +32,8 @@ abbrev says : Text → Text → Text → TextTriple
 says s p o = record { subject = s; property = p; object = o }
 
 -- Lines, and what each gives.
-abbrev workedLines : List (String × Line)
-workedLines =
+abbrev worked_lines : List (String × Line)
+worked_lines =
     ("<http://example.org/show/218> <http://www.w3.org/2000/01/rdf-schema#label> \"That Seventies Show\"^^<http://www.w3.org/2001/XMLSchema#string> .", full (says (uri "<http://example.org/show/218>") (uri "<http://www.w3.org/2000/01/rdf-schema#label>") (literal "\"That Seventies Show\"")))
     ∷ ("<http://example.org/show/218> <http://example.org/show/localName> \"Cette Série des Années Septante\"@fr-BE .", full (says (uri "<http://example.org/show/218>") (uri "<http://example.org/show/localName>") (literal "\"Cette Série des Années Septante\"@fr-be")))
     ∷ ("_:a.b<p:q>_:c.", full (says (blank "_:a.b") (uri "<p:q>") (blank "_:c")))
@@ -48,9 +48,9 @@ workedLines =
     ∷ ("<p:a> <p:q> <p:b>", wrong)
     ∷ []
 
-pub lines-worked : map (λ (r : String × Line). readLine (codes r.0)) workedLines ≡ map (λ (r : String × Line). r.1) workedLines
+pub lines_worked : map (λ (r : String × Line). read_line (codes r.0)) worked_lines ≡ map (λ (r : String × Line). r.1) worked_lines
 unfolding compute
-lines-worked = refl
+lines_worked = refl
 
 -- The Recommendation's first example, a file.
 pub first-example
@@ -69,8 +69,8 @@ first-example = refl
 
 -- Bytes, and their characters: the last of two, three and four bytes, and forms that are too long, surrogates, above the last code point, or
 -- cut off.
-abbrev workedBytes : List (List ℕ × Decoded)
-workedBytes =
+abbrev worked_bytes : List (List ℕ × Decoded)
+worked_bytes =
     (codes "a" ++ (0xDF ∷ 0xBF ∷ 0xEF ∷ 0xBF ∷ 0xBF ∷ 0xF4 ∷ 0x8F ∷ 0xBF ∷ 0xBF ∷ []), decoded (0x61 ∷ 0x7FF ∷ 0xFFFF ∷ 0x10FFFF ∷ []))
     ∷ (0xC0 ∷ 0x80 ∷ [], broken)
     ∷ (0xE0 ∷ 0x80 ∷ 0x80 ∷ [], broken)
@@ -79,9 +79,9 @@ workedBytes =
     ∷ (0xE2 ∷ 0x82 ∷ [], broken)
     ∷ []
 
-pub bytes-worked : map (λ (r : List ℕ × Decoded). decode r.0) workedBytes ≡ map (λ (r : List ℕ × Decoded). r.1) workedBytes
+pub bytes_worked : map (λ (r : List ℕ × Decoded). decode r.0) worked_bytes ≡ map (λ (r : List ℕ × Decoded). r.1) worked_bytes
 unfolding compute
-bytes-worked = refl
+bytes_worked = refl
 
 -- ---- files
 
@@ -93,9 +93,9 @@ drinks =
 
 -- What they give.
 pub drinks-read
-    : readNTriples (replicate 140 0) drinks 60
-    ≡ readFile (Length 46)
-    (dictionaryBytes 140
+    : read_nTriples (replicate 140 0) drinks 60
+    ≡ read_file (Length 46)
+    (dictionary_bytes 140
     (entry 16 (codes "<p:cola>")
     ∷ entry 17 (codes "<p:Drink>")
     ∷ entry 0x40000001 (codes "_:goods")
@@ -107,27 +107,27 @@ unfolding compute
 drinks-read = refl
 
 -- A file whose three texts do not fit the dictionary, into a delivery that is too short: 14 comes before 15. With a byte more there, 15.
-pub no-space : readNTriples (replicate 50 0) (codes "<p:a><p:q><p:b>.") 21 ≡ readFile (Refused 14) (replicate 50 0) (replicate 21 0)
+pub no_space : read_nTriples (replicate 50 0) (codes "<p:a><p:q><p:b>.") 21 ≡ read_file (Refused 14) (replicate 50 0) (replicate 21 0)
 unfolding compute
-no-space = refl
+no_space = refl
 
-pub no_room : readNTriples (replicate 51 0) (codes "<p:a><p:q><p:b>.") 21 ≡ readFile (Refused 15) (replicate 51 0) (replicate 21 0)
+pub no_room : read_nTriples (replicate 51 0) (codes "<p:a><p:q><p:b>.") 21 ≡ read_file (Refused 15) (replicate 51 0) (replicate 21 0)
 unfolding compute
 no_room = refl
 
 -- A line that breaks the grammar is 13, also where the dictionary is full.
-pub broken-line : readNTriples [] (codes "<p:a><p:q><p:b>.\nx") 0 ≡ readFile (Refused 13) [] []
+pub broken_line : read_nTriples [] (codes "<p:a><p:q><p:b>.\nx") 0 ≡ read_file (Refused 13) [] []
 unfolding compute
-broken-line = refl
+broken_line = refl
 
 -- Dictionaries: one that is right, the same text twice, a text of the vocabulary, a tag in capitals, and a number left out.
 pub dictionaries
-    : map isDictionary
-    (dictionaryBytes 60 (entry 16 (codes "<p:a>") ∷ entry 0x80000001 (codes "\"a\"@en") ∷ [])
-    ∷ dictionaryBytes 60 (entry 16 (codes "<p:a>") ∷ entry 17 (codes "<p:a>") ∷ [])
-    ∷ dictionaryBytes 80 (entry 16 (codes "<http://www.w3.org/2000/01/rdf-schema#domain>") ∷ [])
-    ∷ dictionaryBytes 60 (entry 0x80000001 (codes "\"a\"@EN") ∷ [])
-    ∷ dictionaryBytes 60 (entry 17 (codes "<p:a>") ∷ [])
+    : map is_dictionary
+    (dictionary_bytes 60 (entry 16 (codes "<p:a>") ∷ entry 0x80000001 (codes "\"a\"@en") ∷ [])
+    ∷ dictionary_bytes 60 (entry 16 (codes "<p:a>") ∷ entry 17 (codes "<p:a>") ∷ [])
+    ∷ dictionary_bytes 80 (entry 16 (codes "<http://www.w3.org/2000/01/rdf-schema#domain>") ∷ [])
+    ∷ dictionary_bytes 60 (entry 0x80000001 (codes "\"a\"@EN") ∷ [])
+    ∷ dictionary_bytes 60 (entry 17 (codes "<p:a>") ∷ [])
     ∷ [])
     ≡ true ∷ false ∷ false ∷ false ∷ false ∷ []
 unfolding compute

@@ -5,19 +5,19 @@ use Rattle.spec_ntriples.specs.declared.ByteReply.TheVariants.{Length, Refused}
 use Rattle.spec_ntriples.specs.Reading.{ReadFile}
 
 -- The number of a reply with bytes: 0, or the number that refused.
-abbrev pub byteReplyNumber : ByteReply → ℕ
-byteReplyNumber (Length n) = 0
-byteReplyNumber (Refused n) = n
+abbrev pub byte_reply_number : ByteReply → ℕ
+byte_reply_number (Length n) = 0
+byte_reply_number (Refused n) = n
 
 -- "The length is the result": 0 where it is a refusal.
-abbrev pub byteReplyLength : ByteReply → ℕ
-byteReplyLength (Length n) = n
-byteReplyLength (Refused n) = 0
+abbrev pub byte_reply_length : ByteReply → ℕ
+byte_reply_length (Length n) = n
+byte_reply_length (Refused n) = 0
 
 -- The number of a reply, the length of the delivery, and the bytes of the dictionary and of the delivery.
-abbrev pub fileRead : ℕ → ℕ → List ℕ → List ℕ → ℕ × ℕ × List ℕ × List ℕ
-fileRead n l d m = (n, l, d, m)
+abbrev pub file_read : ℕ → ℕ → List ℕ → List ℕ → ℕ × ℕ × List ℕ × List ℕ
+file_read n l d m = (n, l, d, m)
 
 -- "0, or the refusing number; length: the bytes of the delivery, 0 when refused."
-abbrev pub numberedReading : ReadFile → ℕ × ℕ × List ℕ × List ℕ
-numberedReading r = fileRead (byteReplyNumber r.reply) (byteReplyLength r.reply) r.dictionary r.delivery
+abbrev pub numbered_reading : ReadFile → ℕ × ℕ × List ℕ × List ℕ
+numbered_reading r = file_read (byte_reply_number r.reply) (byte_reply_length r.reply) r.dictionary r.delivery

@@ -2,8 +2,8 @@
 -- Definitions only.
 use Rattle.std.specs.Prelude.{ℕ, zero, suc, ◌≡◌, ◌⊎◌, Bool, true, List, [], ◌∷◌, ◌++◌}
 use Prim.Native.String.{String}
-use Rattle.spec_ntriples.specs.Characters.{codes, isOneOf}
-use Rattle.spec_ntriples.specs.Utf8.{isBetween}
+use Rattle.spec_ntriples.specs.Characters.{codes, is_one_of}
+use Rattle.spec_ntriples.specs.Utf8.{is_between}
 
 infixr 40 ◌then◌
 infixr 30 ◌or◌
@@ -53,11 +53,11 @@ quoted s = exactly (codes s)
 
 -- "[..]" with its characters quoted.
 abbrev pub one_of : String → Expression
-one_of s = set (isOneOf (codes s))
+one_of s = set (is_one_of (codes s))
 
 -- "[a-b]"
 abbrev pub between : ℕ → ℕ → Expression
-between l h = set (isBetween l h)
+between l h = set (is_between l h)
 
 -- "A?"
 abbrev pub optional : Expression → Expression

@@ -3,22 +3,22 @@
 use Rattle.std.specs.Prelude.{ℕ, ◌+◌, ◌*◌, ◌≡◌, Bool, true, not, List, [], ◌∷◌, ◌++◌, map, get_or, drop}
 use Rattle.spec.specs.Lists.{all}
 use Rattle.spec_ntriples.specs.Utf8.{is_scalar, utf8}
-use Rattle.spec_ntriples.specs.Characters.{codes, isOneOf, isIriChar, isStringChar, hexValue, echar}
-use Rattle.spec_ntriples.specs.Texts.{lowerChar, Text, text, isAbsolute, iriText, blankText, stringText, taggedText, typedText, TextTriple}
+use Rattle.spec_ntriples.specs.Characters.{codes, is_one_of, is_iri_char, is_string_char, hex_value, echar}
+use Rattle.spec_ntriples.specs.Texts.{lower_char, Text, text, is_absolute, iri_text, blank_text, string_text, tagged_text, typed_text, TextTriple}
 use Rattle.spec_ntriples.specs.Expressions.{Matches, optional}
-use Rattle.spec_ntriples.specs.Productions.{UCHAR, ECHAR, BLANK-NODE-LABEL, LANGTAG, EOL, WS, COMMENT, subject, predicate, object, emptyLine}
+use Rattle.spec_ntriples.specs.Productions.{UCHAR, ECHAR, BLANK_NODE_LABEL, LANGTAG, EOL, WS, COMMENT, subject, predicate, object, empty_line}
 
 -- ---- escapes
 
 -- The number of hexadecimal digits behind a number.
-unfoldable pub hexNumber : ℕ → List ℕ → ℕ
-hexNumber n [] = n
-hexNumber n (d ∷ ds) = hexNumber (n * 16 + hexValue d) ds
+unfoldable pub hex_number : ℕ → List ℕ → ℕ
+hex_number n [] = n
+hex_number n (d ∷ ds) = hex_number (n * 16 + hex_value d) ds
 
 -- UCHAR stands for the scalar value whose number its digits are; other numbers are no characters.
 pub record Uchar (p : List ℕ) (c : ℕ) : Type 0 where
   pub matched : Matches UCHAR p
-  pub number : hexNumber 0 (drop 2 p) ≡ c
+  pub number : hex_number 0 (drop 2 p) ≡ c
   pub scalar : is_scalar c ≡ true
 
 -- ECHAR stands for what the letter behind its backslash says.
@@ -28,14 +28,14 @@ pub record Echar (p : List ℕ) (c : ℕ) : Type 0 where
 
 -- A piece of an IRI and the character that it stands for: one that IRIREF allows, as it is or by UCHAR.
 pub data IriPiece (p : List ℕ) (c : ℕ) : Type 0 where
-  itself : p ≡ c ∷ [] → isIriChar c ≡ true → IriPiece p c
-  by-uchar : Uchar p c → isIriChar c ≡ true → IriPiece p c
+  itself : p ≡ c ∷ [] → is_iri_char c ≡ true → IriPiece p c
+  by_uchar : Uchar p c → is_iri_char c ≡ true → IriPiece p c
 
 -- A piece of a string and the character that it stands for.
 pub data StringPiece (p : List ℕ) (c : ℕ) : Type 0 where
-  itself : p ≡ c ∷ [] → isStringChar c ≡ true → StringPiece p c
-  by-echar : Echar p c → StringPiece p c
-  by-uchar : Uchar p c → StringPiece p c
+  itself : p ≡ c ∷ [] → is_string_char c ≡ true → StringPiece p c
+  by_echar : Echar p c → StringPiece p c
+  by_uchar : Uchar p c → StringPiece p c
 
 -- The characters that pieces, one after the other, stand for.
 pub data Resolves (Piece : List ℕ → ℕ → Type 0) : List ℕ → List ℕ → Type 0 where
@@ -49,7 +49,7 @@ pub record Iri (u cs : List ℕ) : Type 0 where
   pub inside : List ℕ
   pub spelled : u ≡ codes "<" ++ (inside ++ codes ">")
   pub resolved : Resolves IriPiece inside cs
-  pub absolute : isAbsolute cs ≡ true
+  pub absolute : is_absolute cs ≡ true
 
 -- The characters of a string: a quote, pieces, a quote.
 pub record Quoted (u cs : List ℕ) : Type 0 where
@@ -60,19 +60,19 @@ pub record Quoted (u cs : List ℕ) : Type 0 where
 -- A term as it is spelled, and its kind and canonical text.
 pub data Means (u : List ℕ) (t : Text) : Type 0 where
   -- An IRI with its escapes resolved.
-  iri : (cs : List ℕ) → Iri u cs → t ≡ text 0 (iriText cs) → Means u t
+  iri : (cs : List ℕ) → Iri u cs → t ≡ text 0 (iri_text cs) → Means u t
   -- A blank node's label, as it is.
-  blank : (label : List ℕ) → Matches BLANK-NODE-LABEL u → u ≡ codes "_:" ++ label → t ≡ text 1 (blankText label) → Means u t
+  blank : (label : List ℕ) → Matches BLANK_NODE_LABEL u → u ≡ codes "_:" ++ label → t ≡ text 1 (blank_text label) → Means u t
   -- A literal that is a string alone.
-  plain : (cs : List ℕ) → Quoted u cs → t ≡ text 2 (stringText cs) → Means u t
+  plain : (cs : List ℕ) → Quoted u cs → t ≡ text 2 (string_text cs) → Means u t
   -- A string with a language tag, which is put in lower case.
   tagged
       : (string cs w tag : List ℕ) → u ≡ string ++ (w ++ (codes "@" ++ tag)) → Quoted string cs → Matches WS w → Matches LANGTAG (codes "@" ++ tag)
-      → t ≡ text 2 (taggedText (stringText cs) (map lowerChar tag)) → Means u t
+      → t ≡ text 2 (tagged_text (string_text cs) (map lower_char tag)) → Means u t
   -- A string with a datatype, which is left off where it is xsd:string.
   typed
       : (string cs w w' type ds : List ℕ) → u ≡ string ++ (w ++ (codes "^^" ++ (w' ++ type))) → Quoted string cs → Matches WS w → Matches WS w'
-      → Iri type ds → t ≡ text 2 (typedText (stringText cs) (iriText ds)) → Means u t
+      → Iri type ds → t ≡ text 2 (typed_text (string_text cs) (iri_text ds)) → Means u t
 
 -- A canonical text: one that some spelling of a term means.
 pub record TextOfTerm (bytes : List ℕ) : Type 0 where
@@ -98,38 +98,38 @@ pub record Parts (line : List ℕ) : Type 0 where
   pub comment : List ℕ
   pub spelled : line ≡ w0 ++ (s ++ (w1 ++ (p ++ (w2 ++ (o ++ (w3 ++ (codes "." ++ (w4 ++ comment))))))))
   pub white0 : Matches WS w0
-  pub isSubject : Matches subject s
+  pub is_subject : Matches subject s
   pub white1 : Matches WS w1
-  pub isPredicate : Matches predicate p
+  pub is_predicate : Matches predicate p
   pub white2 : Matches WS w2
-  pub isObject : Matches object o
+  pub is_object : Matches object o
   pub white3 : Matches WS w3
   pub white4 : Matches WS w4
-  pub isComment : Matches (optional COMMENT) comment
+  pub is_comment : Matches (optional COMMENT) comment
 
 -- A line with a triple, and the texts that its subject, predicate and object mean.
 pub record TripleLine (line : List ℕ) (t : TextTriple) : Type 0 where
   pub parts : Parts line
-  pub subjectMeans : Means parts.s t.subject
-  pub predicateMeans : Means parts.p t.property
-  pub objectMeans : Means parts.o t.object
+  pub subject_means : Means parts.s t.subject
+  pub predicate_means : Means parts.p t.property
+  pub object_means : Means parts.o t.object
 
 -- ---- documents
 
 -- Whether no character ends a line: none is CR or LF.
-abbrev pub isOneLine : List ℕ → Bool
-isOneLine l = all (λ c. not (isOneOf (codes "\r\n") c)) l
+abbrev pub is_one_line : List ℕ → Bool
+is_one_line l = all (λ c. not (is_one_of (codes "\r\n") c)) l
 
 -- What a line says: nothing, or a triple.
 pub data LineSays (line : List ℕ) (ts : List TextTriple) : Type 0 where
-  no-triple : Matches emptyLine line → ts ≡ [] → LineSays line ts
-  one-triple : (t : TextTriple) → TripleLine line t → ts ≡ t ∷ [] → LineSays line ts
+  no_triple_lem : Matches empty_line line → ts ≡ [] → LineSays line ts
+  one_triple : (t : TextTriple) → TripleLine line t → ts ≡ t ∷ [] → LineSays line ts
 
 -- [1] ntriplesDoc ::= triple? (EOL triple)* EOL?, with lines that have no triple anywhere: lines with EOL between them, and their triples.
 pub data Says : List ℕ → List TextTriple → Type 0 where
-  last : {u : List ℕ} {ts : List TextTriple} → isOneLine u ≡ true → LineSays u ts → Says u ts
+  last : {u : List ℕ} {ts : List TextTriple} → is_one_line u ≡ true → LineSays u ts → Says u ts
   more
-      : {u : List ℕ} {ts : List TextTriple} (line e rest : List ℕ) (ls us : List TextTriple) → u ≡ line ++ (e ++ rest) → isOneLine line ≡ true
+      : {u : List ℕ} {ts : List TextTriple} (line e rest : List ℕ) (ls us : List TextTriple) → u ≡ line ++ (e ++ rest) → is_one_line line ≡ true
       → LineSays line ls → Matches EOL e → Says rest us → ts ≡ ls ++ us → Says u ts
 
 -- A file: UTF-8 of characters that say triples.

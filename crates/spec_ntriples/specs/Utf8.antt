@@ -2,16 +2,16 @@
 use Rattle.std.specs.Prelude.{ℕ, ◌+◌, ◌/◌, ◌%◌, Bool, ◌&&◌, ◌||◌, cond, List, [], ◌∷◌, ◌++◌, leb, ltb}
 
 -- Whether a number is one from l to h.
-abbrev pub isBetween : ℕ → ℕ → ℕ → Bool
-isBetween l h c = leb l c && leb c h
+abbrev pub is_between : ℕ → ℕ → ℕ → Bool
+is_between l h c = leb l c && leb c h
 
 -- "Unicode scalar value: any Unicode code point except high-surrogate and low-surrogate code points."
 unfoldable pub is_scalar : ℕ → Bool
-is_scalar c = ltb c 0xD800 || isBetween 0xE000 0x10FFFF c
+is_scalar c = ltb c 0xD800 || is_between 0xE000 0x10FFFF c
 
 -- "Table 3-6. UTF-8 Bit Distribution": the bytes of a character.
-unfoldable pub encodeChar : ℕ → List ℕ
-encodeChar c =
+unfoldable pub encode_char : ℕ → List ℕ
+encode_char c =
     cond (ltb c 0x80) (c ∷ [])
     (cond (ltb c 0x800) ((0xC0 + c / 64) ∷ (0x80 + c % 64) ∷ [])
     (cond (ltb c 0x10000) ((0xE0 + c / 4096) ∷ (0x80 + c / 64 % 64) ∷ (0x80 + c % 64) ∷ [])
@@ -20,4 +20,4 @@ encodeChar c =
 -- The bytes of some characters.
 unfoldable pub utf8 : List ℕ → List ℕ
 utf8 [] = []
-utf8 (c ∷ cs) = encodeChar c ++ utf8 cs
+utf8 (c ∷ cs) = encode_char c ++ utf8 cs

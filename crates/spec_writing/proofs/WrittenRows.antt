@@ -9,142 +9,142 @@ use native.Mathlib.Omega.{arith}
 use lib.Dec.{eqb, ltb}
 use borrow.Author.Tests.{eqb-true}
 use Rattle.spec.specs.declared.Triple.{Triple}
-use Rattle.spec.specs.Terms.{kind, number, isUri, isBlank, isLiteral, isResource, isTriple, isStatement, areSidesAllowed, isAllowedStatement, isAllowedFact}
+use Rattle.spec.specs.Terms.{kind, number, is_uri, is_blank, is_literal, is_resource, is_triple, is_statement, are_sides_allowed, is_allowed_statement, is_allowed_fact}
 use Rattle.spec.specs.Lists.{all}
-use Rattle.spec.specs.Tables.{rows, isTable}
+use Rattle.spec.specs.Tables.{rows, is_table}
 use Rattle.spec.specs.inside.Each.{Each}
 use Rattle.spec.proofs.Lists.{or_cases}
 use Rattle.spec.proofs.Ascending.{and_left, and_right}
-use Rattle.spec.proofs.TableFormed.{isTable-wellFormed}
-use Rattle.spec_ntriples.specs.Dictionary.{Entry, entries, isDictionary}
-use Rattle.spec_ntriples.specs.Reading.{textTriples}
+use Rattle.spec.proofs.TableFormed.{is_table_well_formed}
+use Rattle.spec_ntriples.specs.Dictionary.{Entry, entries, is_dictionary}
+use Rattle.spec_ntriples.specs.Reading.{text_triples}
 use Rattle.spec_ntriples.specs.computed.Lines.{Document, triples, document}
 use Rattle.spec_ntriples.specs.Meaning.{FileSays}
 use Rattle.spec_ntriples.proofs.TripleTexts.{TextsRight}
-use Rattle.spec_writing.specs.Writing.{documentBytes, rowTexts, rowsBytes, hasText, hasTexts}
-use Rattle.spec_writing.specs.CanonicalForm.{CanonicalFile, canonicalForm}
-use Rattle.spec_writing.proofs.TextTerms.{text-canonical, text-kind}
-use Rattle.spec_writing.proofs.CanonicalDocuments.{document-says, document-written, document-form}
+use Rattle.spec_writing.specs.Writing.{document_bytes, row_texts, rows_bytes, has_text, has_texts}
+use Rattle.spec_writing.specs.CanonicalForm.{CanonicalFile, canonical_form}
+use Rattle.spec_writing.proofs.TextTerms.{text_canonical, text-kind}
+use Rattle.spec_writing.proofs.CanonicalDocuments.{document_says, document-written, document_form}
 
 -- ---- the kinds of a triple's terms
 
-uri-kind : (w : ℕ) → isUri w ≡ true → kind w ≤ 0
-unfolding isUri
+uri-kind : (w : ℕ) → is_uri w ≡ true → kind w ≤ 0
+unfolding is_uri
 uri-kind w h = let e = eqb-true (kind w) 0 (and_left (eqb (kind w) 0) (ltb 0 (number w)) h) in omega (arith, e)
 
-resource-kind : (w : ℕ) → isResource w ≡ true → kind w ≤ 1
-unfolding isUri isBlank
+resource-kind : (w : ℕ) → is_resource w ≡ true → kind w ≤ 1
+unfolding is_uri is_blank
 resource-kind w h =
     ⊎_elim
     (λ i. let e = eqb-true (kind w) 0 (and_left (eqb (kind w) 0) (ltb 0 (number w)) i) in omega (arith, e))
     (λ i. let e = eqb-true (kind w) 1 (and_left (eqb (kind w) 1) (ltb 0 (number w)) i) in omega (arith, e))
-    (or_cases (isUri w) (isBlank w) h)
+    (or_cases (is_uri w) (is_blank w) h)
 
 -- A triple's subject is a URI or blank, its property a URI.
 pub record Kinds (t : Triple) : Type 0 where
-  pub subjectMost : kind t.subject ≤ 1
-  pub propertyMost : kind t.property ≤ 0
+  pub subject_most : kind t.subject ≤ 1
+  pub property_most : kind t.property ≤ 0
 
-triple-kinds : (t : Triple) → isTriple t ≡ true → Kinds t
-unfolding isTriple
-triple-kinds t h =
-    let a = isResource t.subject in
-    let b = isUri t.property in
-    let c = isResource t.object || isLiteral t.object in
+triple_kinds : (t : Triple) → is_triple t ≡ true → Kinds t
+unfolding is_triple
+triple_kinds t h =
+    let a = is_resource t.subject in
+    let b = is_uri t.property in
+    let c = is_resource t.object || is_literal t.object in
     let k : (a && b) ≡ true = and_left (a && b) c h in
-    record { subjectMost = resource-kind t.subject (and_left a b k); propertyMost = uri-kind t.property (and_right a b k) }
+    record { subject_most = resource-kind t.subject (and_left a b k); property_most = uri-kind t.property (and_right a b k) }
 
 -- ---- the texts of rows
 
 -- All terms of a row have texts.
 pub record AllTexts (es : List Entry) (t : Triple) : Type 0 where
-  pub subject : hasText es t.subject ≡ true
-  pub property : hasText es t.property ≡ true
-  pub object : hasText es t.object ≡ true
+  pub subject : has_text es t.subject ≡ true
+  pub property : has_text es t.property ≡ true
+  pub object : has_text es t.object ≡ true
 
-pub all-texts : (es : List Entry) (t : Triple) → hasTexts es t ≡ true → AllTexts es t
-unfolding hasTexts
-all-texts es t h =
-    let a = hasText es t.subject in
-    let b = hasText es t.property in
-    let c = hasText es t.object in
+pub all_texts : (es : List Entry) (t : Triple) → has_texts es t ≡ true → AllTexts es t
+unfolding has_texts
+all_texts es t h =
+    let a = has_text es t.subject in
+    let b = has_text es t.property in
+    let c = has_text es t.object in
     let k : (b && c) ≡ true = and_right a (b && c) h in
     record { subject = and_left a (b && c) h; property = and_left b c k; object = and_right b c k }
 
-module _ (d : List ℕ) (formed : isDictionary d ≡ true) where
-  row-right : (t : Triple) → isTriple t ≡ true → hasTexts (entries d) t ≡ true → TextsRight (rowTexts (entries d) t)
-  unfolding rowTexts
-  row-right t h s =
-      let k = triple-kinds t h in
-      let a = all-texts (entries d) t s in
+module _ (d : List ℕ) (formed : is_dictionary d ≡ true) where
+  row_right : (t : Triple) → is_triple t ≡ true → has_texts (entries d) t ≡ true → TextsRight (row_texts (entries d) t)
+  unfolding row_texts
+  row_right t h s =
+      let k = triple_kinds t h in
+      let a = all_texts (entries d) t s in
       record {
         canonical =
             record {
-              subject = text-canonical d formed t.subject a.subject;
-              property = text-canonical d formed t.property a.property;
-              object = text-canonical d formed t.object a.object;
+              subject = text_canonical d formed t.subject a.subject;
+              property = text_canonical d formed t.property a.property;
+              object = text_canonical d formed t.object a.object;
             };
-        subjectKind = text-kind d formed t.subject a.subject;
-        propertyKind = text-kind d formed t.property a.property;
-        objectKind = text-kind d formed t.object a.object;
-        subjectMost = k.subjectMost;
-        propertyMost = k.propertyMost;
+        subject_kind = text-kind d formed t.subject a.subject;
+        property_kind = text-kind d formed t.property a.property;
+        object_kind = text-kind d formed t.object a.object;
+        subject_most = k.subject_most;
+        property_most = k.property_most;
       }
 
-  pub rows_right : (ts : List Triple) → all isTriple ts ≡ true → all (hasTexts (entries d)) ts ≡ true → Each TextsRight (map (rowTexts (entries d)) ts)
+  pub rows_right : (ts : List Triple) → all is_triple ts ≡ true → all (has_texts (entries d)) ts ≡ true → Each TextsRight (map (row_texts (entries d)) ts)
   unfolding all
   rows_right [] h s = tt
   rows_right (t ∷ ts) h s = (
-    row-right t (and_left (isTriple t) (all isTriple ts) h) (and_left (hasTexts (entries d) t) (all (hasTexts (entries d)) ts) s),
-    rows_right ts (and_right (isTriple t) (all isTriple ts) h) (and_right (hasTexts (entries d) t) (all (hasTexts (entries d)) ts) s),
+    row_right t (and_left (is_triple t) (all is_triple ts) h) (and_left (has_texts (entries d) t) (all (has_texts (entries d)) ts) s),
+    rows_right ts (and_right (is_triple t) (all is_triple ts) h) (and_right (has_texts (entries d) t) (all (has_texts (entries d)) ts) s),
   )
 
   -- ---- rows written
 
-  module _ (ts : List Triple) (h : all isTriple ts ≡ true) (s : all (hasTexts (entries d)) ts ≡ true) where
+  module _ (ts : List Triple) (h : all is_triple ts ≡ true) (s : all (has_texts (entries d)) ts ≡ true) where
     -- Theorem 3: the lines of rows say the rows' texts, in order,
-    pub written-says : FileSays (rowsBytes (entries d) ts) (map (rowTexts (entries d)) ts)
-    unfolding rowsBytes
-    written-says = document-says (map (rowTexts (entries d)) ts) (rows_right ts h s)
+    pub written-says : FileSays (rows_bytes (entries d) ts) (map (row_texts (entries d)) ts)
+    unfolding rows_bytes
+    written-says = document_says (map (row_texts (entries d)) ts) (rows_right ts h s)
 
     -- are read as them,
-    pub written-document : document (rowsBytes (entries d) ts) ≡ triples (map (rowTexts (entries d)) ts)
-    unfolding rowsBytes
-    written-document = document-written (map (rowTexts (entries d)) ts) (rows_right ts h s)
+    pub written-document : document (rows_bytes (entries d) ts) ≡ triples (map (row_texts (entries d)) ts)
+    unfolding rows_bytes
+    written-document = document-written (map (row_texts (entries d)) ts) (rows_right ts h s)
 
     -- and are canonical.
-    pub written-canonical : CanonicalFile (rowsBytes (entries d) ts)
-    unfolding rowsBytes
-    written-canonical = (document-form (map (rowTexts (entries d)) ts) (rows_right ts h s)).file
+    pub written-canonical : CanonicalFile (rows_bytes (entries d) ts)
+    unfolding rows_bytes
+    written-canonical = (document_form (map (row_texts (entries d)) ts) (rows_right ts h s)).file
 
     -- Theorem 4: they are their own canonical form.
-    pub written-fixed : canonicalForm (rowsBytes (entries d) ts) ≡ rowsBytes (entries d) ts
-    unfolding canonicalForm textTriples rowsBytes
-    written-fixed = ap (λ (x : Document). documentBytes (textTriples x)) written-document
+    pub written-fixed : canonical_form (rows_bytes (entries d) ts) ≡ rows_bytes (entries d) ts
+    unfolding canonical_form text_triples rows_bytes
+    written-fixed = ap (λ (x : Document). document_bytes (text_triples x)) written-document
 
 -- ---- the rows of tables
 
-all-implied : {A : Type 0} (p q : A → Bool) → ((x : A) → p x ≡ true → q x ≡ true) → (xs : List A) → all p xs ≡ true → all q xs ≡ true
+all_implied : {A : Type 0} (p q : A → Bool) → ((x : A) → p x ≡ true → q x ≡ true) → (xs : List A) → all p xs ≡ true → all q xs ≡ true
 unfolding all
-all-implied p q f [] h = refl
-all-implied p q f (x ∷ xs) h = rw (f x (and_left (p x) (all p xs) h)) (all-implied p q f xs (and_right (p x) (all p xs) h))
+all_implied p q f [] h = refl
+all_implied p q f (x ∷ xs) h = rw (f x (and_left (p x) (all p xs) h)) (all_implied p q f xs (and_right (p x) (all p xs) h))
 
 -- What the rows of a table are allowed to be, they are.
-pub table-rows : (allowed test : Triple → Bool) (most : ℕ) (table : List ℕ) → ((t : Triple) → allowed t ≡ true → test t ≡ true) → isTable allowed most table ≡ true → all test (rows table) ≡ true
-table-rows allowed test most table f h = all-implied allowed test f (rows table) (isTable-wellFormed allowed most table h).each-allowed
+pub table-rows : (allowed test : Triple → Bool) (most : ℕ) (table : List ℕ) → ((t : Triple) → allowed t ≡ true → test t ≡ true) → is_table allowed most table ≡ true → all test (rows table) ≡ true
+table-rows allowed test most table f h = all_implied allowed test f (rows table) (is_table_well_formed allowed most table h).each_allowed
 
-pub statement-triple : (t : Triple) → isAllowedStatement t ≡ true → isTriple t ≡ true
-unfolding isAllowedStatement
-statement-triple t h = and_left (isTriple t) (isStatement t && areSidesAllowed t) h
+pub statement-triple : (t : Triple) → is_allowed_statement t ≡ true → is_triple t ≡ true
+unfolding is_allowed_statement
+statement-triple t h = and_left (is_triple t) (is_statement t && are_sides_allowed t) h
 
-pub statement-statement : (t : Triple) → isAllowedStatement t ≡ true → isStatement t ≡ true
-unfolding isAllowedStatement
-statement-statement t h = and_left (isStatement t) (areSidesAllowed t) (and_right (isTriple t) (isStatement t && areSidesAllowed t) h)
+pub statement_statement : (t : Triple) → is_allowed_statement t ≡ true → is_statement t ≡ true
+unfolding is_allowed_statement
+statement_statement t h = and_left (is_statement t) (are_sides_allowed t) (and_right (is_triple t) (is_statement t && are_sides_allowed t) h)
 
-pub fact-triple : (t : Triple) → isAllowedFact t ≡ true → isTriple t ≡ true
-unfolding isAllowedFact
-fact-triple t h = and_left (isTriple t) (not (isStatement t)) h
+pub fact-triple : (t : Triple) → is_allowed_fact t ≡ true → is_triple t ≡ true
+unfolding is_allowed_fact
+fact-triple t h = and_left (is_triple t) (not (is_statement t)) h
 
-pub fact-fact : (t : Triple) → isAllowedFact t ≡ true → not (isStatement t) ≡ true
-unfolding isAllowedFact
-fact-fact t h = and_right (isTriple t) (not (isStatement t)) h
+pub fact_fact : (t : Triple) → is_allowed_fact t ≡ true → not (is_statement t) ≡ true
+unfolding is_allowed_fact
+fact_fact t h = and_right (is_triple t) (not (is_statement t)) h

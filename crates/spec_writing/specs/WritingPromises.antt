@@ -4,16 +4,16 @@ use mathlib.Core.List.{List, [], ◌∷◌, ◌++◌, map, Memᴰ}
 use Rattle.spec.specs.declared.Triple.{Triple}
 use Rattle.spec.specs.Lists.{padded}
 use Rattle.spec.specs.Tables.{rows}
-use Rattle.spec.specs.Messages.{Message, mostBytes, encode}
+use Rattle.spec.specs.Messages.{Message, most_bytes, encode}
 use Rattle.spec_ntriples.specs.declared.ByteReply.TheVariants.{Length, Refused}
 use Rattle.spec_ntriples.specs.Characters.{codes}
-use Rattle.spec_ntriples.specs.Texts.{lowerChar, xsdString}
+use Rattle.spec_ntriples.specs.Texts.{lower_char, xsd_string}
 use Rattle.spec_ntriples.specs.Expressions.{Matches}
 use Rattle.spec_ntriples.specs.Productions.{LANGTAG}
-use Rattle.spec_ntriples.specs.Dictionary.{Entry, entries, isDictionary}
+use Rattle.spec_ntriples.specs.Dictionary.{Entry, entries, is_dictionary}
 use Rattle.spec_ntriples.specs.Sights.{text_of}
-use Rattle.spec_ntriples.specs.Reading.{readFile, readNTriples}
-use Rattle.spec_writing.specs.Writing.{rowsBytes}
+use Rattle.spec_ntriples.specs.Reading.{read_file, read_nTriples}
+use Rattle.spec_writing.specs.Writing.{rows_bytes}
 use Rattle.spec_writing.specs.CanonicalForm.{CanonicalString, CanonicalLines, CanonicalFile}
 
 -- ---- refusals
@@ -29,21 +29,21 @@ pub record NoText (es : List Entry) (ts : List Triple) : Type 0 where
 -- Why a writing is refused, and by which number: the first "no" of 1, 16 and 8.
 pub data WritingRefusedBy (formed : Bool) (table dictionary : List ℕ) (len n : ℕ) : Type 0 where
   no_table : n ≡ 1 → formed ≡ false → WritingRefusedBy formed table dictionary len n
-  no-dictionary : n ≡ 1 → isDictionary dictionary ≡ false → WritingRefusedBy formed table dictionary len n
-  no_text
-      : n ≡ 16 → formed ≡ true → isDictionary dictionary ≡ true → NoText (entries dictionary) (rows table)
+  no_dictionary : n ≡ 1 → is_dictionary dictionary ≡ false → WritingRefusedBy formed table dictionary len n
+  no_text_lem
+      : n ≡ 16 → formed ≡ true → is_dictionary dictionary ≡ true → NoText (entries dictionary) (rows table)
       → WritingRefusedBy formed table dictionary len n
   no_room
-      : n ≡ 8 → formed ≡ true → isDictionary dictionary ≡ true → (NoText (entries dictionary) (rows table) → ⊥)
-      → len < length (rowsBytes (entries dictionary) (rows table)) → WritingRefusedBy formed table dictionary len n
+      : n ≡ 8 → formed ≡ true → is_dictionary dictionary ≡ true → (NoText (entries dictionary) (rows table) → ⊥)
+      → len < length (rows_bytes (entries dictionary) (rows table)) → WritingRefusedBy formed table dictionary len n
 
 -- That a writing is accepted, and gives n bytes.
 pub record WritingAccepted (formed : Bool) (table dictionary : List ℕ) (len n : ℕ) : Type 0 where
-  pub tableFormed : formed ≡ true
-  pub dictionaryFormed : isDictionary dictionary ≡ true
-  pub haveTexts : NoText (entries dictionary) (rows table) → ⊥
-  pub room : length (rowsBytes (entries dictionary) (rows table)) ≤ len
-  pub size : n ≡ length (rowsBytes (entries dictionary) (rows table))
+  pub table_formed : formed ≡ true
+  pub dictionary_formed : is_dictionary dictionary ≡ true
+  pub have_texts : NoText (entries dictionary) (rows table) → ⊥
+  pub room : length (rows_bytes (entries dictionary) (rows table)) ≤ len
+  pub size : n ≡ length (rows_bytes (entries dictionary) (rows table))
 
 -- ---- one canonical form
 
@@ -51,8 +51,8 @@ pub record WritingAccepted (formed : Bool) (table dictionary : List ℕ) (len n 
 -- off".
 pub record NormalTerm (u : List ℕ) : Type 0 where
   pub lowerCase
-      : (string tag : List ℕ) → u ≡ string ++ (codes "@" ++ tag) → CanonicalString string → Matches LANGTAG (codes "@" ++ tag) → map lowerChar tag ≡ tag
-  pub noStringType : (string : List ℕ) → u ≡ string ++ (codes "^^" ++ xsdString) → CanonicalString string → ⊥
+      : (string tag : List ℕ) → u ≡ string ++ (codes "@" ++ tag) → CanonicalString string → Matches LANGTAG (codes "@" ++ tag) → map lower_char tag ≡ tag
+  pub no_string_type : (string : List ℕ) → u ≡ string ++ (codes "^^" ++ xsd_string) → CanonicalString string → ⊥
 
 -- The same of the objects of canonical lines; subjects and predicates have neither tags nor types.
 abbrev pub NormalLines : {u : List ℕ} → CanonicalLines u → Type 0
@@ -67,19 +67,19 @@ pub record NormalFile (bytes : List ℕ) : Type 0 where
 -- ---- the way back
 
 -- A delivery that adds some facts and says nothing else.
-abbrev pub factsAddition : List Triple → Message
-factsAddition ts = record { statementsWithdrawn = []; factsWithdrawn = []; statementsAdded = []; factsAdded = ts; fields = [] }
+abbrev pub facts_addition : List Triple → Message
+facts_addition ts = record { statements_withdrawn = []; facts_withdrawn = []; statements_added = []; facts_added = ts; fields = [] }
 
 -- One that adds some statements.
-abbrev pub statementsAddition : List Triple → Message
-statementsAddition ts = record { statementsWithdrawn = []; factsWithdrawn = []; statementsAdded = ts; factsAdded = []; fields = [] }
+abbrev pub statements_addition : List Triple → Message
+statements_addition ts = record { statements_withdrawn = []; facts_withdrawn = []; statements_added = ts; facts_added = []; fields = [] }
 
 -- "Where the delivery has space for them, reading the output with that same book yields the same triples and adds no text": a file of n
 -- lines, read with a dictionary, leaves the dictionary as it was and gives the bytes of a message and zeros; without that space it is
 -- refused by 15.
 pub record ReadsBack (dictionary file : List ℕ) (n : ℕ) (says : Message) : Type 0 where
   pub fits
-      : (len : ℕ) → 10 + 12 * n ≤ min len mostBytes
-      → readNTriples dictionary file len ≡ readFile (Length (10 + 12 * n)) dictionary (padded len (encode says))
+      : (len : ℕ) → 10 + 12 * n ≤ min len most_bytes
+      → read_nTriples dictionary file len ≡ read_file (Length (10 + 12 * n)) dictionary (padded len (encode says))
   pub exceeds
-      : (len : ℕ) → min len mostBytes < 10 + 12 * n → readNTriples dictionary file len ≡ readFile (Refused 15) dictionary (replicate len 0)
+      : (len : ℕ) → min len most_bytes < 10 + 12 * n → read_nTriples dictionary file len ≡ read_file (Refused 15) dictionary (replicate len 0)

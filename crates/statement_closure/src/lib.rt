@@ -1,7 +1,7 @@
 // The closed pairs of a table of statements, compiled once into lent words: what each subject of a subclass or subproperty statement leads to
 // by one or more steps. They are never held as rows, and worked out in the words themselves.
 ghost use Rattle.std.specs.Prelude.{◌≡◌, true, ◌*◌, ◌≤◌, ◌<◌, length};
-ghost use Rattle.spec.specs.Tables.{isStatementTable};
+ghost use Rattle.spec.specs.Tables.{is_statement_table};
 ghost use Rattle.saturate_schema.specs.inside.Nodes.{Columns};
 ghost use Rattle.closure_words.specs.inside.Closure.{IsClosure};
 ghost use Rattle.statement_closure.specs.inside.Filled.{Filled};
@@ -31,7 +31,7 @@ fn fill_rows(statements: &[u32], m: usize, columns: &[u64], ns: usize, closure: 
 
 // Compiles the closed pairs of a table of statements into lent words.
 pub fn close_statements(statements: &[u32], closure: &mut [u32])
-    requires statements_value { isStatementTable statements.now ≡ true }
+    requires statements_value { is_statement_table statements.now ≡ true }
     requires closure_len { length closure.old ≡ 8706 }
     ensures { IsClosure statements.now closure.new }
 {

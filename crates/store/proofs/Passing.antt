@@ -2,15 +2,15 @@
 use mathlib.Core.Path.{◌≡◌, refl}
 use mathlib.Core.Bool.{true, false, cond}
 use Rattle.spec.specs.declared.Triple.{Triple}
-use Rattle.spec.specs.Terms.{isTriple, isStatement, areSidesAllowed, isAllowedStatement, isAllowedFact}
+use Rattle.spec.specs.Terms.{is_triple, is_statement, are_sides_allowed, is_allowed_statement, is_allowed_fact}
 
-pub fact-allowed : (t : Triple) → isTriple t ≡ true → isStatement t ≡ false → isAllowedFact t ≡ true
-unfolding isAllowedFact
-fact-allowed t e f = rw (e, f) refl
+pub fact_allowed : (t : Triple) → is_triple t ≡ true → is_statement t ≡ false → is_allowed_fact t ≡ true
+unfolding is_allowed_fact
+fact_allowed t e f = rw (e, f) refl
 
-pub statement-allowed : (t : Triple) → isTriple t ≡ true → isStatement t ≡ true → areSidesAllowed t ≡ true → isAllowedStatement t ≡ true
-unfolding isAllowedStatement
-statement-allowed t e f g = rw (e, f, g) refl
+pub statement_allowed : (t : Triple) → is_triple t ≡ true → is_statement t ≡ true → are_sides_allowed t ≡ true → is_allowed_statement t ≡ true
+unfolding is_allowed_statement
+statement_allowed t e f g = rw (e, f, g) refl
 
-pub sides-asked : (t : Triple) → isStatement t ≡ true → areSidesAllowed t ≡ false → cond (isStatement t) (areSidesAllowed t) true ≡ false
+pub sides-asked : (t : Triple) → is_statement t ≡ true → are_sides_allowed t ≡ false → cond (is_statement t) (are_sides_allowed t) true ≡ false
 sides-asked t f g = rw (f, g) refl

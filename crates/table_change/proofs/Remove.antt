@@ -9,25 +9,25 @@ use lib.Seq.{take_at, drop-append-le, drop-append-add, length-take-le, set_at, s
 use Rattle.spec.specs.declared.Triple.{Triple}
 use Rattle.spec.specs.Terms.{triple}
 use Rattle.spec.specs.Tables.{count, rows, flatten, layout}
-use Rattle.table_change.specs.inside.Words.{removeAt}
-use Rattle.table_change.specs.inside.Words.{movedDown}
+use Rattle.table_change.specs.inside.Words.{remove_at}
+use Rattle.table_change.specs.inside.Words.{moved_down}
 use Rattle.spec.specs.inside.Laid.{Laid}
 use Rattle.spec.proofs.TableRows.{length-flatten, flatten-append, length-rows}
 use Rattle.table_change.proofs.Insert.{set_past}
 
-exactly-three : (l : List ℕ) → length l ≡ 3 → (u : ℕ) × (v : ℕ) × (w : ℕ) × (l ≡ u ∷ v ∷ w ∷ [])
-exactly-three [] h = absurd (omega arith)
-exactly-three (u ∷ []) h = absurd (omega arith)
-exactly-three (u ∷ v ∷ []) h = absurd (omega arith)
-exactly-three (u ∷ v ∷ w ∷ []) h = (u, v, w, refl)
-exactly-three (u ∷ v ∷ w ∷ x ∷ l) h = absurd (omega arith)
+exactly_three : (l : List ℕ) → length l ≡ 3 → (u : ℕ) × (v : ℕ) × (w : ℕ) × (l ≡ u ∷ v ∷ w ∷ [])
+exactly_three [] h = absurd (omega arith)
+exactly_three (u ∷ []) h = absurd (omega arith)
+exactly_three (u ∷ v ∷ []) h = absurd (omega arith)
+exactly_three (u ∷ v ∷ w ∷ []) h = (u, v, w, refl)
+exactly_three (u ∷ v ∷ w ∷ x ∷ l) h = absurd (omega arith)
 
 -- The three words behind P are closed up.
 closed : (P Q Z : List ℕ) (x y z : ℕ) (k e : ℕ) → length P ≡ k → k + length Q ≡ e
-    → (u : ℕ) × (v : ℕ) × (w : ℕ) × (movedDown k e (P ++ ((x ∷ y ∷ z ∷ Q) ++ Z)) ≡ (P ++ Q) ++ (u ∷ v ∷ w ∷ Z))
-unfolding movedDown
+    → (u : ℕ) × (v : ℕ) × (w : ℕ) × (moved_down k e (P ++ ((x ∷ y ∷ z ∷ Q) ++ Z)) ≡ (P ++ Q) ++ (u ∷ v ∷ w ∷ Z))
+unfolding moved_down
 closed P Q Z x y z k e h f =
-    let T = exactly-three (drop (length Q) (x ∷ y ∷ z ∷ Q)) (rw length-drop (omega arith)) in
+    let T = exactly_three (drop (length Q) (x ∷ y ∷ z ∷ Q)) (rw length-drop (omega arith)) in
     let t₁ : take (e + 3) (P ++ ((x ∷ y ∷ z ∷ Q) ++ Z)) ≡ P ++ (x ∷ y ∷ z ∷ Q) =
     ap (λ (l : List ℕ). take (e + 3) l) (sym (append_assoc P (x ∷ y ∷ z ∷ Q) Z)) ∙ take_at (P ++ (x ∷ y ∷ z ∷ Q)) Z (e + 3) (rw length-append (omega arith)) in
     let t₂ : drop (k + 3) (P ++ (x ∷ y ∷ z ∷ Q)) ≡ Q =
@@ -38,12 +38,12 @@ closed P Q Z x y z k e h f =
     (drop-append-add P ((x ∷ y ∷ z ∷ Q) ++ Z) (length Q) ∙ drop-append-le (length Q) (x ∷ y ∷ z ∷ Q) Z (omega arith) ∙ ap (λ (l : List ℕ). l ++ Z) T.3) in
     (T.0, T.1, T.2, rw (take_at P ((x ∷ y ∷ z ∷ Q) ++ Z) k h, t₁, t₂, t₃) (sym (append_assoc P Q (T.0 ∷ T.1 ∷ T.2 ∷ Z))))
 
-drop-split : (len : ℕ) (a b : List Triple) (x : Triple) (k e m : ℕ) → length a * 3 + 1 ≡ k → length (a ++ b) * 3 + 1 ≡ e → m ≡ length (a ++ b)
+drop_split : (len : ℕ) (a b : List Triple) (x : Triple) (k e m : ℕ) → length a * 3 + 1 ≡ k → length (a ++ b) * 3 + 1 ≡ e → m ≡ length (a ++ b)
     → length (a ++ b) * 3 + 3 < len
-    → set (set (set (set (movedDown k e (layout len (a ++ (x ∷ b)))) e 0) (e + 1) 0) (e + 2) 0) 0 m
+    → set (set (set (set (moved_down k e (layout len (a ++ (x ∷ b)))) e 0) (e + 1) 0) (e + 2) 0) 0 m
     ≡ layout len (a ++ b)
 unfolding layout flatten
-drop-split len a b x k e m i j l h =
+drop_split len a b x k e m i j l h =
     let n : ℕ = length (a ++ (x ∷ b)) in
     let P : List ℕ = n ∷ flatten a in
     let Q : List ℕ = flatten b in
@@ -52,7 +52,7 @@ drop-split len a b x k e m i j l h =
     let long : length P ≡ k = let q = length-flatten a in omega arith in
     let size : k + length Q ≡ e = let q = length-flatten b in let r = length-append a b in omega arith in
     let C = closed P Q Z x.subject x.property x.object k e long size in
-    let s₀ : movedDown k e (layout len (a ++ (x ∷ b))) ≡ (P ++ Q) ++ (C.0 ∷ C.1 ∷ C.2 ∷ Z) =
+    let s₀ : moved_down k e (layout len (a ++ (x ∷ b))) ≡ (P ++ Q) ++ (C.0 ∷ C.1 ∷ C.2 ∷ Z) =
     rw (flatten-append a (x ∷ b), append_assoc (flatten a) (x.subject ∷ x.property ∷ x.object ∷ Q) Z) C.3 in
     let both : length (P ++ Q) ≡ e = rw (length-append P Q) (omega arith) in
     let s₁ : set ((P ++ Q) ++ (C.0 ∷ C.1 ∷ C.2 ∷ Z)) e 0 ≡ (P ++ Q) ++ (0 ∷ C.1 ∷ C.2 ∷ Z) = set_at (P ++ Q) _ _ 0 e both in
@@ -62,10 +62,10 @@ drop-split len a b x k e m i j l h =
     rw (s₀, s₁, s₂, s₃, l, z, flatten-append)
 
 -- The words as `remove_at` leaves them: v is what `move_down` left of ws.
-pub drop-row : (ws v : List ℕ) (at : ℕ) → Laid ws → at < length (rows ws) → v ≡ movedDown (at * 3 + 1) (count ws * 3 - 2) ws
+pub drop-row : (ws v : List ℕ) (at : ℕ) → Laid ws → at < length (rows ws) → v ≡ moved_down (at * 3 + 1) (count ws * 3 - 2) ws
     → set (set (set (set v (count ws * 3 - 2) 0) (count ws * 3 - 2 + 1) 0) (count ws * 3 - 2 + 2) 0) 0 (count ws - 1)
-    ≡ layout (length ws) (removeAt at (rows ws))
-unfolding removeAt
+    ≡ layout (length ws) (remove_at at (rows ws))
+unfolding remove_at
 drop-row ws v at L h e =
     let rs : List Triple = rows ws in
     let a : List Triple = take at rs in
@@ -76,5 +76,5 @@ drop-row ws v at L h e =
     let n : length rs ≡ length (a ++ b) + 1 = omega (arith, simp length-append at (ap length is), length-append a b) in
     let cnt : length rs ≡ count ws = length-rows ws in
     let room : length rs * 3 < length ws = L.fits in
-    let step = drop-split (length ws) a b x (at * 3 + 1) (count ws * 3 - 2) (count ws - 1) (rw la) (omega arith) (omega arith) (omega arith) in
-    rw (e, add-one at) (rw (← is, ← L.is-layout) at step)
+    let step = drop_split (length ws) a b x (at * 3 + 1) (count ws * 3 - 2) (count ws - 1) (rw la) (omega arith) (omega arith) (omega arith) in
+    rw (e, add-one at) (rw (← is, ← L.is_layout) at step)

@@ -2,7 +2,7 @@
 ghost use Rattle.std.specs.Prelude.{◌≡◌, ◌+◌, ◌*◌, ◌≤◌, ◌<◌, length};
 ghost use Rattle.spec.specs.Tables.{rows, layout};
 ghost use Rattle.spec.specs.inside.Laid.{Laid, Spare};
-ghost use Rattle.table_change.specs.inside.Words.{Entered, movedUp, movedDown, insertAt, removeAt};
+ghost use Rattle.table_change.specs.inside.Words.{Entered, moved_up, moved_down, insert_at, remove_at};
 
 use spec::Triple;
 
@@ -21,7 +21,7 @@ pub fn put_entry(kept: &mut [u32], supports: &mut [u16], i: usize, x: Triple, su
 // Moves the words from index a to index e three up.
 fn move_up(t: &mut [u32], a: usize, e: usize)
     requires { (a ≤ e) × (e + 3 ≤ length t.old) }
-    ensures { t.new ≡ movedUp a e t.old }
+    ensures { t.new ≡ moved_up a e t.old }
 {
     let mut i = e;
     while a < i {
@@ -33,7 +33,7 @@ fn move_up(t: &mut [u32], a: usize, e: usize)
 // Moves the words from index a + 3 to index e + 3 three down.
 fn move_down(t: &mut [u32], a: usize, e: usize)
     requires { (a ≤ e) × (e + 3 ≤ length t.old) }
-    ensures { t.new ≡ movedDown a e t.old }
+    ensures { t.new ≡ moved_down a e t.old }
 {
     let mut i = a;
     while i < e {
@@ -46,7 +46,7 @@ fn move_down(t: &mut [u32], a: usize, e: usize)
 pub fn insert_at(t: &mut [u32], at: usize, x: Triple)
     requires spare { Spare t.old }
     requires at_in_bounds { at ≤ length (rows t.old) }
-    ensures { t.new ≡ layout (length t.old) (insertAt at x (rows t.old)) }
+    ensures { t.new ≡ layout (length t.old) (insert_at at x (rows t.old)) }
 {
     let n = t[0];
     let k = at * 3 + 1;
@@ -61,7 +61,7 @@ pub fn insert_at(t: &mut [u32], at: usize, x: Triple)
 pub fn remove_at(t: &mut [u32], at: usize)
     requires laid { Laid t.old }
     requires at_in_bounds { at < length (rows t.old) }
-    ensures { t.new ≡ layout (length t.old) (removeAt at (rows t.old)) }
+    ensures { t.new ≡ layout (length t.old) (remove_at at (rows t.old)) }
 {
     let n = t[0];
     let k = at * 3 + 1;

@@ -7,16 +7,16 @@ use native.Mathlib.Decide.{dec_lt}
 use native.Mathlib.Omega.{arith}
 use lib.ListN.{length, get_or}
 use Rattle.spec.specs.declared.Triple.{Triple}
-use Rattle.spec.specs.inside.Comparison.{Less, by-object, triple-eq, compareTriples, Ascending}
-use Rattle.spec.proofs.Order.{less-trans, less-ne, byOrder-elim, byOrder-less, byOrder-same, byOrder-more}
-use Rattle.spec.proofs.Ascending.{above-asc}
+use Rattle.spec.specs.inside.Comparison.{Less, by_object_lem, triple_eq, compare_triples, Ascending}
+use Rattle.spec.proofs.Order.{less_trans, less_ne, by_order_elim, by_order-less, by_order_same, by_order_more}
+use Rattle.spec.proofs.Ascending.{above_asc}
 use Rattle.table_find.specs.declared.Ordering.{Ordering}
 use Rattle.table_find.specs.declared.Ordering.TheVariants.{Lower, Equal, Higher}
 use Rattle.table_find.specs.declared.Found.{Found}
 use Rattle.table_find.specs.declared.Found.TheVariants.{At, Gap}
 use Rattle.table_find.specs.inside.Search.{ordering, next, place}
 use Rattle.table_find.specs.inside.Search.{Says}
-use Rattle.table.proofs.Place.{above-getD, getD-member, member-getD}
+use Rattle.table.proofs.Place.{above-get_or, get_or-member, member-get_or}
 
 -- What an ordering says of two triples.
 abbrev pub SaysOf : Ordering → Triple → Triple → Type 0
@@ -24,35 +24,35 @@ SaysOf Lower t u = Less t u
 SaysOf Equal t u = t ≡ u
 SaysOf Higher t u = Less u t
 
-pub ordering-says : (t u : Triple) (o : Ordering) → o ≡ ordering t u → SaysOf o t u
-ordering-says t u o e = rw e (byOrder-elim (λ (o : Ordering). SaysOf o t u) (compareTriples t u) (λ h. h) (λ h. h) (λ h. h))
+pub ordering_says : (t u : Triple) (o : Ordering) → o ≡ ordering t u → SaysOf o t u
+ordering_says t u o e = rw e (by_order_elim (λ (o : Ordering). SaysOf o t u) (compare_triples t u) (λ h. h) (λ h. h) (λ h. h))
 
 pub says-ordering : (t u : Triple) (o : Ordering) → SaysOf o t u → o ≡ ordering t u
-says-ordering t u Lower h = sym (byOrder-less (compareTriples t u) Lower Equal Higher h)
-says-ordering t u Equal h = sym (byOrder-same (compareTriples t u) Lower Equal Higher h)
-says-ordering t u Higher h = sym (byOrder-more (compareTriples t u) Lower Equal Higher h)
+says-ordering t u Lower h = sym (by_order-less (compare_triples t u) Lower Equal Higher h)
+says-ordering t u Equal h = sym (by_order_same (compare_triples t u) Lower Equal Higher h)
+says-ordering t u Higher h = sym (by_order_more (compare_triples t u) Lower Equal Higher h)
 
 -- Where subjects and properties are equal, the objects decide.
-pub by-objects : (t u : Triple) (o : Ordering) → t.subject ≡ u.subject → t.property ≡ u.property → Says o t.object u.object → SaysOf o t u
-by-objects t u Lower a b h = by-object a b h
-by-objects t u Equal a b h = triple-eq t u a b h
-by-objects t u Higher a b h = by-object (sym a) (sym b) h
+pub by_objects : (t u : Triple) (o : Ordering) → t.subject ≡ u.subject → t.property ≡ u.property → Says o t.object u.object → SaysOf o t u
+by_objects t u Lower a b h = by_object_lem a b h
+by_objects t u Equal a b h = triple_eq t u a b h
+by_objects t u Higher a b h = by_object_lem (sym a) (sym b) h
 
 -- The place of a row from what stands before and behind it.
-pub place_at : (x : Triple) (us : List Triple) (d : Triple) (i : ℕ) → i < length us → ((k : ℕ) → k < i → Less (get_or us k d) x) → get_or us i d ≡ x → place x us ≡ At i
+pub place_at_lem : (x : Triple) (us : List Triple) (d : Triple) (i : ℕ) → i < length us → ((k : ℕ) → k < i → Less (get_or us k d) x) → get_or us i d ≡ x → place x us ≡ At i
 unfolding place
-place_at x [] d i h l e = absurd (omega arith)
-place_at x (u ∷ us) d zero h l e = byOrder-same (compareTriples u x) _ _ _ e
-place_at x (u ∷ us) d (suc i) h l e =
-    rw (place_at x us d i (omega arith) (λ k q. l (suc k) (omega arith)) e) (byOrder-less (compareTriples u x) _ _ _ (l 0 (omega arith)))
+place_at_lem x [] d i h l e = absurd (omega arith)
+place_at_lem x (u ∷ us) d zero h l e = by_order_same (compare_triples u x) _ _ _ e
+place_at_lem x (u ∷ us) d (suc i) h l e =
+    rw (place_at_lem x us d i (omega arith) (λ k q. l (suc k) (omega arith)) e) (by_order-less (compare_triples u x) _ _ _ (l 0 (omega arith)))
 
-pub place-gap : (x : Triple) (us : List Triple) (d : Triple) (i : ℕ) → i ≤ length us → ((k : ℕ) → k < i → Less (get_or us k d) x) → (i < length us → Less x (get_or us i d)) → place x us ≡ Gap i
+pub place_gap : (x : Triple) (us : List Triple) (d : Triple) (i : ℕ) → i ≤ length us → ((k : ℕ) → k < i → Less (get_or us k d) x) → (i < length us → Less x (get_or us i d)) → place x us ≡ Gap i
 unfolding place
-place-gap x [] d zero h l g = refl
-place-gap x [] d (suc i) h l g = absurd (omega arith)
-place-gap x (u ∷ us) d zero h l g = byOrder-more (compareTriples u x) _ _ _ (g (omega arith))
-place-gap x (u ∷ us) d (suc i) h l g =
-    rw (place-gap x us d i (omega arith) (λ k q. l (suc k) (omega arith)) (λ q. g (omega arith))) (byOrder-less (compareTriples u x) _ _ _ (l 0 (omega arith)))
+place_gap x [] d zero h l g = refl
+place_gap x [] d (suc i) h l g = absurd (omega arith)
+place_gap x (u ∷ us) d zero h l g = by_order_more (compare_triples u x) _ _ _ (g (omega arith))
+place_gap x (u ∷ us) d (suc i) h l g =
+    rw (place_gap x us d i (omega arith) (λ k q. l (suc k) (omega arith)) (λ q. g (omega arith))) (by_order-less (compare_triples u x) _ _ _ (l 0 (omega arith)))
 
 -- ---- what a place says
 
@@ -86,16 +86,16 @@ placed-next x u us l (At i) p = record {
 placed-next x u us l (Gap i) p = record {
   within = omega (arith, p.within);
   below = from_first (λ k. (d : Triple) → k < suc i → Less (get_or (u ∷ us) k d) x) (λ d h. l) (λ k d h. p.below k d (omega arith));
-  above = λ a. from_first (λ k. (d : Triple) → suc i ≤ k → k < suc (length us) → Less x (get_or (u ∷ us) k d)) (λ d h. absurd (omega arith)) (λ k d h q. p.above (above-asc u us a) k d (omega arith) (omega arith));
+  above = λ a. from_first (λ k. (d : Triple) → suc i ≤ k → k < suc (length us) → Less x (get_or (u ∷ us) k d)) (λ d h. absurd (omega arith)) (λ k d h q. p.above (above_asc u us a) k d (omega arith) (omega arith));
 }
 
 placed : (x : Triple) (us : List Triple) → Placed x us (place x us)
 unfolding place
 placed x [] = record { within = omega arith; below = λ k d h. absurd (omega arith); above = λ a k d h q. absurd (omega arith) }
 placed x (u ∷ us) =
-    byOrder-elim (Placed x (u ∷ us)) (compareTriples u x) (λ l. placed-next x u us l (place x us) (placed x us))
+    by_order_elim (Placed x (u ∷ us)) (compare_triples u x) (λ l. placed-next x u us l (place x us) (placed x us))
     (λ e. record { within = omega arith; is = λ d. e; below = λ k d h. absurd (omega arith) })
-    (λ l. record { within = omega arith; below = λ k d h. absurd (omega arith); above = λ a. from_first (λ k. (d : Triple) → 0 ≤ k → k < suc (length us) → Less x (get_or (u ∷ us) k d)) (λ d h q. l) (λ k d h q. less-trans l (above-getD u us d a k (omega arith))) })
+    (λ l. record { within = omega arith; below = λ k d h. absurd (omega arith); above = λ a. from_first (λ k. (d : Triple) → 0 ≤ k → k < suc (length us) → Less x (get_or (u ∷ us) k d)) (λ d h q. l) (λ k d h q. less_trans l (above-get_or u us d a k (omega arith))) })
 
 pub stands_at : (x : Triple) (us : List Triple) (i : ℕ) → place x us ≡ At i → StandsAt x us i
 stands_at x us i e = rw e at (placed x us)
@@ -105,21 +105,21 @@ missing_at x us i e = rw e at (placed x us)
 
 -- ---- members
 
-pub at-member : (x : Triple) (us : List Triple) (i : ℕ) → place x us ≡ At i → Memᴰ x us
-at-member x us i e = let S = stands_at x us i e in Memᴰ.cast (sym (S.is x)) (getD-member us i x S.within)
+pub at_member : (x : Triple) (us : List Triple) (i : ℕ) → place x us ≡ At i → Memᴰ x us
+at_member x us i e = let S = stands_at x us i e in Memᴰ.cast (sym (S.is x)) (get_or-member us i x S.within)
 
-pub gap-absent : (x : Triple) (us : List Triple) (i : ℕ) → Ascending us → place x us ≡ Gap i → ¬ Memᴰ x us
-gap-absent x us i a e m = go (dec_lt r.0 i)
+pub gap_absent : (x : Triple) (us : List Triple) (i : ℕ) → Ascending us → place x us ≡ Gap i → ¬ Memᴰ x us
+gap_absent x us i a e m = go (dec_lt r.0 i)
   where
     M : MissingAt x us i
     M = missing_at x us i e
 
     r : (k : ℕ) × (k < length us) × ((d : Triple) → get_or us k d ≡ x)
-    r = member-getD us m
+    r = member-get_or us m
 
     go : Dec (r.0 < i) → ⊥
-    go (yes h) = less-ne (M.below r.0 x h) (r.2 x)
-    go (no h) = less-ne (M.above a r.0 x (omega arith) r.1) (sym (r.2 x))
+    go (yes h) = less_ne (M.below r.0 x h) (r.2 x)
+    go (no h) = less_ne (M.above a r.0 x (omega arith) r.1) (sym (r.2 x))
 
 -- A member of ascending rows has a place.
 pub member-at : (x : Triple) (us : List Triple) → Ascending us → Memᴰ x us → (i : ℕ) × (place x us ≡ At i)
@@ -127,11 +127,11 @@ member-at x us a m = go (place x us) refl
   where
     go : (f : Found) → place x us ≡ f → (i : ℕ) × (place x us ≡ At i)
     go (At i) e = (i, e)
-    go (Gap i) e = absurd (gap-absent x us i a e m)
+    go (Gap i) e = absurd (gap_absent x us i a e m)
 
-pub absent-gap : (x : Triple) (us : List Triple) → ¬ Memᴰ x us → (i : ℕ) × (place x us ≡ Gap i)
-absent-gap x us n = go (place x us) refl
+pub absent_gap : (x : Triple) (us : List Triple) → ¬ Memᴰ x us → (i : ℕ) × (place x us ≡ Gap i)
+absent_gap x us n = go (place x us) refl
   where
     go : (f : Found) → place x us ≡ f → (i : ℕ) × (place x us ≡ Gap i)
-    go (At i) e = absurd (n (at-member x us i e))
+    go (At i) e = absurd (n (at_member x us i e))
     go (Gap i) e = (i, e)

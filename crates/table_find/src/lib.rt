@@ -1,7 +1,7 @@
 // Where a row stands in a table, or would stand, and how a row stands to another.
 ghost use Rattle.std.specs.Prelude.{◌≡◌, true, ◌+◌, ◌*◌, ◌<◌, length, drop};
-ghost use Rattle.spec.specs.Order.{isAscending};
-ghost use Rattle.spec.specs.Tables.{rowAt, firstRows};
+ghost use Rattle.spec.specs.Order.{is_ascending};
+ghost use Rattle.spec.specs.Tables.{row_at, first_rows};
 ghost use Rattle.table.specs.inside.Bounds.{Tells};
 ghost use Rattle.table_find.specs.inside.Search.{Says, ordering, place};
 
@@ -39,7 +39,7 @@ pub fn compare(a: u32, b: u32) -> Ordering
 // How row i stands to x: the first words that differ decide.
 pub fn compare_at(t: &[u32], i: usize, x: Triple) -> Ordering
     requires { i * 3 + 3 < length t.now }
-    ensures { result ≡ ordering (rowAt t.now i) x }
+    ensures { result ≡ ordering (row_at t.now i) x }
 {
     let at = i * 3 + 1;
     match compare(t[at], x.subject) {
@@ -56,7 +56,7 @@ pub fn compare_at(t: &[u32], i: usize, x: Triple) -> Ordering
 // Whether row i is x.
 fn is_row(t: &[u32], i: usize, x: Triple) -> bool
     requires { i * 3 + 3 < length t.now }
-    ensures { Tells result (rowAt t.now i ≡ x) }
+    ensures { Tells result (row_at t.now i ≡ x) }
 {
     let at = i * 3 + 1;
     (t[at] == x.subject) & (t[at + 1] == x.property) & (t[at + 2] == x.object)
@@ -65,8 +65,8 @@ fn is_row(t: &[u32], i: usize, x: Triple) -> bool
 // Where x stands among the first n rows, which ascend, or would stand.
 pub fn find(t: &[u32], n: usize, x: Triple) -> Found
     requires n_in_bounds { n * 3 < length t.now }
-    requires t_value { isAscending (firstRows n (drop 1 t.now)) ≡ true }
-    ensures { result ≡ place x (firstRows n (drop 1 t.now)) }
+    requires t_value { is_ascending (first_rows n (drop 1 t.now)) ≡ true }
+    ensures { result ≡ place x (first_rows n (drop 1 t.now)) }
 {
     let i = lower_bound(t, n, 0, n, x);
     if i < n {

@@ -1,8 +1,8 @@
 // Whether the first rows of a table may stand in it and ascend: rows of statements, and rows of facts.
 ghost use Rattle.std.specs.Prelude.{◌≡◌, ◌*◌, ◌≤◌, ◌<◌, length};
-ghost use Rattle.spec.specs.Terms.{isAllowedStatement, isAllowedFact};
-ghost use Rattle.spec.specs.Order.{isLess};
-ghost use Rattle.table_rows.specs.inside.Rows.{areRowsFrom};
+ghost use Rattle.spec.specs.Terms.{is_allowed_statement, is_allowed_fact};
+ghost use Rattle.spec.specs.Order.{is_less};
+ghost use Rattle.table_rows.specs.inside.Rows.{are_rows_from};
 
 use spec::Triple;
 use table::row_at;
@@ -14,7 +14,7 @@ const BLOCK: usize = 64;
 // Whether the first n rows are statements and ascend. Two rows are compared up to the first words that differ.
 pub fn are_statement_rows(t: &[u32], n: usize) -> bool
     requires { n * 3 < length t.now }
-    ensures { result ≡ areRowsFrom isAllowedStatement t.now n 0 }
+    ensures { result ≡ are_rows_from is_allowed_statement t.now n 0 }
 {
     let mut i = 0;
     'rows: while i < n {
@@ -47,7 +47,7 @@ pub fn are_statement_rows(t: &[u32], n: usize) -> bool
 
 // Whether a row is less than another. No branch.
 fn is_less(x: Triple, y: Triple) -> bool
-    ensures { result ≡ isLess x y }
+    ensures { result ≡ is_less x y }
 {
     (x.subject < y.subject)
         | ((x.subject == y.subject)
@@ -58,7 +58,7 @@ fn is_less(x: Triple, y: Triple) -> bool
 // test several rows at once.
 fn are_facts_between(t: &[u32], a: usize, b: usize) -> bool
     requires { (0 < a) × (a ≤ b) × (b * 3 < length t.now) }
-    ensures { result ≡ areRowsFrom isAllowedFact t.now b a }
+    ensures { result ≡ are_rows_from is_allowed_fact t.now b a }
 {
     let mut ok = true;
     let mut i = a;
@@ -73,7 +73,7 @@ fn are_facts_between(t: &[u32], a: usize, b: usize) -> bool
 // Whether the first n rows are facts and ascend: the first row, then block by block.
 pub fn are_fact_rows(t: &[u32], n: usize) -> bool
     requires { n * 3 < length t.now }
-    ensures { result ≡ areRowsFrom isAllowedFact t.now n 0 }
+    ensures { result ≡ are_rows_from is_allowed_fact t.now n 0 }
 {
     if n == 0 {
         return true;

@@ -1,6 +1,6 @@
 // Whether lent numbers are the well-formed supports of the kept rows (document 01, "Tables").
 ghost use Rattle.std.specs.Prelude.{◌≡◌, ℕ, ◌^◌, ◌≤◌, ◌<◌, length, take, leb};
-ghost use Rattle.spec.specs.Tables.{isSupport, isSupportTable};
+ghost use Rattle.spec.specs.Tables.{is_support, is_support_table};
 ghost use Rattle.spec.specs.Lists.{all};
 
 use table_zeros::are_supports_zero;
@@ -19,7 +19,7 @@ fn highest_support(facts: usize) -> u16
 // Whether the first n supports lie between 1 and the number of facts. The loop has no exit, so that the compiler can test several at once.
 fn are_supports(u: &[u16], facts: usize, n: usize) -> bool
     requires { n ≤ length u.now }
-    ensures { result ≡ all (isSupport facts) (take n u.now) }
+    ensures { result ≡ all (is_support facts) (take n u.now) }
 {
     let highest = highest_support(facts);
     let mut ok = true;
@@ -33,7 +33,7 @@ fn are_supports(u: &[u16], facts: usize, n: usize) -> bool
 
 // Whether the supports of n kept rows are well formed, with so many facts. One pass.
 pub fn is_support_table(u: &[u16], facts: usize, n: usize) -> bool
-    ensures { result ≡ isSupportTable facts n u.now }
+    ensures { result ≡ is_support_table facts n u.now }
 {
     if u.len() < n {
         return false;

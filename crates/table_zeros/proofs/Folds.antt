@@ -5,12 +5,12 @@ use mathlib.Core.Bool.{Bool, true, false, ◌&&◌}
 use mathlib.Core.List.{List}
 use lib.ListN.{length, get_or, drop}
 use lib.Dec.{eqb}
-use Rattle.spec.specs.Tables.{areZero}
+use Rattle.spec.specs.Tables.{are_zero}
 use Rattle.spec.proofs.TableAll.{and_assoc, zeros-next}
 
 pub fold_end : (ok : Bool) {left : Bool} → left ≡ true → (ok && left) ≡ ok
 fold_end true e = e
 fold_end false e = refl
 
-pub zeros-fold : (ok : Bool) (ws : List ℕ) (i : ℕ) → i < length ws → (ok && areZero (drop i ws)) ≡ ((ok && eqb (get_or ws i 0) 0) && areZero (drop (i + 1) ws))
-zeros-fold ok ws i h = rw (zeros-next ws i h) (and_assoc ok (eqb (get_or ws i 0) 0) (areZero (drop (i + 1) ws)))
+pub zeros_fold : (ok : Bool) (ws : List ℕ) (i : ℕ) → i < length ws → (ok && are_zero (drop i ws)) ≡ ((ok && eqb (get_or ws i 0) 0) && are_zero (drop (i + 1) ws))
+zeros_fold ok ws i h = rw (zeros-next ws i h) (and_assoc ok (eqb (get_or ws i 0) 0) (are_zero (drop (i + 1) ws)))

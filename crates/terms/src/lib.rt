@@ -1,6 +1,6 @@
 // Terms and triples as words (document 01, "Terms and triples"): made, and told apart.
 ghost use Rattle.std.specs.Prelude.{◌≡◌, ◌+◌, ◌*◌, ◌^◌, ◌<◌};
-ghost use Rattle.spec.specs.Terms.{kind, number, isUri, isBlank, isLiteral, isVariable, isVocabulary, isResource, isTriple, isStatement, isClass, isProperty, areSidesAllowed, isAllowedStatement, isAllowedFact};
+ghost use Rattle.spec.specs.Terms.{kind, number, is_uri, is_blank, is_literal, is_variable, is_vocabulary, is_resource, is_triple, is_statement, is_class, is_property, are_sides_allowed, is_allowed_statement, is_allowed_fact};
 
 use spec::Triple;
 
@@ -62,56 +62,56 @@ impl Term {
 
     // Whether it is a URI.
     pub fn is_uri(self) -> bool
-        ensures { result ≡ isUri self.word }
+        ensures { result ≡ is_uri self.word }
     {
         (self.kind() == Term::URI) & (0 < self.number())
     }
 
     // Whether it is a blank node.
     pub fn is_blank(self) -> bool
-        ensures { result ≡ isBlank self.word }
+        ensures { result ≡ is_blank self.word }
     {
         (self.kind() == Term::BLANK) & (0 < self.number())
     }
 
     // Whether it is a literal.
     pub fn is_literal(self) -> bool
-        ensures { result ≡ isLiteral self.word }
+        ensures { result ≡ is_literal self.word }
     {
         (self.kind() == Term::LITERAL) & (0 < self.number())
     }
 
     // Whether it is a variable.
     pub fn is_variable(self) -> bool
-        ensures { result ≡ isVariable self.word }
+        ensures { result ≡ is_variable self.word }
     {
         (self.kind() == Term::VARIABLE) & (self.number() < Term::VARIABLES)
     }
 
     // Whether it is a URI of the vocabulary.
     pub fn is_vocabulary(self) -> bool
-        ensures { result ≡ isVocabulary self.word }
+        ensures { result ≡ is_vocabulary self.word }
     {
         (Term::TYPE <= self.word) & (self.word <= Term::RANGE)
     }
 
     // Whether it is a URI or blank.
     pub fn is_resource(self) -> bool
-        ensures { result ≡ isResource self.word }
+        ensures { result ≡ is_resource self.word }
     {
         self.is_uri() | self.is_blank()
     }
 
     // Whether it may be a class of a statement.
     pub fn is_class(self) -> bool
-        ensures { result ≡ isClass self.word }
+        ensures { result ≡ is_class self.word }
     {
         self.is_resource() & !self.is_vocabulary()
     }
 
     // Whether it may be a property on a side of a statement.
     pub fn is_property(self) -> bool
-        ensures { result ≡ isProperty self.word }
+        ensures { result ≡ is_property self.word }
     {
         self.is_uri() & !self.is_vocabulary()
     }
@@ -119,7 +119,7 @@ impl Term {
 
 // Whether each of its words may stand where it stands.
 pub fn is_triple(t: Triple) -> bool
-    ensures { result ≡ isTriple t }
+    ensures { result ≡ is_triple t }
 {
     let subject = Term { word: t.subject };
     let property = Term { word: t.property };
@@ -129,14 +129,14 @@ pub fn is_triple(t: Triple) -> bool
 
 // Whether its property makes it a statement.
 pub fn is_statement(t: Triple) -> bool
-    ensures { result ≡ isStatement t }
+    ensures { result ≡ is_statement t }
 {
     (Term::SUB_CLASS_OF <= t.property) & (t.property <= Term::RANGE)
 }
 
 // Whether its sides are those that a statement of its property may have.
 pub fn are_sides_allowed(t: Triple) -> bool
-    ensures { result ≡ areSidesAllowed t }
+    ensures { result ≡ are_sides_allowed t }
 {
     let subject = Term { word: t.subject };
     let object = Term { word: t.object };
@@ -151,14 +151,14 @@ pub fn are_sides_allowed(t: Triple) -> bool
 
 // Whether it may stand in the statements.
 pub fn is_allowed_statement(t: Triple) -> bool
-    ensures { result ≡ isAllowedStatement t }
+    ensures { result ≡ is_allowed_statement t }
 {
     is_triple(t) & (is_statement(t) & are_sides_allowed(t))
 }
 
 // Whether it may stand in the facts and the kept facts.
 pub fn is_allowed_fact(t: Triple) -> bool
-    ensures { result ≡ isAllowedFact t }
+    ensures { result ≡ is_allowed_fact t }
 {
     is_triple(t) & !is_statement(t)
 }

@@ -1,6 +1,6 @@
 // A fact added at the gap where it would stand, and one withdrawn at its place, once questions 1 to 3 are passed (document 01, "Tables").
 ghost use Rattle.std.specs.Prelude.{◌≡◌, true};
-ghost use Rattle.spec.specs.Terms.{isAllowedFact};
+ghost use Rattle.spec.specs.Terms.{is_allowed_fact};
 ghost use Rattle.table_find.specs.declared.Found.TheVariants.{At, Gap};
 ghost use Rattle.spec.specs.Tables.{rows, tables};
 ghost use Rattle.table_find.specs.inside.Search.{place};
@@ -24,7 +24,7 @@ pub fn add_new_fact(
     at: usize,
 ) -> Answer
     requires formed_store { FormedStore statements.now facts.old kept.old supports.old }
-    requires fact_value { isAllowedFact fact ≡ true }
+    requires fact_value { is_allowed_fact fact ≡ true }
     requires facts_value { place fact (rows facts.old) ≡ Gap at }
     ensures { outcome result (tables statements.now facts.new kept.new supports.new) ≡ add (tables statements.now facts.old kept.old supports.old) fact }
 {
@@ -53,7 +53,7 @@ pub fn withdraw_old_fact(
     at: usize,
 )
     requires formed_store { FormedStore statements.now facts.old kept.old supports.old }
-    requires fact_value { isAllowedFact fact ≡ true }
+    requires fact_value { is_allowed_fact fact ≡ true }
     requires facts_value { place fact (rows facts.old) ≡ At at }
     ensures { outcome Applied (tables statements.now facts.new kept.new supports.new) ≡ withdraw (tables statements.now facts.old kept.old supports.old) fact }
 {

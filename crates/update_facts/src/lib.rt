@@ -1,6 +1,6 @@
 // Additions and withdrawals of facts, once questions 1 to 3 are passed (document 01, "Tables").
 ghost use Rattle.std.specs.Prelude.{◌≡◌, true};
-ghost use Rattle.spec.specs.Terms.{isAllowedFact};
+ghost use Rattle.spec.specs.Terms.{is_allowed_fact};
 ghost use Rattle.spec.specs.Tables.{tables};
 ghost use Rattle.spec.specs.inside.Laid.{FormedStore};
 ghost use Rattle.spec.specs.Updates.{update};
@@ -21,7 +21,7 @@ pub fn update_fact(
     fact: Triple,
 ) -> Answer
     requires formed_store { FormedStore statements.now facts.old kept.old supports.old }
-    requires fact_value { isAllowedFact fact ≡ true }
+    requires fact_value { is_allowed_fact fact ≡ true }
     ensures { outcome result (tables statements.now facts.new kept.new supports.new) ≡ update change (tables statements.now facts.old kept.old supports.old) fact }
 {
     let n = facts[0] as usize;

@@ -4,7 +4,7 @@ use mathlib.Core.List.{List, [], ◌∷◌}
 use lib.ListN.{drop}
 use Rattle.spec.specs.declared.Triple.{Triple}
 use Rattle.spec.specs.inside.Comparison.{Less, Ascending}
-use Rattle.spec.proofs.Ascending.{above-asc}
+use Rattle.spec.proofs.Ascending.{above_asc}
 
 -- Each of some rows is less than t.
 abbrev pub AllLess : List Triple → Triple → Type 0
@@ -15,4 +15,4 @@ AllLess (u ∷ us) t = Less u t × AllLess us t
 pub ascending-drop : (i : ℕ) (us : List Triple) → Ascending us → Ascending (drop i us)
 ascending-drop zero us a = a
 ascending-drop (suc i) [] a = tt
-ascending-drop (suc i) (u ∷ us) a = ascending-drop i us (above-asc u us a)
+ascending-drop (suc i) (u ∷ us) a = ascending-drop i us (above_asc u us a)

@@ -1,7 +1,7 @@
 // Supports of kept facts lowered in place, a row at 0 going (document 01, "Tables").
 ghost use Rattle.std.specs.Prelude.{◌++◌, ◌*◌, ◌≤◌, ◌<◌, length, take, drop};
-ghost use Rattle.spec.specs.Tables.{firstRows, rows, keptOf};
-ghost use Rattle.spec.specs.Saturation.{lowerAll};
+ghost use Rattle.spec.specs.Tables.{first_rows, rows, kept_of};
+ghost use Rattle.spec.specs.Saturation.{lower_all};
 ghost use Rattle.update_kept.specs.inside.Entries.{entries, Room, Sought, Holding};
 ghost use Rattle.update_lower.specs.inside.Lowering.{Lowerable, Passed, Gapped, Cleared};
 
@@ -34,7 +34,7 @@ fn start_place(kept: &[u32], list: &[u32], c: usize) -> usize
 fn lower_rows(kept: &mut [u32], supports: &mut [u16], list: &[u32], c: usize, from: usize) -> Moved
     requires lowerable { Lowerable kept.old supports.old list.now c }
     requires passed { Passed from kept.old list.now }
-    ensures { Gapped (lowerAll (firstRows c list.now) (keptOf kept.old supports.old)) (length (rows kept.old)) result.read result.write kept.old supports.old kept.new supports.new }
+    ensures { Gapped (lower_all (first_rows c list.now) (kept_of kept.old supports.old)) (length (rows kept.old)) result.read result.write kept.old supports.old kept.new supports.new }
 {
     let n = kept[0] as usize;
     let mut i = from;
@@ -105,7 +105,7 @@ fn clear_rows(kept: &mut [u32], supports: &mut [u16], k: usize, n: usize)
 // stands, and ends where no row is left to lower if none has gone.
 pub fn lower_all(kept: &mut [u32], supports: &mut [u16], list: &[u32], c: usize)
     requires { Lowerable kept.old supports.old list.now c }
-    ensures { Holding (lowerAll (firstRows c list.now) (keptOf kept.old supports.old)) kept.old supports.old kept.new supports.new }
+    ensures { Holding (lower_all (first_rows c list.now) (kept_of kept.old supports.old)) kept.old supports.old kept.new supports.new }
 {
     let n = kept[0] as usize;
     let from = start_place(kept, list, c);

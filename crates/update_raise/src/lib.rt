@@ -1,11 +1,11 @@
 // Supports of kept facts raised in place, missing rows entering with 1 (document 01, "Tables").
 ghost use Rattle.std.specs.Prelude.{◌≡◌, true, ◌+◌, ◌*◌, ◌<◌, length, drop};
-ghost use Rattle.spec.specs.Order.{isAscending};
-ghost use Rattle.spec.specs.Tables.{firstRows, rows, keptOf};
+ghost use Rattle.spec.specs.Order.{is_ascending};
+ghost use Rattle.spec.specs.Tables.{first_rows, rows, kept_of};
 ghost use Rattle.table_find.specs.inside.Search.{place};
-ghost use Rattle.spec.specs.Saturation.{Kept, keptRows, raiseAll};
+ghost use Rattle.spec.specs.Saturation.{Kept, kept_rows, raise_all};
 ghost use Rattle.update_kept.specs.inside.Entries.{Sought, Holding};
-ghost use Rattle.update_raise.specs.inside.Raising.{absence, lastOrdering, Raisable};
+ghost use Rattle.update_raise.specs.inside.Raising.{absence, last_ordering, Raisable};
 
 use spec::Triple;
 use table::row_from;
@@ -15,8 +15,8 @@ use table_find::{Found, Ordering};
 // 1 where x is not among the first n rows, else 0.
 fn absent(t: &[u32], n: usize, x: Triple) -> usize
     requires n_in_bounds { n * 3 < length t.now }
-    requires t_value { isAscending (firstRows n (drop 1 t.now)) ≡ true }
-    ensures { result ≡ absence (place x (firstRows n (drop 1 t.now))) }
+    requires t_value { is_ascending (first_rows n (drop 1 t.now)) ≡ true }
+    ensures { result ≡ absence (place x (first_rows n (drop 1 t.now))) }
 {
     match table_find::find(t, n, x) {
         Found::At(_) => 0,
@@ -27,7 +27,7 @@ fn absent(t: &[u32], n: usize, x: Triple) -> usize
 // How many of c ascending rows are not kept: the number of rows that raising them adds. A binary search for each.
 pub fn count_missing(kept: &[u32], list: &[u32], c: usize) -> usize
     requires { Sought kept.now list.now c }
-    ensures { (k : Kept) → keptRows k ≡ rows kept.now → result + length k ≡ length (raiseAll (firstRows c list.now) k) }
+    ensures { (k : Kept) → kept_rows k ≡ rows kept.now → result + length k ≡ length (raise_all (first_rows c list.now) k) }
 {
     let n = kept[0] as usize;
     let mut missing = 0;
@@ -42,7 +42,7 @@ pub fn count_missing(kept: &[u32], list: &[u32], c: usize) -> usize
 // How the row before place i stands to x. Where there is none, it is lower.
 fn compare_last(t: &[u32], i: usize, x: Triple) -> Ordering
     requires { i * 3 < length t.now }
-    ensures { result ≡ lastOrdering i t.now x }
+    ensures { result ≡ last_ordering i t.now x }
 {
     if i == 0 {
         return Ordering::Lower;
@@ -54,7 +54,7 @@ fn compare_last(t: &[u32], i: usize, x: Triple) -> Ordering
 // last row to the first: what is moved goes up, so that nothing is overwritten before it is read.
 pub fn raise_all(kept: &mut [u32], supports: &mut [u16], list: &[u32], c: usize, missing: usize)
     requires { Raisable kept.old supports.old list.now c missing }
-    ensures { Holding (raiseAll (firstRows c list.now) (keptOf kept.old supports.old)) kept.old supports.old kept.new supports.new }
+    ensures { Holding (raise_all (first_rows c list.now) (kept_of kept.old supports.old)) kept.old supports.old kept.new supports.new }
 {
     let n = kept[0] as usize;
     let after = n + missing;

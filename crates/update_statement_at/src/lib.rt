@@ -1,6 +1,6 @@
 // A statement added at the gap where it would stand, and one withdrawn at its place, once questions 1 to 3 are passed (document 01, "Tables").
 ghost use Rattle.std.specs.Prelude.{◌≡◌, true};
-ghost use Rattle.spec.specs.Terms.{isAllowedStatement};
+ghost use Rattle.spec.specs.Terms.{is_allowed_statement};
 ghost use Rattle.table_find.specs.declared.Found.TheVariants.{At, Gap};
 ghost use Rattle.spec.specs.Tables.{rows, tables};
 ghost use Rattle.table_find.specs.inside.Search.{place};
@@ -22,7 +22,7 @@ pub fn add_new_statement(
     at: usize,
 ) -> Answer
     requires formed_store { FormedStore statements.old facts.now kept.old supports.old }
-    requires statement_value { isAllowedStatement statement ≡ true }
+    requires statement_value { is_allowed_statement statement ≡ true }
     requires statements_value { place statement (rows statements.old) ≡ Gap at }
     ensures { outcome result (tables statements.new facts.now kept.new supports.new) ≡ add (tables statements.old facts.now kept.old supports.old) statement }
 {
@@ -49,7 +49,7 @@ pub fn withdraw_old_statement(
     at: usize,
 ) -> Answer
     requires formed_store { FormedStore statements.old facts.now kept.old supports.old }
-    requires statement_value { isAllowedStatement statement ≡ true }
+    requires statement_value { is_allowed_statement statement ≡ true }
     requires statements_value { place statement (rows statements.old) ≡ At at }
     ensures { outcome result (tables statements.new facts.now kept.new supports.new) ≡ withdraw (tables statements.old facts.now kept.old supports.old) statement }
 {

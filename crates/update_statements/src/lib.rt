@@ -1,6 +1,6 @@
 // Additions and withdrawals of statements, once questions 1 to 3 are passed (document 01, "Tables").
 ghost use Rattle.std.specs.Prelude.{◌≡◌, true};
-ghost use Rattle.spec.specs.Terms.{isAllowedStatement};
+ghost use Rattle.spec.specs.Terms.{is_allowed_statement};
 ghost use Rattle.spec.specs.Tables.{tables};
 ghost use Rattle.spec.specs.inside.Laid.{FormedStore};
 ghost use Rattle.spec.specs.Updates.{update};
@@ -21,7 +21,7 @@ pub fn update_statement(
     statement: Triple,
 ) -> Answer
     requires formed_store { FormedStore statements.old facts.now kept.old supports.old }
-    requires statement_value { isAllowedStatement statement ≡ true }
+    requires statement_value { is_allowed_statement statement ≡ true }
     ensures { outcome result (tables statements.new facts.now kept.new supports.new) ≡ update change (tables statements.old facts.now kept.old supports.old) statement }
 {
     let n = statements[0] as usize;

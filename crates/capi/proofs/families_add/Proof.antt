@@ -1,5 +1,5 @@
 -- The number and the tables are those of the entry's outcome. Assumes nothing.
-use Rattle.capi.proofs.Numbers.{update-numbered}
+use Rattle.capi.proofs.Numbers.{update_numbered}
 use borrow.Author.Rules.{rules}
 use Rattle.capi.proofs.families_add.Statement.{statement}
 use Rattle.capi.proofs.families_add.Tie as tie
@@ -27,7 +27,7 @@ same-length-4 : tie.Need-same-length-4
 same-length-4 c = search rules
 
 returns : tie.Need-returns
-returns c = update-numbered _ _ _ _ c.answer-number.ensures c.before.before.before.before.before.before.before.before.before.add.ensures
+returns c = update_numbered _ _ _ _ c.answer-number.ensures c.before.before.before.before.before.before.before.before.before.add.ensures
 
 pub families-add-spec : {M : Type 1} → statement M
 families-add-spec =

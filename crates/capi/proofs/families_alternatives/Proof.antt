@@ -1,5 +1,5 @@
 -- The number, the count and the rows are those of the entry's reply. Assumes nothing.
-use Rattle.capi.proofs.Numbers.{reply-numbered}
+use Rattle.capi.proofs.Numbers.{reply_numbered}
 use borrow.Author.Rules.{rules}
 use Rattle.capi.proofs.families_alternatives.Statement.{statement}
 use Rattle.capi.proofs.families_alternatives.Tie as tie
@@ -18,7 +18,7 @@ same_length : tie.Need-same-length
 same_length c = search rules
 
 returns : tie.Need-returns
-returns c = reply-numbered _ _ _ _ _ c.reply-number.ensures.0 c.reply-number.ensures.1 c.before.before.before.before.alternatives.ensures
+returns c = reply_numbered _ _ _ _ _ c.reply-number.ensures.0 c.reply-number.ensures.1 c.before.before.before.before.alternatives.ensures
 
 pub families-alternatives-spec : {M : Type 1} → statement M
 families-alternatives-spec =

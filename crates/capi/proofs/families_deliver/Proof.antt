@@ -1,5 +1,5 @@
 -- The number, the result and the tables are those of the entry. Assumes nothing.
-use Rattle.capi.proofs.Numbers.{delivery-numbered}
+use Rattle.capi.proofs.Numbers.{delivery_numbered}
 use borrow.Author.Rules.{rules}
 use Rattle.capi.proofs.families_deliver.Statement.{statement}
 use Rattle.capi.proofs.families_deliver.Tie as tie
@@ -27,7 +27,7 @@ same-length-4 : tie.Need-same-length-4
 same-length-4 c = search rules
 
 returns : tie.Need-returns
-returns c = delivery-numbered _ _ _ _ _ c.write-result.ensures.0 c.write-result.ensures.1 c.before.before.before.before.before.before.before.before.before.before.deliver.ensures
+returns c = delivery_numbered _ _ _ _ _ c.write-result.ensures.0 c.write-result.ensures.1 c.before.before.before.before.before.before.before.before.before.before.deliver.ensures
 
 pub families-deliver-spec : {M : Type 1} → statement M
 families-deliver-spec =

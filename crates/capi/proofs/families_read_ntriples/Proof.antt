@@ -1,5 +1,5 @@
 -- The number, the length and the bytes are those of the entry's reading. Assumes nothing.
-use Rattle.capi.proofs.Numbers.{reading-numbered}
+use Rattle.capi.proofs.Numbers.{reading_numbered}
 use borrow.Author.Rules.{rules}
 use Rattle.capi.proofs.families_read_ntriples.Statement.{statement}
 use Rattle.capi.proofs.families_read_ntriples.Tie as tie
@@ -21,7 +21,7 @@ same-length-2 : tie.Need-same-length-2
 same-length-2 c = search rules
 
 returns : tie.Need-returns
-returns c = reading-numbered _ _ _ _ _ _ c.byte-reply-number.ensures.0 c.byte-reply-number.ensures.1 c.before.before.before.before.before.before.read-ntriples.ensures
+returns c = reading_numbered _ _ _ _ _ _ c.byte-reply-number.ensures.0 c.byte-reply-number.ensures.1 c.before.before.before.before.before.before.read-ntriples.ensures
 
 pub families-read-ntriples-spec : {M : Type 1} → statement M
 families-read-ntriples-spec =

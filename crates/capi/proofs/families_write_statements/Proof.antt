@@ -1,5 +1,5 @@
 -- The number, the length and the bytes are those of the entry's writing. Assumes nothing.
-use Rattle.capi.proofs.Numbers.{writing-numbered}
+use Rattle.capi.proofs.Numbers.{writing_numbered}
 use borrow.Author.Rules.{rules}
 use Rattle.capi.proofs.families_write_statements.Statement.{statement}
 use Rattle.capi.proofs.families_write_statements.Tie as tie
@@ -18,7 +18,7 @@ same_length : tie.Need-same-length
 same_length c = search rules
 
 returns : tie.Need-returns
-returns c = writing-numbered _ _ _ _ _ c.byte-reply-number.ensures.0 c.byte-reply-number.ensures.1 c.before.before.before.before.write-statements.ensures
+returns c = writing_numbered _ _ _ _ _ c.byte-reply-number.ensures.0 c.byte-reply-number.ensures.1 c.before.before.before.before.write-statements.ensures
 
 pub families-write-statements-spec : {M : Type 1} → statement M
 families-write-statements-spec =

@@ -1,5 +1,5 @@
 -- The length is that of the reply, and 0 for a refusal. Assumes nothing.
-use Rattle.capi_numbers.proofs.Counts.{bytes_counted, no-bytes-counted}
+use Rattle.capi_numbers.proofs.Counts.{bytes_counted, no_bytes-counted}
 use borrow.Author.Rules.{rules}
 use Rattle.capi_numbers.proofs.byte_reply_number.Statement.{statement}
 use Rattle.capi_numbers.proofs.byte_reply_number.Tie as tie
@@ -16,7 +16,7 @@ returns : tie.Need-returns
 returns c = bytes_counted _ _ c.before.reply.given.1
 
 returns-2 : tie.Need-returns-2
-returns-2 c = no-bytes-counted _ _ c.before.reply2.given.1
+returns-2 c = no_bytes-counted _ _ c.before.reply2.given.1
 
 pub byte-reply-number-spec : {M : Type 1} → statement M
 byte-reply-number-spec =

@@ -1,5 +1,5 @@
 -- By the number that `refusal` gives.
-use Rattle.old_store.proofs.Carrying.{asked, gives-rows, gives-zeros}
+use Rattle.old_store.proofs.Carrying.{asked, gives-rows, gives_zeros}
 use borrow.Author.Rules.{rules}
 use Rattle.carry_over.proofs.carry_over.Statement.{statement}
 use Rattle.carry_over.proofs.carry_over.Tie as tie
@@ -26,7 +26,7 @@ returns : tie.Need-returns
 returns c =
     let z = c.before.before.before.before.before.before.before.before in
     let t = z.before.before.before.before.before in
-    gives-zeros _ _ t.before.refusal.ensures t.if1.true z.clear-tables.ensures
+    gives_zeros _ _ t.before.refusal.ensures t.if1.true z.clear-tables.ensures
 
 copy-tables-requires : tie.Need-copy-tables-requires
 copy-tables-requires c κs =

@@ -1,6 +1,6 @@
 -- By `clear`, for each table.
-use Rattle.old_store.specs.CarryingOver.{zeroTables}
-use Rattle.old_store.proofs.Tables.{tables-eq}
+use Rattle.old_store.specs.CarryingOver.{zero_tables}
+use Rattle.old_store.proofs.Tables.{tables_eq}
 use borrow.Author.Rules.{rules}
 use Rattle.carry_over.proofs.clear_tables.Statement.{statement}
 use Rattle.carry_over.proofs.clear_tables.Tie as tie
@@ -30,13 +30,13 @@ same-length-4 : tie.Need-same-length-4
 same-length-4 c = search rules
 
 returns : tie.Need-returns
-unfolding zeroTables
+unfolding zero_tables
 returns c =
     let u = c.before.before in
     let k = u.before.before.before.before in
     let f = k.before.before.before.before in
     let s = f.before.before.before.before in
-    tables-eq s.clear.ensures f.clear2.ensures k.clear3.ensures u.clear4.ensures
+    tables_eq s.clear.ensures f.clear2.ensures k.clear3.ensures u.clear4.ensures
 
 pub clear-tables-spec : {M : Type 1} → statement M
 clear-tables-spec =

@@ -1,9 +1,9 @@
 -- By `copy_table` and `copy_supports`; an accepted store is well formed and has room.
 use native.Mathlib.Omega.{arith}
 use Rattle.spec.specs.Tables.{tables}
-use Rattle.old_store.specs.CarryingOver.{carriedTables}
-use Rattle.old_store.proofs.Tables.{tables-eq}
-use Rattle.old_store.proofs.Carrying.{old-store, some_words}
+use Rattle.old_store.specs.CarryingOver.{carried_tables}
+use Rattle.old_store.proofs.Tables.{tables_eq}
+use Rattle.old_store.proofs.Carrying.{old_store, some_words}
 use borrow.Author.Rules.{rules}
 use Rattle.carry_over.proofs.copy_tables.Statement.{statement}
 use Rattle.carry_over.proofs.copy_tables.Tie as tie
@@ -12,21 +12,21 @@ copy-table-requires : tie.Need-copy-table-requires
 copy-table-requires c κs =
     let s = c.before.before.before.before.before.before.before.before.before in
     let T = tables s.args.s.now s.args.f.now s.args.k.now s.args.u.now in
-    let S = (old-store T).0 s.requires.store in
+    let S = (old_store T).0 s.requires.store in
     (S.statements.laid, s.requires.statements)
 
 copy-table-requires-2 : tie.Need-copy-table-requires-2
 copy-table-requires-2 c κs =
     let s = c.before.before.before.before.before.before.before.before.before.before.before.before.before in
     let T = tables s.args.s.now s.args.f.now s.args.k.now s.args.u.now in
-    let S = (old-store T).0 s.requires.store in
+    let S = (old_store T).0 s.requires.store in
     (S.facts.laid, s.requires.facts)
 
 copy-table-requires-3 : tie.Need-copy-table-requires-3
 copy-table-requires-3 c κs =
     let s = c.before.before.before.before.before.before.before.before.before.before.before.before.before.before.before.before.before in
     let T = tables s.args.s.now s.args.f.now s.args.k.now s.args.u.now in
-    let S = (old-store T).0 s.requires.store in
+    let S = (old_store T).0 s.requires.store in
     (S.kept.laid, s.requires.kept)
 
 shared-slice-read-copy-supports : tie.Need-shared-slice-read-copy-supports
@@ -42,7 +42,7 @@ copy-supports-requires : tie.Need-copy-supports-requires
 copy-supports-requires c κs =
     let s = c.before.before.before.before.before.before.before.before.before.before.before.before.before.before.before.before.before.before.before.before.before.before in
     let T = tables s.args.s.now s.args.f.now s.args.k.now s.args.u.now in
-    let S = (old-store T).0 s.requires.store in
+    let S = (old_store T).0 s.requires.store in
     (S.supports.within, s.requires.supports)
 
 same_length : tie.Need-same-length
@@ -58,13 +58,13 @@ same-length-4 : tie.Need-same-length-4
 same-length-4 c = search rules
 
 returns : tie.Need-returns
-unfolding carriedTables
+unfolding carried_tables
 returns c =
     let u = c.before.before in
     let k = u.before.before.before.before.before in
     let f = k.before.before.before.before in
     let s = f.before.before.before.before in
-    tables-eq s.copy-table.ensures f.copy-table2.ensures k.copy-table3.ensures u.copy-supports.ensures
+    tables_eq s.copy-table.ensures f.copy-table2.ensures k.copy-table3.ensures u.copy-supports.ensures
 
 pub copy-tables-spec : {M : Type 1} → statement M
 copy-tables-spec =

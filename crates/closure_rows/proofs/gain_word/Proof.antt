@@ -1,5 +1,5 @@
 -- The column of the end, and the word of its row if it has one.
-use Rattle.closure_rows.proofs.RowLaws.{gained-row, gained-end}
+use Rattle.closure_rows.proofs.RowLaws.{gained-row, gained_end}
 use borrow.Author.Rules.{rules}
 use Rattle.closure_rows.proofs.gain_word.Statement.{statement}
 use Rattle.closure_rows.proofs.gain_word.Tie as tie
@@ -26,7 +26,7 @@ returns : tie.Need-returns
 returns c = gained-row c.before.before.before.before.args.closure.now _ _ _ _ _ c.before.if1.true c.before.before.column-word.ensures
 
 returns-2 : tie.Need-returns-2
-returns-2 c = gained-end c.before.before.before.args.closure.now _ _ _ _ _ c.if1.false c.before.column-word.ensures
+returns-2 c = gained_end c.before.before.before.args.closure.now _ _ _ _ _ c.if1.false c.before.column-word.ensures
 
 pub gain-word-spec : {M : Type 1} → statement M
 gain-word-spec =

@@ -6,13 +6,13 @@ use Prim.Native.Nat.{◌-◌, ◌*◌, ◌≤◌}
 use lib.ListN.{length, length-set}
 use Rattle.saturate_schema.specs.inside.Squares.{Gained}
 use Rattle.closure_words.specs.inside.Layout.{bit_at}
-use Rattle.closure_rows.specs.inside.Rows.{rowBit}
+use Rattle.closure_rows.specs.inside.Rows.{row_bit}
 use Rattle.closure_rows.proofs.RowLaws.{gained-word}
 use Rattle.closure_rows.proofs.gains.Statement.{statement}
 use Rattle.closure_rows.proofs.gains.Tie as tie
 
 abbrev invariant-loop : tie.invariant-loop
-invariant-loop closure go m so gain₀ w₀ gain w = (w ≤ 16) × (length gain ≡ 16) × Gained (bit_at closure) (rowBit gain) go m so (w * 32)
+invariant-loop closure go m so gain₀ w₀ gain w = (w ≤ 16) × (length gain ≡ 16) × Gained (bit_at closure) (row_bit gain) go m so (w * 32)
 
 abbrev decreases-loop : tie.decreases-loop
 decreases-loop closure go m so gain₀ w₀ gain w = 16 - w

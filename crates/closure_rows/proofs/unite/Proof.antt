@@ -4,7 +4,7 @@ use native.Mathlib.Omega.{arith}
 use mathlib.Core.Path.{◌≡◌}
 use Prim.Native.Nat.{◌-◌, ◌≤◌}
 use lib.ListN.{length, length-set}
-use Rattle.closure_rows.proofs.RowLaws.{Uniting, uniting-start, uniting-more, uniting-end}
+use Rattle.closure_rows.proofs.RowLaws.{Uniting, uniting_start, uniting_more, uniting_end}
 use Rattle.closure_rows.proofs.unite.Statement.{statement}
 use Rattle.closure_rows.proofs.unite.Tie as tie
 
@@ -15,7 +15,7 @@ abbrev decreases-loop : tie.decreases-loop
 decreases-loop closure₀ a gain w₀ closure w = 16 - w
 
 loop-holds : tie.Need-loop-init invariant-loop decreases-loop
-loop-holds c = (omega arith, c.requires.0, uniting-start _ _ _)
+loop-holds c = (omega arith, c.requires.0, uniting_start _ _ _)
 
 mul-closure : tie.Need-overflow-mul-closure invariant-loop decreases-loop
 mul-closure c = search rules
@@ -60,13 +60,13 @@ loop-less : tie.Need-loop-smaller invariant-loop decreases-loop
 loop-less c = search rules
 
 loop-again : tie.Need-loop-preserved invariant-loop decreases-loop
-loop-again c = (omega arith, simp length-set (omega (arith, c.before.before.before.loop.invariant.1)), uniting-more _ c.before.before.before.loop.closure c.before.before.before.before.args.gain.now _ _ c.before.before.before.loop.invariant.2 (omega (arith, c.before.before.before.loop.invariant.1, c.before.before.loop-test.true, c.before.before.before.before.requires.1)))
+loop-again c = (omega arith, simp length-set (omega (arith, c.before.before.before.loop.invariant.1)), uniting_more _ c.before.before.before.loop.closure c.before.before.before.before.args.gain.now _ _ c.before.before.before.loop.invariant.2 (omega (arith, c.before.before.before.loop.invariant.1, c.before.before.loop-test.true, c.before.before.before.before.requires.1)))
 
 same_length : tie.Need-same-length invariant-loop decreases-loop
 same_length c = search rules
 
 returns : tie.Need-returns invariant-loop decreases-loop
-returns c = uniting-end _ _ _ _ _ c.before.loop.invariant.2 (omega (arith, c.before.loop.invariant.0, c.loop-test.false))
+returns c = uniting_end _ _ _ _ _ c.before.loop.invariant.2 (omega (arith, c.before.loop.invariant.0, c.loop-test.false))
 
 pub unite-spec : {M : Type 1} → statement M
 unite-spec =

@@ -3,8 +3,8 @@ use Rattle.std.specs.Prelude.{◌≡◌, List, ◌↔◌, ◌⊎◌, ℕ, ◌+�
 use Rattle.query_keys.specs.inside.Bits.{bit_of}
 
 -- Column c of a row that stands by itself.
-abbrev pub rowBit : List ℕ → ℕ → ℕ
-rowBit row c = bit_of (get_or row (c / 32) 0) (c % 32)
+abbrev pub row_bit : List ℕ → ℕ → ℕ
+row_bit row c = bit_of (get_or row (c / 32) 0) (c % 32)
 
 -- x is word w of a row that has column c alone.
 abbrev pub AloneIn : ℕ → ℕ → ℕ → Type 0

@@ -2,14 +2,14 @@
 use borrow.Author.Rules.{rules}
 use native.Mathlib.Omega.{arith}
 use Prim.Native.Nat.{◌-◌, ◌≤◌}
-use Rattle.closure_words.specs.inside.Layout.{firstColumn, endColumn}
+use Rattle.closure_words.specs.inside.Layout.{first_column, end_column}
 use Rattle.closure_words.proofs.Columns.{stand}
-use Rattle.closure_search.proofs.SearchLaws.{Between, between_start, between-up, between-down, between-end}
+use Rattle.closure_search.proofs.SearchLaws.{Between, between_start, between_up, between_down, between_end}
 use Rattle.closure_search.proofs.column_of.Statement.{statement}
 use Rattle.closure_search.proofs.column_of.Tie as tie
 
 abbrev invariant-loop : tie.invariant-loop
-invariant-loop closure property x lo₀ hi₀ lo hi = (endColumn closure property ≤ 512) × Between closure (firstColumn closure property) (endColumn closure property) x lo hi
+invariant-loop closure property x lo₀ hi₀ lo hi = (end_column closure property ≤ 512) × Between closure (first_column closure property) (end_column closure property) x lo hi
 
 abbrev decreases-loop : tie.decreases-loop
 decreases-loop closure property x lo₀ hi₀ lo hi = hi - lo
@@ -45,16 +45,16 @@ loop-less : tie.Need-loop-smaller invariant-loop decreases-loop
 loop-less c = search rules
 
 loop-again : tie.Need-loop-preserved invariant-loop decreases-loop
-loop-again c = let at-loop = c.before.before.before in (at-loop.loop.invariant.0, between-up _ _ _ _ _ _ c.before.before.before.before.before.before.before.requires at-loop.loop.invariant.1 (omega arith) (omega arith) c.if1.true)
+loop-again c = let at-loop = c.before.before.before in (at-loop.loop.invariant.0, between_up _ _ _ _ _ _ c.before.before.before.before.before.before.before.requires at-loop.loop.invariant.1 (omega arith) (omega arith) c.if1.true)
 
 loop-less-2 : tie.Need-loop-smaller-2 invariant-loop decreases-loop
 loop-less-2 c = search rules
 
 loop-again-2 : tie.Need-loop-preserved-2 invariant-loop decreases-loop
-loop-again-2 c = let at-loop = c.before.before.before in (at-loop.loop.invariant.0, between-down _ _ _ _ _ _ c.before.before.before.before.before.before.before.requires at-loop.loop.invariant.1 (omega arith) (omega arith) (λ e. omega (arith, e, c.if1.false)))
+loop-again-2 c = let at-loop = c.before.before.before in (at-loop.loop.invariant.0, between_down _ _ _ _ _ _ c.before.before.before.before.before.before.before.requires at-loop.loop.invariant.1 (omega arith) (omega arith) (λ e. omega (arith, e, c.if1.false)))
 
 returns : tie.Need-returns invariant-loop decreases-loop
-returns c = between-end _ _ _ _ _ _ c.before.loop.invariant.1 c.loop-test.false
+returns c = between_end _ _ _ _ _ _ c.before.loop.invariant.1 c.loop-test.false
 
 pub column-of-spec : {M : Type 1} → statement M
 column-of-spec =

@@ -6,9 +6,9 @@ use Prim.Native.Nat.{◌-◌, ◌≤◌}
 use lib.ListN.{length}
 use Rattle.saturate_schema.specs.inside.Nodes.{edges}
 use Rattle.saturate_schema.specs.inside.Squares.{Closed}
-use Rattle.saturate_schema.proofs.Closing.{closed-start, closed-more, closed-pass, step-made}
+use Rattle.saturate_schema.proofs.Closing.{closed_start, closed_more, closed_pass, step_made}
 use Rattle.closure_words.specs.inside.Layout.{bit_at}
-use Rattle.closure_rows.specs.inside.Rows.{rowBit}
+use Rattle.closure_rows.specs.inside.Rows.{row_bit}
 use Rattle.closure_walks.proofs.close.Statement.{statement}
 use Rattle.closure_walks.proofs.close.Tie as tie
 
@@ -22,7 +22,7 @@ no-gain-requires : tie.Need-no-gain-requires invariant-loop decreases-loop
 no-gain-requires c κs = search rules
 
 loop-holds : tie.Need-loop-init invariant-loop decreases-loop
-loop-holds c = let start = c.before.before.before.before in (omega arith, start.requires.1.0.2, c.no-gain.ensures, closed-start start.args.statements.now _ start.args.columns.now _ (bit_at start.args.closure.now) 0 start.requires.1.1)
+loop-holds c = let start = c.before.before.before.before in (omega arith, start.requires.1.0.2, c.no-gain.ensures, closed_start start.args.statements.now _ start.args.columns.now _ (bit_at start.args.closure.now) 0 start.requires.1.1)
 
 add-n : tie.Need-overflow-add-n invariant-loop decreases-loop
 add-n c = search rules
@@ -78,12 +78,12 @@ loop-again c =
     let col = start.args.columns.now in
     let bit = bit_at at-loop.loop.closure in
     let bit' = bit_at after-close-statement.close-statement.new.1.1.0 in
-    let gain = rowBit after-gains.gains.new.1.1.1.1.0 in (
+    let gain = row_bit after-gains.gains.new.1.1.1.1.0 in (
       omega (arith, in-loop.loop-test.true),
       after-close-statement.close-statement.auto.1.1.0 ∙ at-loop.loop.invariant.1,
       after-gains.gains.auto.1.1.1.1.0 ∙ at-loop.loop.invariant.2,
-      closed-more st _ col _ bit 0 at-loop.loop.n at-loop.loop.invariant.0 start.requires.0 at-loop.loop.invariant.3 bit' gain _ _ _ in-loop.loop-test.true
-          (step-made st _ col _ bit bit' gain _ _ _ _ _ _ after-subject-node.subject-node.ensures after-object-node.object-node.ensures.0 after-column.column.ensures after-column2.column2.ensures after-first-statement.first-statement.ensures
+      closed_more st _ col _ bit 0 at-loop.loop.n at-loop.loop.invariant.0 start.requires.0 at-loop.loop.invariant.3 bit' gain _ _ _ in-loop.loop-test.true
+          (step_made st _ col _ bit bit' gain _ _ _ _ _ _ after-subject-node.subject-node.ensures after-object-node.object-node.ensures.0 after-column.column.ensures after-column2.column2.ensures after-first-statement.first-statement.ensures
           (λ k l. after-gains.gains.ensures k (omega (arith, start.requires.0.few))) after-close-statement.close-statement.ensures)
           (sym after-applies.applies.ensures ∙ at-if1.if1.true),
     )
@@ -98,7 +98,7 @@ loop-again-2 c =
       omega arith,
       at-loop.loop.invariant.1,
       at-loop.loop.invariant.2,
-      closed-pass start.args.statements.now _ start.args.columns.now _ (bit_at at-loop.loop.closure) 0 at-loop.loop.n at-loop.loop.invariant.0 start.requires.0 at-loop.loop.invariant.3
+      closed_pass start.args.statements.now _ start.args.columns.now _ (bit_at at-loop.loop.closure) 0 at-loop.loop.n at-loop.loop.invariant.0 start.requires.0 at-loop.loop.invariant.3
           (sym c.before.applies.ensures ∙ c.if1.false),
     )
 

@@ -1,7 +1,7 @@
 -- The classes end where the properties begin.
 use borrow.Author.Rules.{rules}
 use native.Mathlib.Omega.{arith}
-use Rattle.closure_words.proofs.Columns.{end-class, end-other}
+use Rattle.closure_words.proofs.Columns.{end_class, end_other}
 use Rattle.closure_words.proofs.end_column.Statement.{statement}
 use Rattle.closure_words.proofs.end_column.Tie as tie
 
@@ -18,10 +18,10 @@ cast-result-2 : tie.Need-overflow-cast-result-2
 cast-result-2 c = search rules
 
 returns : tie.Need-returns
-returns c = end-class _ _ (omega arith)
+returns c = end_class _ _ (omega arith)
 
 returns-2 : tie.Need-returns-2
-returns-2 c = end-other _ _ (λ e. omega arith)
+returns-2 c = end_other _ _ (λ e. omega arith)
 
 pub end-column-spec : {M : Type 1} → statement M
 end-column-spec =

@@ -1,6 +1,6 @@
 -- The test reads the bit.
 use borrow.Author.Rules.{rules}
-use Rattle.table.proofs.SearchLaws.{tells-equal}
+use Rattle.table.proofs.SearchLaws.{tells_equal}
 use Rattle.closure_words.proofs.is_set.Statement.{statement}
 use Rattle.closure_words.proofs.is_set.Tie as tie
 
@@ -26,7 +26,7 @@ shr-result : tie.Need-overflow-shr-result
 shr-result c = search rules
 
 returns : tie.Need-returns
-returns c = tells-equal _ 1
+returns c = tells_equal _ 1
 
 pub is-set-spec : {M : Type 1} → statement M
 is-set-spec =

@@ -1,6 +1,6 @@
 -- By arithmetic on the length.
 use native.Mathlib.Omega.{arith}
-use Rattle.spec.specs.computed.Decoded.{fieldEnd}
+use Rattle.spec.specs.computed.Decoded.{field_end}
 use borrow.Author.Rules.{rules}
 use Rattle.delivery_format.proofs.field_end.Statement.{statement}
 use Rattle.delivery_format.proofs.field_end.Tie as tie
@@ -18,7 +18,7 @@ add-result-2 : tie.Need-overflow-add-result-2
 add-result-2 c = search rules
 
 returns : tie.Need-returns
-unfolding fieldEnd
+unfolding field_end
 returns c = (omega arith, omega arith)
 
 pub field-end-spec : {M : Type 1} → statement M

@@ -1,5 +1,5 @@
--- By the two cases of `isRightIn`.
-use Rattle.delivery_format.specs.inside.Sections.{isRightIn}
+-- By the two cases of `is_right_in`.
+use Rattle.delivery_format.specs.inside.Sections.{is_right_in}
 use borrow.Author.Rules.{rules}
 use Rattle.delivery_format.proofs.is_right_in.Statement.{statement}
 use Rattle.delivery_format.proofs.is_right_in.Tie as tie
@@ -11,11 +11,11 @@ is-statement-requires-2 : tie.Need-is-statement-requires-2
 is-statement-requires-2 c κs = search rules
 
 returns : tie.Need-returns
-unfolding isRightIn
+unfolding is_right_in
 returns c = cc
 
 returns-2 : tie.Need-returns-2
-unfolding isRightIn
+unfolding is_right_in
 returns-2 c = cc
 
 pub is-right-in-spec : {M : Type 1} → statement M

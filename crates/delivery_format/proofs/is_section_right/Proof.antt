@@ -1,5 +1,5 @@
 -- A section of a whole delivery lies within the bytes.
-use Rattle.delivery_format.proofs.Whole.{section-fits}
+use Rattle.delivery_format.proofs.Whole.{section_fits}
 use borrow.Author.Rules.{rules}
 use Rattle.delivery_format.proofs.is_section_right.Statement.{statement}
 use Rattle.delivery_format.proofs.is_section_right.Tie as tie
@@ -14,7 +14,7 @@ short-at-requires : tie.Need-short-at-requires
 short-at-requires c κs = search rules
 
 are-entries-right-requires : tie.Need-are-entries-right-requires
-are-entries-right-requires c κs = section-fits c.before.before.before.args.bytes.now c.before.before.before.requires.1 c.before.before.before.args.k _ _ c.before.before.before.requires.0 c.before.section-start.ensures.0 c.short-at.ensures.0
+are-entries-right-requires c κs = section_fits c.before.before.before.args.bytes.now c.before.before.before.requires.1 c.before.before.before.args.k _ _ c.before.before.before.requires.0 c.before.section-start.ensures.0 c.short-at.ensures.0
 
 returns : tie.Need-returns
 returns c = cc

@@ -1,6 +1,6 @@
 -- By arithmetic on the count.
 use native.Mathlib.Omega.{arith}
-use Rattle.spec.specs.computed.Decoded.{sectionEnd}
+use Rattle.spec.specs.computed.Decoded.{section_end}
 use borrow.Author.Rules.{rules}
 use Rattle.delivery_format.proofs.section_end.Statement.{statement}
 use Rattle.delivery_format.proofs.section_end.Tie as tie
@@ -18,7 +18,7 @@ add-result-2 : tie.Need-overflow-add-result-2
 add-result-2 c = search rules
 
 returns : tie.Need-returns
-unfolding sectionEnd
+unfolding section_end
 returns c = (omega arith, omega arith)
 
 pub section-end-spec : {M : Type 1} → statement M

@@ -2,7 +2,7 @@
 use Rattle.std.specs.Prelude.{ℕ, ◌^◌, ◌<◌, ◌≡◌, List, length}
 use Rattle.spec.specs.declared.Triple.{Triple}
 use Rattle.spec.specs.Messages.{Field, Message}
-use Rattle.spec.specs.Deliveries.{numberFields}
+use Rattle.spec.specs.Deliveries.{number_fields}
 use Rattle.spec.specs.inside.Each.{Each}
 
 -- ---- what fits the layout
@@ -34,10 +34,10 @@ pub record IsField (f : Field) : Type 0 where
 
 -- A message that can be written as bytes.
 pub record Encodable (m : Message) : Type 0 where
-  pub statementsWithdrawn : IsSection m.statementsWithdrawn
-  pub factsWithdrawn : IsSection m.factsWithdrawn
-  pub statementsAdded : IsSection m.statementsAdded
-  pub factsAdded : IsSection m.factsAdded
+  pub statements_withdrawn : IsSection m.statements_withdrawn
+  pub facts_withdrawn : IsSection m.facts_withdrawn
+  pub statements_added : IsSection m.statements_added
+  pub facts_added : IsSection m.facts_added
   pub count : IsShort (length m.fields)
   pub fields : Each IsField m.fields
 
@@ -45,8 +45,8 @@ pub record Encodable (m : Message) : Type 0 where
 
 -- Two messages that agree but for fields with other tags than 1.
 pub record Agree (m n : Message) : Type 0 where
-  pub statementsWithdrawn : m.statementsWithdrawn ≡ n.statementsWithdrawn
-  pub factsWithdrawn : m.factsWithdrawn ≡ n.factsWithdrawn
-  pub statementsAdded : m.statementsAdded ≡ n.statementsAdded
-  pub factsAdded : m.factsAdded ≡ n.factsAdded
-  pub numbers : numberFields m.fields ≡ numberFields n.fields
+  pub statements_withdrawn : m.statements_withdrawn ≡ n.statements_withdrawn
+  pub facts_withdrawn : m.facts_withdrawn ≡ n.facts_withdrawn
+  pub statements_added : m.statements_added ≡ n.statements_added
+  pub facts_added : m.facts_added ≡ n.facts_added
+  pub numbers : number_fields m.fields ≡ number_fields n.fields

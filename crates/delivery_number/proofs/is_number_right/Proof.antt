@@ -1,6 +1,6 @@
 -- By the walk to the first field with tag 1, and from there to a second.
 use native.Mathlib.Omega.{arith}
-use Rattle.delivery_number.proofs.Tagged.{fields-small, right-none, right-length, at_small, more-small, right-more}
+use Rattle.delivery_number.proofs.Tagged.{fields_small, right-none, right-length, at_small, more-small, right-more}
 use borrow.Author.Rules.{rules}
 use Rattle.delivery_number.proofs.is_number_right.Statement.{statement}
 use Rattle.delivery_number.proofs.is_number_right.Tie as tie
@@ -11,7 +11,7 @@ extra-fields-requires c κs = search rules
 from-number-requires : tie.Need-from-number-requires
 from-number-requires c κs =
     let s = c.before.before in
-    fields-small s.args.bytes.now s.requires c.extra-fields.result c.extra-fields.ensures
+    fields_small s.args.bytes.now s.requires c.extra-fields.result c.extra-fields.ensures
 
 returns : tie.Need-returns
 returns c =

@@ -1,7 +1,7 @@
 -- By the walk to the field with tag 1.
 use native.Mathlib.Omega.{arith}
 use mathlib.Core.Path.{◌∙◌}
-use Rattle.delivery_number.proofs.Tagged.{fields-small, number-absent, number-found, at_small}
+use Rattle.delivery_number.proofs.Tagged.{fields_small, number-absent, number-found, at_small}
 use borrow.Author.Rules.{rules}
 use Rattle.delivery_number.proofs.number.Statement.{statement}
 use Rattle.delivery_number.proofs.number.Tie as tie
@@ -12,7 +12,7 @@ extra-fields-requires c κs = search rules
 from-number-requires : tie.Need-from-number-requires
 from-number-requires c κs =
     let s = c.before.before in
-    fields-small s.args.bytes.now s.requires.0 c.extra-fields.result c.extra-fields.ensures
+    fields_small s.args.bytes.now s.requires.0 c.extra-fields.result c.extra-fields.ensures
 
 returns : tie.Need-returns
 returns c =

@@ -6,7 +6,7 @@ use Rattle.spec.specs.declared.Change.TheVariants.{Addition, Withdrawal}
 use Rattle.spec.specs.Updates.{update}
 use Rattle.delivery_section.specs.inside.Running.{section}
 use Rattle.delivery_section.proofs.Runs.{next-section}
-use Rattle.delivery_run.proofs.Sections.{first-section, first-keeps, second-facts, still_formed, message-run}
+use Rattle.delivery_run.proofs.Sections.{first-section, first_keeps, second_facts, still_formed, message-run}
 use Rattle.delivery_run.proofs.run_message.Statement.{statement}
 use Rattle.delivery_run.proofs.run_message.Tie as tie
 
@@ -14,10 +14,10 @@ none-requires : tie.Need-none-requires
 none-requires c κs = search rules
 
 run-section-requires : tie.Need-run-section-requires
-run-section-requires c κs = (c.before.before.before.before.before.before.before.before.before.before.requires.0, (first-section c.before.before.before.before.before.before.before.before.before.before.args.bytes.now c.none.result c.before.before.before.before.before.before.before.before.before.before.requires.1.0 c.none.ensures, first-keeps c.before.before.before.before.before.before.before.before.before.before.args.bytes.now c.before.before.before.before.before.before.before.before.before.before.requires.1.1))
+run-section-requires c κs = (c.before.before.before.before.before.before.before.before.before.before.requires.0, (first-section c.before.before.before.before.before.before.before.before.before.before.args.bytes.now c.none.result c.before.before.before.before.before.before.before.before.before.before.requires.1.0 c.none.ensures, first_keeps c.before.before.before.before.before.before.before.before.before.before.args.bytes.now c.before.before.before.before.before.before.before.before.before.before.requires.1.1))
 
 withdraw-facts-requires : tie.Need-withdraw-facts-requires
-withdraw-facts-requires c κs = (c.before.before.before.before.before.before.before.before.before.before.before.before.run-section.ensures.1, (next-section (update Withdrawal) _ 0 (first-section c.before.before.before.before.before.before.before.before.before.before.before.before.before.before.before.before.before.before.before.before.before.before.before.args.bytes.now c.before.before.before.before.before.before.before.before.before.before.before.before.before.none.result c.before.before.before.before.before.before.before.before.before.before.before.before.before.before.before.before.before.before.before.before.before.before.before.requires.1.0 c.before.before.before.before.before.before.before.before.before.before.before.before.before.none.ensures) (omega arith) c.before.before.before.before.before.before.before.before.before.before.before.before.run-section.ensures.0, second-facts c.before.before.before.before.before.before.before.before.before.before.before.before.before.before.before.before.before.before.before.before.before.before.before.args.bytes.now c.before.before.before.before.before.before.before.before.before.before.before.before.before.before.before.before.before.before.before.before.before.before.before.requires.1.1))
+withdraw-facts-requires c κs = (c.before.before.before.before.before.before.before.before.before.before.before.before.run-section.ensures.1, (next-section (update Withdrawal) _ 0 (first-section c.before.before.before.before.before.before.before.before.before.before.before.before.before.before.before.before.before.before.before.before.before.before.before.args.bytes.now c.before.before.before.before.before.before.before.before.before.before.before.before.before.none.result c.before.before.before.before.before.before.before.before.before.before.before.before.before.before.before.before.before.before.before.before.before.before.before.requires.1.0 c.before.before.before.before.before.before.before.before.before.before.before.before.before.none.ensures) (omega arith) c.before.before.before.before.before.before.before.before.before.before.before.before.run-section.ensures.0, second_facts c.before.before.before.before.before.before.before.before.before.before.before.before.before.before.before.before.before.before.before.before.before.before.before.args.bytes.now c.before.before.before.before.before.before.before.before.before.before.before.before.before.before.before.before.before.before.before.before.before.before.before.requires.1.1))
 
 add-section-requires : tie.Need-add-section-requires
 add-section-requires c κs = (c.before.before.before.before.before.before.before.before.before.before.before.before.before.withdraw-facts.ensures.1, next-section (update Withdrawal) _ 1 (next-section (update Withdrawal) _ 0 (first-section c.before.before.before.before.before.before.before.before.before.before.before.before.before.before.before.before.before.before.before.before.before.before.before.before.before.before.before.before.before.before.before.before.before.before.before.before.before.args.bytes.now c.before.before.before.before.before.before.before.before.before.before.before.before.before.before.before.before.before.before.before.before.before.before.before.before.before.before.before.none.result c.before.before.before.before.before.before.before.before.before.before.before.before.before.before.before.before.before.before.before.before.before.before.before.before.before.before.before.before.before.before.before.before.before.before.before.before.before.requires.1.0 c.before.before.before.before.before.before.before.before.before.before.before.before.before.before.before.before.before.before.before.before.before.before.before.before.before.before.before.none.ensures) (omega arith) c.before.before.before.before.before.before.before.before.before.before.before.before.before.before.before.before.before.before.before.before.before.before.before.before.before.before.run-section.ensures.0) (omega arith) c.before.before.before.before.before.before.before.before.before.before.before.before.before.withdraw-facts.ensures.0)

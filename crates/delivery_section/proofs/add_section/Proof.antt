@@ -2,13 +2,13 @@
 use mathlib.Core.Path.{sym, ◌∙◌}
 use borrow.Author.Tests.{not-true, not-false}
 use borrow.Author.Rules.{rules}
-use Rattle.table.proofs.Store.{isStore-formed}
+use Rattle.table.proofs.Store.{is_store_formed}
 use Rattle.spec.specs.declared.Change.TheVariants.{Addition}
 use Rattle.spec.specs.Updates.{update}
-use Rattle.spec.proofs.Outcomes.{update-malformed}
-use Rattle.delivery_section.specs.inside.Running.{keepsFormed}
+use Rattle.spec.proofs.Outcomes.{update_malformed}
+use Rattle.delivery_section.specs.inside.Running.{keeps_formed}
 use Rattle.delivery_section.proofs.Formed.{all_keep}
-use Rattle.delivery_section.proofs.Runs.{left-first, left-refused}
+use Rattle.delivery_section.proofs.Runs.{left_first, left_refused}
 use Rattle.delivery_section.proofs.add_section.Statement.{statement}
 use Rattle.delivery_section.proofs.add_section.Tie as tie
 
@@ -28,13 +28,13 @@ returns c =
     let after-section-start = c.before.before in
     let after-short-at = c.before in
     let after-refused = c in
-    left-refused after-short-at.short-at.result (left-first (update Addition) (keepsFormed Addition) start.args.bytes.now _ start.args.k after-section-start.section-start.result after-short-at.short-at.result start.args.counted start.requires.1 (all_keep _) after-section-start.section-start.ensures.0 after-short-at.short-at.ensures.0) (λ t. update-malformed Addition _ t (sym start.requires.0 ∙ not-true _ then1.if1.true)) after-refused.refused.ensures
+    left_refused after-short-at.short-at.result (left_first (update Addition) (keeps_formed Addition) start.args.bytes.now _ start.args.k after-section-start.section-start.result after-short-at.short-at.result start.args.counted start.requires.1 (all_keep _) after-section-start.section-start.ensures.0 after-short-at.short-at.ensures.0) (λ t. update_malformed Addition _ t (sym start.requires.0 ∙ not-true _ then1.if1.true)) after-refused.refused.ensures
 
 run-section-requires : tie.Need-run-section-requires
 run-section-requires c κs =
     let start = c.before.before.before.before.before.before.before.before.before.before in
     let else1 = c.before.before.before.before in
-    (isStore-formed _ _ _ _ (sym start.requires.0 ∙ not-false _ else1.if1.false), (start.requires.1, all_keep _))
+    (is_store_formed _ _ _ _ (sym start.requires.0 ∙ not-false _ else1.if1.false), (start.requires.1, all_keep _))
 
 same_length : tie.Need-same-length
 same_length c = search rules

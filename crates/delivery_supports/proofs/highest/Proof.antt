@@ -5,7 +5,7 @@ use native.Mathlib.Omega.{arith}
 use lib.ListN.{take, drop}
 use borrow.Author.Rules.{rules}
 use Rattle.delivery_supports.specs.inside.Highest.{highest}
-use Rattle.delivery_supports.proofs.HighestLaws.{highest-more, highest-end}
+use Rattle.delivery_supports.proofs.HighestLaws.{highest_more, highest_end}
 use Rattle.delivery_supports.proofs.highest.Statement.{statement}
 use Rattle.delivery_supports.proofs.highest.Tie as tie
 
@@ -45,13 +45,13 @@ loop-again c =
     let at-loop = c.before.before.before in
     let in-loop = c.before.before in
     let after-higher = c in
-    (search rules, rw after-higher.higher.ensures (highest-more start.args.n start.args.supports.now start.requires at-loop.loop.i at-loop.loop.most in-loop.loop-test.true at-loop.loop.invariant.1))
+    (search rules, rw after-higher.higher.ensures (highest_more start.args.n start.args.supports.now start.requires at-loop.loop.i at-loop.loop.most in-loop.loop-test.true at-loop.loop.invariant.1))
 
 returns : tie.Need-returns invariant-loop decreases-loop
 returns c =
     let start = c.before.before.before in
     let at-loop = c.before in
-    highest-end start.args.n start.args.supports.now start.requires at-loop.loop.i at-loop.loop.most c.loop-test.false at-loop.loop.invariant.1
+    highest_end start.args.n start.args.supports.now start.requires at-loop.loop.i at-loop.loop.most c.loop-test.false at-loop.loop.invariant.1
 
 pub highest-spec : {M : Type 1} → statement M
 highest-spec =

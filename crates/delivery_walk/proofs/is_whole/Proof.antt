@@ -1,12 +1,12 @@
 -- By the two tests of `is_whole`.
 use mathlib.Core.Path.{sym}
-use Rattle.delivery_walk.proofs.Ends.{too_long, ends_there}
+use Rattle.delivery_walk.proofs.Ends.{too_long_lem, ends_there}
 use borrow.Author.Rules.{rules}
 use Rattle.delivery_walk.proofs.is_whole.Statement.{statement}
 use Rattle.delivery_walk.proofs.is_whole.Tie as tie
 
 returns : tie.Need-returns
-returns c = sym (too_long c.before.before.args.bytes.now c.if1.true)
+returns c = sym (too_long_lem c.before.before.args.bytes.now c.if1.true)
 
 section-start-requires : tie.Need-section-start-requires
 section-start-requires c κs = search rules

@@ -37,7 +37,7 @@ use denote.Triple.Table.{entered, cited}
 use denote.Triple.Walked.{says, needs, Stays, stay_none, stay_none_slice, walk_of, Goes-none, Goes-none_slice, Walks, ends_at, walked, walk_Meets}
 use denote.Exit.{yes}
 use denote.Triple.Clauses.{ensured, lasts}
-use Rattle.delivery_walk.specs.inside.Walked.{countedEnd}
+use Rattle.delivery_walk.specs.inside.Walked.{counted_end}
 use Rattle.delivery_walk.specs.declared.Reader.{Reader}
 use Rattle.delivery_walk.specs.contracts.Reader as T
 use Rattle.delivery_walk.proofs.Reader.TheLaws as T'
@@ -87,7 +87,7 @@ module _ {M : Type 1} {𝓤 : Ura M} (𝓛 : Logic 𝓤) (mem : Memory → SProp
   at = (v ∷ [], (vint w64 n ∷ [], tt))
 
   abbrev found : ℕ
-  found = countedEnd s.now n
+  found = counted_end s.now n
 
   -- the struct's type as a local of a body has it
   abbrev αᵉ : NamedLft
@@ -120,7 +120,7 @@ module _ {M : Type 1} {𝓤 : Ura M} (𝓛 : Logic 𝓤) (mem : Memory → SProp
   goes-past r u within = qed 𝓛 (‵ ((B (κ, tt)).own r (u ∷ [])) ∷ (‵ (flft κ q) ⊛ ‵ ftrue) ∷ []) ∵ says ! within $ nothing ! $ move ! (1 ∷ 0 ∷ []) $ fjoin ! $ move ! (1 ∷ 0 ∷ []) $ frame ! $ done !
 
   abbrev Past : Reader → Reader → Type 0
-  Past r t = (t.bytes ≡ r.bytes) × (t.at ≡ countedEnd r.bytes.now r.at)
+  Past r t = (t.bytes ≡ r.bytes) × (t.at ≡ counted_end r.bytes.now r.at)
 
   past-said : (r t : Reader) → ent 𝓤 (ensured 𝓛 past.ended (past.clauses 𝓛 mem run) (κ, tt) (r, tt) tt t) (fact 𝓤 (Past r t))
   past-said r t = ex_e 𝓤 _ (λ ws. snd∗ 𝓤 (sem 𝓛 (lasts past.ended (κ, tt) (r, tt) ws)) (fact 𝓤 (Past r t)))
@@ -137,7 +137,7 @@ module _ {M : Type 1} {𝓤 : Ura M} (𝓛 : Logic 𝓤) (mem : Memory → SProp
 
   -- what the three calls say together
   ends : (r t : Reader) (m : ℕ) → (r.bytes ≡ s) × (r.at ≡ n) → Past r t → m ≡ t.at → m ≡ found
-  ends r t m e₁ e₂ e₃ = e₃ ∙ (e₂.1 ∙ (ap (λ (x : Bor (List ℕ)). countedEnd x.now r.at) e₁.0 ∙ ap (countedEnd s.now) e₁.1))
+  ends r t m e₁ e₂ e₃ = e₃ ∙ (e₂.1 ∙ (ap (λ (x : Bor (List ℕ)). counted_end x.now r.at) e₁.0 ∙ ap (counted_end s.now) e₁.1))
 
   exits : (m : ℕ) (u : Val) → m ≡ found → ent 𝓤 (⋆ 𝓛 (‵ (usize.own_val m (u ∷ [])) ∷ (‵ (flft κ q) ⊛ ‵ ftrue) ∷ ‵ Own ∷ [])) (Post u)
   exits m u e =

@@ -1,7 +1,7 @@
 -- What the withdrawal of a fact leaves, and a bound of its supports. Assumes nothing.
 use native.Mathlib.Omega.{arith}
 use borrow.Author.Rules.{rules}
-use Rattle.delivery_withdrawals.proofs.Lowered.{lowered-places, lowered-within, lowered-formed}
+use Rattle.delivery_withdrawals.proofs.Lowered.{lowered_places, lowered-within, lowered_formed}
 use Rattle.delivery_withdrawals.proofs.withdraw_fact.Statement.{statement}
 use Rattle.delivery_withdrawals.proofs.withdraw_fact.Tie as tie
 
@@ -25,7 +25,7 @@ cast-bound c =
     omega (arith, after-slice-known10.slice-known10.given 0)
 
 bound-requires : tie.Need-bound-requires
-bound-requires c κs = (lowered-places c.before.before.before.before.before.before.before.before.before.before.before.before.before.before.before.before.before.before.before.before.args.fact c.before.before.before.before.before.before.before.before.before.before.before.before.before.before.before.before.before.before.before.before.requires.0 c.before.before.before.before.before.before.before.before.before.before.before.before.before.before.before.before.before.before.before.before.requires.1.0 c.before.before.before.before.before.before.before.before.before.before.before.update-formed.ensures, lowered-within c.before.before.before.before.before.before.before.before.before.before.before.before.before.before.before.before.before.before.before.before.args.fact c.before.before.before.before.before.before.before.before.before.before.before.before.before.before.before.before.before.before.before.before.requires.0 c.before.before.before.before.before.before.before.before.before.before.before.before.before.before.before.before.before.before.before.before.requires.1.0 c.before.before.before.before.before.before.before.before.before.before.before.update-formed.ensures _ c.before.before.before.before.before.before.before.before.before.before.before.before.before.before.before.before.before.before.before.before.requires.1.1)
+bound-requires c κs = (lowered_places c.before.before.before.before.before.before.before.before.before.before.before.before.before.before.before.before.before.before.before.before.args.fact c.before.before.before.before.before.before.before.before.before.before.before.before.before.before.before.before.before.before.before.before.requires.0 c.before.before.before.before.before.before.before.before.before.before.before.before.before.before.before.before.before.before.before.before.requires.1.0 c.before.before.before.before.before.before.before.before.before.before.before.update_formed.ensures, lowered-within c.before.before.before.before.before.before.before.before.before.before.before.before.before.before.before.before.before.before.before.before.args.fact c.before.before.before.before.before.before.before.before.before.before.before.before.before.before.before.before.before.before.before.before.requires.0 c.before.before.before.before.before.before.before.before.before.before.before.before.before.before.before.before.before.before.before.before.requires.1.0 c.before.before.before.before.before.before.before.before.before.before.before.update_formed.ensures _ c.before.before.before.before.before.before.before.before.before.before.before.before.before.before.before.before.before.before.before.before.requires.1.1)
 
 same_length : tie.Need-same-length
 same_length c = search rules
@@ -40,7 +40,7 @@ same-length-4 : tie.Need-same-length-4
 same-length-4 c = search rules
 
 returns : tie.Need-returns
-returns c = (c.before.before.before.before.before.before.before.before.before.before.before.before.update-formed.ensures, (c.bound.ensures.0, lowered-formed c.before.before.before.before.before.before.before.before.before.before.before.before.before.before.before.before.before.before.before.before.before.args.fact c.before.before.before.before.before.before.before.before.before.before.before.before.before.before.before.before.before.before.before.before.before.requires.0 c.before.before.before.before.before.before.before.before.before.before.before.before.before.before.before.before.before.before.before.before.before.requires.1.0 c.before.before.before.before.before.before.before.before.before.before.before.before.update-formed.ensures c.bound.result c.bound.ensures.0 c.bound.ensures.1))
+returns c = (c.before.before.before.before.before.before.before.before.before.before.before.before.update_formed.ensures, (c.bound.ensures.0, lowered_formed c.before.before.before.before.before.before.before.before.before.before.before.before.before.before.before.before.before.before.before.before.before.args.fact c.before.before.before.before.before.before.before.before.before.before.before.before.before.before.before.before.before.before.before.before.before.requires.0 c.before.before.before.before.before.before.before.before.before.before.before.before.before.before.before.before.before.before.before.before.before.requires.1.0 c.before.before.before.before.before.before.before.before.before.before.before.before.update_formed.ensures c.bound.result c.bound.ensures.0 c.bound.ensures.1))
 
 pub withdraw-fact-spec : {M : Type 1} → statement M
 withdraw-fact-spec =

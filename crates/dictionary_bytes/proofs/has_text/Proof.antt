@@ -3,13 +3,13 @@ use mathlib.Core.Path.{◌≡◌, refl, sym, ◌∙◌, ap}
 use native.Mathlib.Omega.{arith}
 use native.Mathlib.Nat.{add-zero, sub-zero}
 use lib.ListN.{length, get_or, take, drop}
-use Rattle.spec_ntriples.specs.Texts.{isSameText}
-use Rattle.spec_ntriples.specs.Dictionary.{bytesNumber}
-use Rattle.dictionary_bytes.proofs.Same.{parts_more, parts-stop, parts-end}
-use Rattle.dictionary_bytes.proofs.Numbers.{bound-more, bound-whole, number_fits, number_more, number-none, number-whole}
+use Rattle.spec_ntriples.specs.Texts.{is_same_text}
+use Rattle.spec_ntriples.specs.Dictionary.{bytes_number}
+use Rattle.dictionary_bytes.proofs.Same.{parts_more, parts_stop, parts_end}
+use Rattle.dictionary_bytes.proofs.Numbers.{bound_more, bound_whole, number_fits, number_more, number_none, number_whole}
 use native.Mathlib.Nat.{one-le-pow}
 use lib.Seq.{drop-drop}
-use Rattle.dictionary_bytes.specs.inside.Entries.{lengthAt, textAt}
+use Rattle.dictionary_bytes.specs.inside.Entries.{length_at, text_at}
 use Rattle.dictionary_bytes.proofs.Entry.{other_length, same_length}
 use borrow.Author.Rules.{rules}
 use Rattle.dictionary_bytes.proofs.has_text.Statement.{statement}

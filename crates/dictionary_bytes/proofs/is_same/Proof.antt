@@ -4,13 +4,13 @@ use mathlib.Core.Path.{◌≡◌, refl, sym, ◌∙◌, ap}
 use native.Mathlib.Omega.{arith}
 use native.Mathlib.Nat.{add-zero, sub-zero}
 use lib.ListN.{length, get_or, take, drop}
-use Rattle.spec_ntriples.specs.Texts.{isSameText}
-use Rattle.spec_ntriples.specs.Dictionary.{bytesNumber}
-use Rattle.dictionary_bytes.proofs.Same.{parts_more, parts-stop, parts-end}
-use Rattle.dictionary_bytes.proofs.Numbers.{bound-more, bound-whole, number_fits, number_more, number-none, number-whole}
+use Rattle.spec_ntriples.specs.Texts.{is_same_text}
+use Rattle.spec_ntriples.specs.Dictionary.{bytes_number}
+use Rattle.dictionary_bytes.proofs.Same.{parts_more, parts_stop, parts_end}
+use Rattle.dictionary_bytes.proofs.Numbers.{bound_more, bound_whole, number_fits, number_more, number_none, number_whole}
 use native.Mathlib.Nat.{one-le-pow}
 use lib.Seq.{drop-drop}
-use Rattle.dictionary_bytes.specs.inside.Entries.{lengthAt, textAt}
+use Rattle.dictionary_bytes.specs.inside.Entries.{length_at, text_at}
 use Rattle.dictionary_bytes.proofs.Entry.{other_length, same_length}
 use Rattle.dictionary_bytes.proofs.is_same.Statement.{statement}
 use Rattle.dictionary_bytes.proofs.is_same.Tie as tie
@@ -18,7 +18,7 @@ use Rattle.dictionary_bytes.proofs.is_same.Reads as reads
 use Rattle.dictionary_bytes.proofs.is_same.Lts as lts
 
 abbrev invariant-loop : tie.invariant-loop
-invariant-loop a from b at n i₀ i = (i ≤ n) × (isSameText (take n (drop from a)) (take n (drop at b)) ≡ isSameText (take (n - i) (drop (from + i) a)) (take (n - i) (drop (at + i) b)))
+invariant-loop a from b at n i₀ i = (i ≤ n) × (is_same_text (take n (drop from a)) (take n (drop at b)) ≡ is_same_text (take (n - i) (drop (from + i) a)) (take (n - i) (drop (at + i) b)))
 
 abbrev decreases-loop : tie.decreases-loop
 decreases-loop a from b at n i₀ i = n - i
@@ -45,7 +45,7 @@ shared-slice-read-if1-2 c = search rules
 
 -- src/lib.rt:65:13
 returns : tie.Need-returns invariant-loop decreases-loop
-returns c = sym (c.before.before.before.before.loop.invariant.1 ∙ parts-stop c.before.before.before.before.before.args.a.now c.before.before.before.before.before.args.b.now c.before.before.before.before.before.args.from c.before.before.before.before.before.args.at c.before.before.before.before.before.args.n c.before.before.before.before.loop.i (search rules) (search rules) (search rules) c.if1.true)
+returns c = sym (c.before.before.before.before.loop.invariant.1 ∙ parts_stop c.before.before.before.before.before.args.a.now c.before.before.before.before.before.args.b.now c.before.before.before.before.before.args.from c.before.before.before.before.before.args.at c.before.before.before.before.before.args.n c.before.before.before.before.loop.i (search rules) (search rules) (search rules) c.if1.true)
 
 -- src/lib.rt:67:9
 add-i : tie.Need-overflow-add-i invariant-loop decreases-loop
@@ -61,7 +61,7 @@ loop-again c = (omega arith, c.before.before.before.before.loop.invariant.1 ∙ 
 
 -- src/lib.rt:57:1
 returns-2 : tie.Need-returns-2 invariant-loop decreases-loop
-returns-2 c = sym (c.before.loop.invariant.1 ∙ parts-end c.before.before.args.a.now c.before.before.args.b.now c.before.before.args.from c.before.before.args.at c.before.before.args.n c.before.loop.i (search rules))
+returns-2 c = sym (c.before.loop.invariant.1 ∙ parts_end c.before.before.args.a.now c.before.before.args.b.now c.before.before.args.from c.before.before.args.at c.before.before.args.n c.before.loop.i (search rules))
 
 pub is-same-spec : {M : Type 1} → statement M
 is-same-spec =

@@ -1,6 +1,6 @@
 use borrow.Author.Rules.{rules}
 use Prim.Native.Nat.{◌-◌}
-use Rattle.dictionary_distinct.proofs.Apartness.{apart-less, Compared, compared-none, compared-repeat, compared-more, compared-all}
+use Rattle.dictionary_distinct.proofs.Apartness.{apart-less, Compared, compared_none, compared_repeat, compared_more, compared_all}
 use Rattle.dictionary_distinct.proofs.are_distinct.Statement.{statement}
 use Rattle.dictionary_distinct.proofs.are_distinct.Tie as tie
 use Rattle.dictionary_distinct.proofs.are_distinct.Reads as reads
@@ -15,7 +15,7 @@ decreases-loop dictionary last first₀ first = last - first
 
 -- src/lib.rt:82:5
 loop-holds : tie.Need-loop-init invariant-loop decreases-loop
-loop-holds c = compared-none c.before.args.dictionary.now c.before.args.last c.before.requires
+loop-holds c = compared_none c.before.args.dictionary.now c.before.args.last c.before.requires
 
 -- src/lib.rt:83:15
 next-segment-requires : tie.Need-next-segment-requires invariant-loop decreases-loop
@@ -30,7 +30,7 @@ returns : tie.Need-returns invariant-loop decreases-loop
 returns c =
     let start = c.before.before.before.before.before.before in
     let turn = c.before.before.before.before in
-    compared-repeat start.args.dictionary.now start.args.last turn.loop.first turn.loop.invariant (rw c.enum_told.given.1 at c.before.before.next-segment.ensures)
+    compared_repeat start.args.dictionary.now start.args.last turn.loop.first turn.loop.invariant (rw c.enum_told.given.1 at c.before.before.next_segment.ensures)
 
 -- src/lib.rt:87:26
 enum-known-end : tie.Need-enum-known-end invariant-loop decreases-loop
@@ -42,7 +42,7 @@ loop-less c =
     let start = c.before.before.before.before.before.before.before in
     let turn = c.before.before.before.before.before in
     let after-next-segment = c.before.before.before in
-    apart-less start.args.dictionary.now turn.loop.first start.args.last _ (rw c.before.end.given.1 at after-next-segment.next-segment.ensures)
+    apart-less start.args.dictionary.now turn.loop.first start.args.last _ (rw c.before.end.given.1 at after-next-segment.next_segment.ensures)
 
 -- src/lib.rt:82:5
 loop-again : tie.Need-loop-preserved invariant-loop decreases-loop
@@ -50,11 +50,11 @@ loop-again c =
     let start = c.before.before.before.before.before.before.before in
     let turn = c.before.before.before.before.before in
     let after-next-segment = c.before.before.before in
-    compared-more start.args.dictionary.now start.args.last turn.loop.first turn.loop.invariant _ (rw c.before.end.given.1 at after-next-segment.next-segment.ensures)
+    compared_more start.args.dictionary.now start.args.last turn.loop.first turn.loop.invariant _ (rw c.before.end.given.1 at after-next-segment.next_segment.ensures)
 
 -- src/lib.rt:77:1
 returns-2 : tie.Need-returns-2 invariant-loop decreases-loop
-returns-2 c = compared-all c.before.before.before.args.dictionary.now c.before.before.before.args.last c.before.loop.first c.before.loop.invariant c.loop-test.false
+returns-2 c = compared_all c.before.before.before.args.dictionary.now c.before.before.before.args.last c.before.loop.first c.before.loop.invariant c.loop-test.false
 
 pub are-distinct-spec : {M : Type 1} → statement M
 are-distinct-spec =

@@ -1,5 +1,5 @@
 use Rattle.dictionary_index.proofs.Indexing.{index-within}
-use Rattle.dictionary_distinct.proofs.Apartness.{behind-segment, segment-repeats, segment-apart}
+use Rattle.dictionary_distinct.proofs.Apartness.{behind_segment, segment_repeats, segment_apart}
 use borrow.Author.Rules.{rules}
 use Rattle.dictionary_distinct.proofs.next_segment.Statement.{statement}
 use Rattle.dictionary_distinct.proofs.next_segment.Tie as tie
@@ -30,21 +30,21 @@ are-repeated-requires : tie.Need-are-repeated-requires
 are-repeated-requires c κs =
     let start = c.before.before.before.before.before.before in
     let after-index-segment = c.before.before in
-    (index-within after-index-segment.index-segment.new.0 start.args.dictionary.now start.args.first after-index-segment.index-segment.result.count after-index-segment.index-segment.ensures.index, behind-segment after-index-segment.index-segment.new.0 start.args.dictionary.now start.args.first start.args.last start.requires.0 start.requires.1 after-index-segment.index-segment.result after-index-segment.index-segment.ensures)
+    (index-within after-index-segment.index-segment.new.0 start.args.dictionary.now start.args.first after-index-segment.index-segment.result.count after-index-segment.index-segment.ensures.index, behind_segment after-index-segment.index-segment.new.0 start.args.dictionary.now start.args.first start.args.last start.requires.0 start.requires.1 after-index-segment.index-segment.result after-index-segment.index-segment.ensures)
 
 -- src/lib.rt:71:9
 returns : tie.Need-returns
 returns c =
     let start = c.before.before.before.before.before.before.before.before in
     let after-index-segment = c.before.before.before.before in
-    segment-repeats after-index-segment.index-segment.new.0 start.args.dictionary.now start.args.first start.args.last start.requires.0 start.requires.1 after-index-segment.index-segment.result after-index-segment.index-segment.ensures (rw c.if1.true at (c.before.are-repeated.ensures after-index-segment.index-segment.result.count after-index-segment.index-segment.ensures.index))
+    segment_repeats after-index-segment.index-segment.new.0 start.args.dictionary.now start.args.first start.args.last start.requires.0 start.requires.1 after-index-segment.index-segment.result after-index-segment.index-segment.ensures (rw c.if1.true at (c.before.are-repeated.ensures after-index-segment.index-segment.result.count after-index-segment.index-segment.ensures.index))
 
 -- src/lib.rt:63:1
 returns-2 : tie.Need-returns-2
 returns-2 c =
     let start = c.before.before.before.before.before.before.before.before in
     let after-index-segment = c.before.before.before.before in
-    segment-apart after-index-segment.index-segment.new.0 start.args.dictionary.now start.args.first start.args.last start.requires.0 start.requires.1 after-index-segment.index-segment.result after-index-segment.index-segment.ensures (rw c.if1.false at (c.before.are-repeated.ensures after-index-segment.index-segment.result.count after-index-segment.index-segment.ensures.index))
+    segment_apart after-index-segment.index-segment.new.0 start.args.dictionary.now start.args.first start.args.last start.requires.0 start.requires.1 after-index-segment.index-segment.result after-index-segment.index-segment.ensures (rw c.if1.false at (c.before.are-repeated.ensures after-index-segment.index-segment.result.count after-index-segment.index-segment.ensures.index))
 
 pub next-segment-spec : {M : Type 1} → statement M
 next-segment-spec =

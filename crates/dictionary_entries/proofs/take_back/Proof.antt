@@ -3,7 +3,7 @@ use mathlib.Core.Path.{◌≡◌, refl, sym, ◌∙◌}
 use borrow.Author.Rules.{rules}
 use lib.ListN.{length, replicate, length-set}
 use lib.Seq.{sets}
-use Rattle.dictionary_entries.proofs.Writing.{zeros-more, zeros-end, held-less}
+use Rattle.dictionary_entries.proofs.Writing.{zeros_more, zeros_end, held-less}
 use Rattle.dictionary_entries.proofs.take_back.Statement.{statement}
 use Rattle.dictionary_entries.proofs.take_back.Tie as tie
 use Rattle.dictionary_entries.proofs.take_back.Reads as reads
@@ -33,7 +33,7 @@ loop-less c = search rules
 
 -- src/lib.rt:50:5
 loop-again : tie.Need-loop-preserved invariant-loop decreases-loop
-loop-again c = (simp length-set c.before.loop.invariant.0, zeros-more c.before.loop.dictionary c.before.loop.i c.before.before.args.end (search rules) ∙ c.before.loop.invariant.1)
+loop-again c = (simp length-set c.before.loop.invariant.0, zeros_more c.before.loop.dictionary c.before.loop.i c.before.before.args.end (search rules) ∙ c.before.loop.invariant.1)
 
 -- src/lib.rt:45:1
 same_length : tie.Need-same-length invariant-loop decreases-loop
@@ -41,7 +41,7 @@ same_length c = search rules
 
 -- src/lib.rt:45:1
 returns : tie.Need-returns invariant-loop decreases-loop
-returns c = λ ds fs H p. rw (sym c.before.loop.invariant.1 ∙ zeros-end c.before.loop.dictionary c.before.loop.i c.before.before.args.end (search rules)) at (held-less c.before.before.args.dictionary.now c.before.before.args.end c.before.before.args.from ds fs H p)
+returns c = λ ds fs H p. rw (sym c.before.loop.invariant.1 ∙ zeros_end c.before.loop.dictionary c.before.loop.i c.before.before.args.end (search rules)) at (held-less c.before.before.args.dictionary.now c.before.before.args.end c.before.before.args.from ds fs H p)
 
 pub take-back-spec : {M : Type 1} → statement M
 take-back-spec =

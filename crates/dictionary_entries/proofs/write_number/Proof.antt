@@ -5,15 +5,15 @@ use native.Mathlib.Omega.{arith}
 use borrow.Author.Rules.{rules}
 use lib.ListN.{length, length-set}
 use lib.Seq.{sets}
-use Rattle.spec_ntriples.specs.Dictionary.{numberBytes}
-use Rattle.dictionary_entries.proofs.Writing.{number_more, number-end}
+use Rattle.spec_ntriples.specs.Dictionary.{number_bytes}
+use Rattle.dictionary_entries.proofs.Writing.{number_more, number_end}
 use Rattle.dictionary_entries.proofs.write_number.Statement.{statement}
 use Rattle.dictionary_entries.proofs.write_number.Tie as tie
 use Rattle.dictionary_entries.proofs.write_number.Reads as reads
 use Rattle.dictionary_entries.proofs.write_number.Lts as lts
 
 abbrev invariant-loop : tie.invariant-loop
-invariant-loop out₀ at n number rest₀ k₀ out rest k = (k ≤ n) × (length out ≡ length out₀) × (sets out (at + k) (numberBytes (n - k) rest) ≡ sets out₀ at (numberBytes n number))
+invariant-loop out₀ at n number rest₀ k₀ out rest k = (k ≤ n) × (length out ≡ length out₀) × (sets out (at + k) (number_bytes (n - k) rest) ≡ sets out₀ at (number_bytes n number))
 
 abbrev decreases-loop : tie.decreases-loop
 decreases-loop out₀ at n number rest₀ k₀ out rest k = n - k
@@ -52,7 +52,7 @@ same_length c = search rules
 
 -- src/lib.rt:19:1
 returns : tie.Need-returns invariant-loop decreases-loop
-returns c = sym (number-end c.before.loop.out c.before.before.args.at c.before.before.args.n c.before.loop.k c.before.loop.rest (search rules)) ∙ c.before.loop.invariant.2
+returns c = sym (number_end c.before.loop.out c.before.before.args.at c.before.before.args.n c.before.loop.k c.before.loop.rest (search rules)) ∙ c.before.loop.invariant.2
 
 pub write-number-spec : {M : Type 1} → statement M
 write-number-spec =

@@ -4,8 +4,8 @@ use mathlib.Core.Path.{◌≡◌, sym, ◌∙◌}
 use native.Mathlib.Omega.{arith}
 use native.Mathlib.Nat.{add-zero, sub-zero}
 use lib.ListN.{take, drop}
-use Rattle.dictionary_hash.specs.inside.Hashes.{hashFrom}
-use Rattle.dictionary_hash.proofs.Hashing.{hash-more, hash-end}
+use Rattle.dictionary_hash.specs.inside.Hashes.{hash_from}
+use Rattle.dictionary_hash.proofs.Hashing.{hash_more, hash_end}
 use Rattle.dictionary_hash.proofs.hash_from.Statement.{statement}
 use Rattle.dictionary_hash.proofs.hash_from.Tie as tie
 use Rattle.dictionary_hash.proofs.hash_from.Reads as reads
@@ -13,7 +13,7 @@ use Rattle.dictionary_hash.proofs.hash_from.Lts as lts
 use Rattle.dictionary_hash.proofs.hash_on.Reads as hash-on-reads
 
 abbrev invariant-loop : tie.invariant-loop
-invariant-loop before bytes at n h₀ i₀ h i = (i ≤ n) × (h < 4294967296) × (hashFrom before (take n (drop at bytes)) ≡ hashFrom h (take (n - i) (drop (at + i) bytes)))
+invariant-loop before bytes at n h₀ i₀ h i = (i ≤ n) × (h < 4294967296) × (hash_from before (take n (drop at bytes)) ≡ hash_from h (take (n - i) (drop (at + i) bytes)))
 
 abbrev decreases-loop : tie.decreases-loop
 decreases-loop before bytes at n h₀ i₀ h i = n - i
@@ -37,10 +37,10 @@ loop-less : tie.Need-loop-smaller invariant-loop decreases-loop
 loop-less c = search rules
 
 loop-again : tie.Need-loop-preserved invariant-loop decreases-loop
-loop-again c = (omega arith, c.hash-on.ensures.1, c.before.before.before.loop.invariant.2 ∙ hash-more c.before.before.before.before.before.args.bytes.now c.before.before.before.before.before.args.at c.before.before.before.before.before.args.n c.before.before.before.loop.i c.before.before.before.loop.h (search rules) (search rules) ∙ rw c.hash-on.ensures.0)
+loop-again c = (omega arith, c.hash-on.ensures.1, c.before.before.before.loop.invariant.2 ∙ hash_more c.before.before.before.before.before.args.bytes.now c.before.before.before.before.before.args.at c.before.before.before.before.before.args.n c.before.before.before.loop.i c.before.before.before.loop.h (search rules) (search rules) ∙ rw c.hash-on.ensures.0)
 
 returns : tie.Need-returns invariant-loop decreases-loop
-returns c = (sym (c.before.loop.invariant.2 ∙ hash-end c.before.before.before.args.bytes.now c.before.before.before.args.at c.before.before.before.args.n c.before.loop.i c.before.loop.h (search rules)), search rules)
+returns c = (sym (c.before.loop.invariant.2 ∙ hash_end c.before.before.before.args.bytes.now c.before.before.before.args.at c.before.before.before.args.n c.before.loop.i c.before.loop.h (search rules)), search rules)
 
 pub hash-from-spec : {M : Type 1} → statement M
 hash-from-spec =

@@ -2,17 +2,17 @@
 use Rattle.std.specs.Prelude.{ℕ, ◌+◌, ◌*◌, ◌/◌, ◌%◌, List, [], ◌∷◌}
 
 -- The hash of a text with a hash that goes on by a byte.
-unfoldable pub hashOn : ℕ → ℕ → ℕ
-hashOn h b = (h * 16777619 + b) % 4294967296
+unfoldable pub hash_on : ℕ → ℕ → ℕ
+hash_on h b = (h * 16777619 + b) % 4294967296
 
 -- The hash of a text that stands behind one with a hash.
-unfoldable pub hashFrom : ℕ → List ℕ → ℕ
-hashFrom h [] = h
-hashFrom h (b ∷ bs) = hashFrom (hashOn h b) bs
+unfoldable pub hash_from : ℕ → List ℕ → ℕ
+hash_from h [] = h
+hash_from h (b ∷ bs) = hash_from (hash_on h b) bs
 
 -- The hash of a text.
 unfoldable pub hash : List ℕ → ℕ
-hash bs = hashFrom 0 bs
+hash bs = hash_from 0 bs
 
 -- The slot at which the search for a text with a hash begins.
 unfoldable pub slot_of : ℕ → ℕ

@@ -3,9 +3,9 @@ use mathlib.Core.Path.{◌≡◌, refl, sym, ◌∙◌, ap}
 use native.Mathlib.Omega.{arith}
 use borrow.Author.Rules.{rules}
 use lib.ListN.{length, get_or, take, drop}
-use Rattle.dictionary_bytes.proofs.Same.{same-equal, other_differ}
+use Rattle.dictionary_bytes.proofs.Same.{same_equal, other_differ}
 use Rattle.dictionary_index.specs.inside.Index.{Passed, FoundAt, FreeAt}
-use Rattle.dictionary_index.proofs.Searching.{passed_none, passed-more, passed-all}
+use Rattle.dictionary_index.proofs.Searching.{passed_none, passed_more, passed-all}
 use Rattle.dictionary_index.proofs.find_text.Statement.{statement}
 use Rattle.dictionary_index.proofs.find_text.Tie as tie
 use Rattle.dictionary_index.proofs.find_text.Reads as reads
@@ -52,7 +52,7 @@ has-text-requires c κs = (c.before.before.before.before.before.before.before.re
 
 -- src/lib.rt:44:13
 returns-2 : tie.Need-returns-2 invariant-loop decreases-loop
-returns-2 c = record { slot = c.before.before.before.before.before.loop.s; from = c.before.before.before.before.before.loop.invariant.0; taken = omega (arith, c.before.before.if1.false); leads = refl; same = same-equal _ _ (sym c.before.has-text.ensures ∙ c.if2.true) }
+returns-2 c = record { slot = c.before.before.before.before.before.loop.s; from = c.before.before.before.before.before.loop.invariant.0; taken = omega (arith, c.before.before.if1.false); leads = refl; same = same_equal _ _ (sym c.before.has-text.ensures ∙ c.if2.true) }
 
 -- src/lib.rt:46:9
 add-s : tie.Need-overflow-add-s invariant-loop decreases-loop
@@ -64,7 +64,7 @@ loop-less c = search rules
 
 -- src/lib.rt:37:5
 loop-again : tie.Need-loop-preserved invariant-loop decreases-loop
-loop-again c = (omega arith, passed-more c.before.before.before.before.before.before.before.before.before.args.slots.now c.before.before.before.before.before.before.before.before.before.args.dictionary.now c.before.before.before.before.before.before.before.before.before.args.first (take c.before.before.before.before.before.before.before.before.before.args.n (drop c.before.before.before.before.before.before.before.before.before.args.from c.before.before.before.before.before.before.before.before.before.args.bytes.now)) c.before.before.before.before.before.before.before.before.before.args.home c.before.before.before.before.before.loop.s c.before.before.before.before.before.loop.invariant.1 (omega (arith, c.before.before.if1.false)) (other_differ _ _ (sym c.before.has-text.ensures ∙ c.if2.false)))
+loop-again c = (omega arith, passed_more c.before.before.before.before.before.before.before.before.before.args.slots.now c.before.before.before.before.before.before.before.before.before.args.dictionary.now c.before.before.before.before.before.before.before.before.before.args.first (take c.before.before.before.before.before.before.before.before.before.args.n (drop c.before.before.before.before.before.before.before.before.before.args.from c.before.before.before.before.before.before.before.before.before.args.bytes.now)) c.before.before.before.before.before.before.before.before.before.args.home c.before.before.before.before.before.loop.s c.before.before.before.before.before.loop.invariant.1 (omega (arith, c.before.before.if1.false)) (other_differ _ _ (sym c.before.has-text.ensures ∙ c.if2.false)))
 
 -- src/lib.rt:23:1
 returns-3 : tie.Need-returns-3 invariant-loop decreases-loop

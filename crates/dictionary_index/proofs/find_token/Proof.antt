@@ -4,14 +4,14 @@ use mathlib.Core.List.{List}
 use native.Mathlib.Omega.{arith}
 use borrow.Author.Rules.{rules}
 use lib.ListN.{length, get_or, take, drop}
-use Rattle.spec_ntriples.specs.Texts.{Text, isSameText}
+use Rattle.spec_ntriples.specs.Texts.{Text, is_same_text}
 use Rattle.ntriples_bytes.specs.inside.Places.{HasText}
-use Rattle.dictionary_bytes.specs.inside.Entries.{lengthAt, textAt, placeAt}
-use Rattle.dictionary_bytes.proofs.Same.{same-equal, other_differ}
+use Rattle.dictionary_bytes.specs.inside.Entries.{length_at, text_at, place_at}
+use Rattle.dictionary_bytes.proofs.Same.{same_equal, other_differ}
 use Rattle.dictionary_index.specs.inside.Index.{Passed, FoundAt, FreeAt, Index, EnteredAt}
-use Rattle.dictionary_index.proofs.Searching.{passed_none, passed-more, passed-all}
-use Rattle.dictionary_index.proofs.Indexing.{entry-within, first-before}
-use Rattle.dictionary_index.proofs.Segments.{Segmented, segment-none, segment-next, segment-more, segment-known, segment-full, segment-end, segment-limit, count-below}
+use Rattle.dictionary_index.proofs.Searching.{passed_none, passed_more, passed-all}
+use Rattle.dictionary_index.proofs.Indexing.{entry-within, first_before}
+use Rattle.dictionary_index.proofs.Segments.{Segmented, segment_none, segment-next, segment-more, segment-known, segment-full, segment_end, segment_limit, count_below}
 use Rattle.dictionary_index.proofs.find_token.Statement.{statement}
 use Rattle.dictionary_index.proofs.find_token.Tie as tie
 use Rattle.dictionary_index.proofs.find_token.Reads as reads
@@ -58,7 +58,7 @@ has-token-requires c κs = (c.before.before.before.before.before.before.before.r
 
 -- src/lib.rt:126:13
 returns-2 : tie.Need-returns-2 invariant-loop decreases-loop
-returns-2 c = λ t H. record { slot = c.before.before.before.before.before.loop.s; from = c.before.before.before.before.before.loop.invariant.0; taken = omega (arith, c.before.before.if1.false); leads = refl; same = sym (same-equal _ _ (sym (c.before.has-token.ensures t H) ∙ c.if2.true)) }
+returns-2 c = λ t H. record { slot = c.before.before.before.before.before.loop.s; from = c.before.before.before.before.before.loop.invariant.0; taken = omega (arith, c.before.before.if1.false); leads = refl; same = sym (same_equal _ _ (sym (c.before.has-token.ensures t H) ∙ c.if2.true)) }
 
 -- src/lib.rt:128:9
 add-s : tie.Need-overflow-add-s invariant-loop decreases-loop
@@ -70,7 +70,7 @@ loop-less c = search rules
 
 -- src/lib.rt:119:5
 loop-again : tie.Need-loop-preserved invariant-loop decreases-loop
-loop-again c = (omega arith, λ t H. passed-more c.before.before.before.before.before.before.before.before.before.args.slots.now c.before.before.before.before.before.before.before.before.before.args.dictionary.now c.before.before.before.before.before.before.before.before.before.args.first t.bytes c.before.before.before.before.before.before.before.before.before.args.home c.before.before.before.before.before.loop.s (c.before.before.before.before.before.loop.invariant.1 t H) (omega (arith, c.before.before.if1.false)) (λ e. other_differ _ _ (sym (c.before.has-token.ensures t H) ∙ c.if2.false) (sym e)))
+loop-again c = (omega arith, λ t H. passed_more c.before.before.before.before.before.before.before.before.before.args.slots.now c.before.before.before.before.before.before.before.before.before.args.dictionary.now c.before.before.before.before.before.before.before.before.before.args.first t.bytes c.before.before.before.before.before.before.before.before.before.args.home c.before.before.before.before.before.loop.s (c.before.before.before.before.before.loop.invariant.1 t H) (omega (arith, c.before.before.if1.false)) (λ e. other_differ _ _ (sym (c.before.has-token.ensures t H) ∙ c.if2.false) (sym e)))
 
 -- src/lib.rt:105:1
 returns-3 : tie.Need-returns-3 invariant-loop decreases-loop

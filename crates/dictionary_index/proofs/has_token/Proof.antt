@@ -4,14 +4,14 @@ use mathlib.Core.List.{List}
 use native.Mathlib.Omega.{arith}
 use borrow.Author.Rules.{rules}
 use lib.ListN.{length, get_or, take, drop}
-use Rattle.spec_ntriples.specs.Texts.{Text, isSameText}
+use Rattle.spec_ntriples.specs.Texts.{Text, is_same_text}
 use Rattle.ntriples_bytes.specs.inside.Places.{HasText}
-use Rattle.dictionary_bytes.specs.inside.Entries.{lengthAt, textAt, placeAt}
-use Rattle.dictionary_bytes.proofs.Same.{same-equal, other_differ}
+use Rattle.dictionary_bytes.specs.inside.Entries.{length_at, text_at, place_at}
+use Rattle.dictionary_bytes.proofs.Same.{same_equal, other_differ}
 use Rattle.dictionary_index.specs.inside.Index.{Passed, FoundAt, FreeAt, Index, EnteredAt}
-use Rattle.dictionary_index.proofs.Searching.{passed_none, passed-more, passed-all}
-use Rattle.dictionary_index.proofs.Indexing.{entry-within, first-before}
-use Rattle.dictionary_index.proofs.Segments.{Segmented, segment-none, segment-next, segment-more, segment-known, segment-full, segment-end, segment-limit, count-below}
+use Rattle.dictionary_index.proofs.Searching.{passed_none, passed_more, passed-all}
+use Rattle.dictionary_index.proofs.Indexing.{entry-within, first_before}
+use Rattle.dictionary_index.proofs.Segments.{Segmented, segment_none, segment-next, segment-more, segment-known, segment-full, segment_end, segment_limit, count_below}
 use Rattle.dictionary_index.proofs.has_token.Statement.{statement}
 use Rattle.dictionary_index.proofs.has_token.Tie as tie
 use Rattle.dictionary_index.proofs.has_token.Reads as reads
@@ -33,7 +33,7 @@ is-text-requires c κs = search rules
 
 -- src/lib.rt:95:1
 returns : tie.Need-returns
-unfolding textAt
+unfolding text_at
 returns c = λ t H. c.is-text.ensures t H ∙ rw c.before.length_at.ensures
 
 pub has-token-spec : {M : Type 1} → statement M

@@ -4,14 +4,14 @@ use mathlib.Core.List.{List}
 use native.Mathlib.Omega.{arith}
 use borrow.Author.Rules.{rules}
 use lib.ListN.{length, get_or, take, drop}
-use Rattle.spec_ntriples.specs.Texts.{Text, isSameText}
+use Rattle.spec_ntriples.specs.Texts.{Text, is_same_text}
 use Rattle.ntriples_bytes.specs.inside.Places.{HasText}
-use Rattle.dictionary_bytes.specs.inside.Entries.{lengthAt, textAt, placeAt}
-use Rattle.dictionary_bytes.proofs.Same.{same-equal, other_differ}
+use Rattle.dictionary_bytes.specs.inside.Entries.{length_at, text_at, place_at}
+use Rattle.dictionary_bytes.proofs.Same.{same_equal, other_differ}
 use Rattle.dictionary_index.specs.inside.Index.{Passed, FoundAt, FreeAt, Index, EnteredAt}
-use Rattle.dictionary_index.proofs.Searching.{passed_none, passed-more, passed-all}
-use Rattle.dictionary_index.proofs.Indexing.{entry-within, first-before}
-use Rattle.dictionary_index.proofs.Segments.{Segmented, segment-none, segment-next, segment-more, segment-known, segment-full, segment-end, segment-limit, count-below}
+use Rattle.dictionary_index.proofs.Searching.{passed_none, passed_more, passed-all}
+use Rattle.dictionary_index.proofs.Indexing.{entry-within, first_before}
+use Rattle.dictionary_index.proofs.Segments.{Segmented, segment_none, segment-next, segment-more, segment-known, segment-full, segment_end, segment_limit, count_below}
 use Rattle.dictionary_index.proofs.index_segment.Statement.{statement}
 use Rattle.dictionary_index.proofs.index_segment.Tie as tie
 use Rattle.dictionary_index.proofs.index_segment.Reads as reads
@@ -27,11 +27,11 @@ decreases-loop slots₀ dictionary first last at₀ count₀ slots at count = la
 
 -- src/lib.rt:142:5
 loop-holds : tie.Need-loop-init invariant-loop decreases-loop
-loop-holds c = segment-none c.before.before.args.slots.now c.before.before.args.dictionary.now c.before.before.args.first c.before.before.args.last c.before.before.requires.0 c.before.before.requires.1.1
+loop-holds c = segment_none c.before.before.args.slots.now c.before.before.args.dictionary.now c.before.before.args.first c.before.before.args.last c.before.before.requires.0 c.before.before.requires.1.1
 
 -- src/lib.rt:143:50
 sub-if1 : tie.Need-overflow-sub-if1 invariant-loop decreases-loop
-sub-if1 c = omega (arith, first-before c.before.before.before.before.args.dictionary.now c.before.before.before.before.args.first c.before.loop.count, c.before.loop.invariant.place)
+sub-if1 c = omega (arith, first_before c.before.before.before.before.args.dictionary.now c.before.before.before.before.args.first c.before.loop.count, c.before.loop.invariant.place)
 
 -- src/lib.rt:146:15
 enter-requires : tie.Need-enter-requires invariant-loop decreases-loop
@@ -55,7 +55,7 @@ add-at-2 c = omega (arith, entry-within c.before.before.before.before.before.bef
 
 -- src/lib.rt:149:17
 add-count : tie.Need-overflow-add-count invariant-loop decreases-loop
-add-count c = omega (arith, count-below c.before.before.before.before.before.before.before.before.before.before.before.before.args.dictionary.now c.before.before.before.before.before.before.before.before.before.before.before.before.args.first c.before.before.before.before.before.before.before.before.before.loop.count, c.before.before.before.before.before.before.before.before.before.loop.invariant.place)
+add-count c = omega (arith, count_below c.before.before.before.before.before.before.before.before.before.before.before.before.args.dictionary.now c.before.before.before.before.before.before.before.before.before.before.before.before.args.first c.before.before.before.before.before.before.before.before.before.loop.count, c.before.before.before.before.before.before.before.before.before.loop.invariant.place)
 
 -- src/lib.rt:142:5
 loop-less : tie.Need-loop-smaller invariant-loop decreases-loop
@@ -87,7 +87,7 @@ same-length-2 c = search rules
 
 -- src/lib.rt:134:1
 returns-2 : tie.Need-returns-2 invariant-loop decreases-loop
-returns-2 c = segment-end c.before.before.before.before.args.slots.now c.before.loop.slots c.before.before.before.before.args.dictionary.now c.before.before.before.before.args.first c.before.before.before.before.args.last c.before.loop.at c.before.loop.count c.before.before.before.before.requires.1.1 c.before.loop.invariant (search rules)
+returns-2 c = segment_end c.before.before.before.before.args.slots.now c.before.loop.slots c.before.before.before.before.args.dictionary.now c.before.before.before.before.args.first c.before.before.before.before.args.last c.before.loop.at c.before.loop.count c.before.before.before.before.requires.1.1 c.before.loop.invariant (search rules)
 
 -- src/lib.rt:134:1
 same-length-3 : tie.Need-same-length-3 invariant-loop decreases-loop
@@ -95,7 +95,7 @@ same-length-3 c = search rules
 
 -- src/lib.rt:134:1
 returns-3 : tie.Need-returns-3 invariant-loop decreases-loop
-returns-3 c = segment-limit c.before.before.before.before.before.args.slots.now c.before.before.loop.slots c.before.before.before.before.before.args.dictionary.now c.before.before.before.before.before.args.first c.before.before.before.before.before.args.last c.before.before.loop.at c.before.before.loop.count c.before.before.before.before.before.requires.1.1 c.before.before.loop.invariant c.if1.true
+returns-3 c = segment_limit c.before.before.before.before.before.args.slots.now c.before.before.loop.slots c.before.before.before.before.before.args.dictionary.now c.before.before.before.before.before.args.first c.before.before.before.before.before.args.last c.before.before.loop.at c.before.before.loop.count c.before.before.before.before.before.requires.1.1 c.before.before.loop.invariant c.if1.true
 
 -- src/lib.rt:134:1
 same-length-4 : tie.Need-same-length-4 invariant-loop decreases-loop

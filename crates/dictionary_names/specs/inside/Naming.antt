@@ -1,7 +1,7 @@
 -- A text that gets its term in the last segment of a dictionary. Definitions only.
 use Rattle.std.specs.Prelude.{ℕ, ◌+◌, ◌-◌, ◌^◌, ◌≤◌, ◌<◌, ◌≡◌, ◌⊎◌, List, [], ◌∷◌, ◌++◌, length}
 use Rattle.spec_ntriples.specs.Texts.{Text}
-use Rattle.spec_ntriples.specs.Dictionary.{Entry, entry, bytesOfEntries, termIn, nextNumber, nextTerm}
+use Rattle.spec_ntriples.specs.Dictionary.{Entry, entry, bytes_of_entries, term_in, next_number, next_term}
 use Rattle.ntriples_bytes.specs.inside.Places.{HasText}
 use Rattle.dictionary_bytes.specs.declared.Filled.{Filled}
 use Rattle.dictionary_bytes.specs.inside.Entries.{FilledBy}
@@ -15,7 +15,7 @@ use Rattle.dictionary_search.specs.inside.IndexOf.{IndexOf}
 -- slots are their index.
 pub record LastSegment (slots bs : List ℕ) (first count : ℕ) (f : Filled) (ds es : List Entry) : Type 0 where
   pub filled : FilledBy bs f (ds ++ es)
-  pub starts : first ≡ length (bytesOfEntries ds)
+  pub starts : first ≡ length (bytes_of_entries ds)
   pub counts : count ≡ length es
   pub index : IndexOf slots bs first es
 
@@ -41,14 +41,14 @@ pub record CanAdd (slots bs : List ℕ) (first slot : ℕ) (line : List ℕ) (fr
 
 -- A text has no space in a dictionary of len bytes: its entry would go past the end, or its kind has no number left.
 abbrev pub HasNoSpace : ℕ → List Entry → Text → Type 0
-HasNoSpace len es t = (len < length (bytesOfEntries es) + 12 + length t.bytes) ⊎ (nextNumber t.kind es ≡ 2 ^ 30)
+HasNoSpace len es t = (len < length (bytes_of_entries es) + 12 + length t.bytes) ⊎ (next_number t.kind es ≡ 2 ^ 30)
 
 -- What naming a text did in the last segment: an entry of the segment has it; or it was new and has the next term of its kind, in an entry
 -- behind the others, to which the index leads too; or it is in no entry of the segment and nothing changed: a new segment has to begin, or
 -- the text has no space.
 abbrev pub NamedIn : (slots after bs cs : List ℕ) (first count : ℕ) (ds es : List Entry) (t : Text) → Named → Type 0
-NamedIn slots after bs cs first count ds es t (Known w) = (w ≡ termIn es t.bytes) × (0 < w) × (after ≡ slots) × (cs ≡ bs)
+NamedIn slots after bs cs first count ds es t (Known w) = (w ≡ term_in es t.bytes) × (0 < w) × (after ≡ slots) × (cs ≡ bs)
 NamedIn slots after bs cs first count ds es t (New w f) =
-    (termIn es t.bytes ≡ 0) × (w ≡ nextTerm t.kind (ds ++ es)) × LastSegment after cs first (count + 1) f ds (es ++ (entry w t.bytes ∷ []))
-NamedIn slots after bs cs first count ds es t Full = (termIn es t.bytes ≡ 0) × (0 < length es) × (after ≡ slots) × (cs ≡ bs)
-NamedIn slots after bs cs first count ds es t NoSpace = (termIn es t.bytes ≡ 0) × HasNoSpace (length bs) (ds ++ es) t × (after ≡ slots) × (cs ≡ bs)
+    (term_in es t.bytes ≡ 0) × (w ≡ next_term t.kind (ds ++ es)) × LastSegment after cs first (count + 1) f ds (es ++ (entry w t.bytes ∷ []))
+NamedIn slots after bs cs first count ds es t Full = (term_in es t.bytes ≡ 0) × (0 < length es) × (after ≡ slots) × (cs ≡ bs)
+NamedIn slots after bs cs first count ds es t NoSpace = (term_in es t.bytes ≡ 0) × HasNoSpace (length bs) (ds ++ es) t × (after ≡ slots) × (cs ≡ bs)

@@ -1,6 +1,6 @@
 -- The next numbers of a filled dictionary, by kind. Definitions only.
 use Rattle.std.specs.Prelude.{ℕ, zero, suc, ◌+◌, ◌≡◌, true, List}
-use Rattle.spec_ntriples.specs.Dictionary.{Entry, nextNumber, areNumbersEnough}
+use Rattle.spec_ntriples.specs.Dictionary.{Entry, next_number, are_numbers_enough}
 use Rattle.dictionary_bytes.specs.declared.Filled.{Filled}
 
 -- The next number of a kind.
@@ -17,7 +17,7 @@ raised f (suc (suc k)) end = record { end = end; uris = f.uris; blanks = f.blank
 
 -- The next numbers are those behind some entries, and no kind has run out of them.
 pub record Counts (f : Filled) (es : List Entry) : Type 0 where
-  pub uris : f.uris ≡ nextNumber 0 es
-  pub blanks : f.blanks ≡ nextNumber 1 es
-  pub literals : f.literals ≡ nextNumber 2 es
-  pub enough : areNumbersEnough es ≡ true
+  pub uris : f.uris ≡ next_number 0 es
+  pub blanks : f.blanks ≡ next_number 1 es
+  pub literals : f.literals ≡ next_number 2 es
+  pub enough : are_numbers_enough es ≡ true

@@ -1,7 +1,7 @@
 use native.Mathlib.Omega.{arith}
 use Rattle.spec.specs.Terms.{kind}
 use Rattle.dictionary_ranks.proofs.Slots.{stride-some}
-use Rattle.dictionary_places.proofs.Keeping.{place_kept, place-left}
+use Rattle.dictionary_places.proofs.Keeping.{place_kept, place_left}
 use borrow.Author.Rules.{rules}
 use Rattle.dictionary_places.proofs.keep_place.Statement.{statement}
 use Rattle.dictionary_places.proofs.keep_place.Tie as tie
@@ -45,7 +45,7 @@ returns c = place_kept c.before.before.before.before.before.args.f c.before.befo
 
 -- src/lib.rt:22:1
 returns-2 : tie.Need-returns-2
-returns-2 c = place-left c.before.before.before.before.args.f c.before.before.before.before.args.places.now c.before.before.before.before.args.term c.before.before.before.before.args.at c.before.before.rank-of.result c.before.stride-of.result c.before.before.rank-of.ensures c.before.stride-of.ensures c.if1.false
+returns-2 c = place_left c.before.before.before.before.args.f c.before.before.before.before.args.places.now c.before.before.before.before.args.term c.before.before.before.before.args.at c.before.before.rank-of.result c.before.stride-of.result c.before.before.rank-of.ensures c.before.stride-of.ensures c.if1.false
 
 pub keep-place-spec : {M : Type 1} → statement M
 keep-place-spec =

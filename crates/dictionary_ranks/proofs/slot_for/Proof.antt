@@ -1,6 +1,6 @@
 use native.Mathlib.Omega.{arith}
 use Rattle.spec.specs.Terms.{kind}
-use Rattle.dictionary_ranks.proofs.Slots.{stride-some, slot-by}
+use Rattle.dictionary_ranks.proofs.Slots.{stride-some, slot_by}
 use borrow.Author.Rules.{rules}
 use Rattle.dictionary_ranks.proofs.slot_for.Statement.{statement}
 use Rattle.dictionary_ranks.proofs.slot_for.Tie as tie
@@ -31,11 +31,11 @@ div-result c = omega (arith, stride-some c.before.before.args.f (kind c.before.b
 
 -- src/lib.rt:86:5
 add-result : tie.Need-overflow-add-result
-add-result c = omega (arith, (slot-by c.before.before.args.f c.before.before.args.term c.before.rank-of.result c.stride-of.result c.before.before.requires c.before.rank-of.ensures c.stride-of.ensures).1)
+add-result c = omega (arith, (slot_by c.before.before.args.f c.before.before.args.term c.before.rank-of.result c.stride-of.result c.before.before.requires c.before.rank-of.ensures c.stride-of.ensures).1)
 
 -- src/lib.rt:81:1
 returns : tie.Need-returns
-returns c = slot-by c.before.before.args.f c.before.before.args.term c.before.rank-of.result c.stride-of.result c.before.before.requires c.before.rank-of.ensures c.stride-of.ensures
+returns c = slot_by c.before.before.args.f c.before.before.args.term c.before.rank-of.result c.stride-of.result c.before.before.requires c.before.rank-of.ensures c.stride-of.ensures
 
 pub slot-for-spec : {M : Type 1} → statement M
 slot-for-spec =

@@ -1,6 +1,6 @@
 use Prim.Native.Nat.{◌-◌}
 use native.Mathlib.Omega.{arith}
-use Rattle.dictionary_repeats.proofs.Repeating.{Passing, passing-none, passing-all, passing-within, passing-more, passing-repeats}
+use Rattle.dictionary_repeats.proofs.Repeating.{Passing, passing_none, passing-all, passing-within, passing-more, passing-repeats}
 use Rattle.dictionary_repeats.proofs.are_repeated.Statement.{statement}
 use Rattle.dictionary_repeats.proofs.are_repeated.Tie as tie
 use Rattle.dictionary_repeats.proofs.are_repeated.Reads as reads
@@ -16,7 +16,7 @@ decreases-loop slots dictionary first from last at₀ at = last - at
 
 -- src/lib.rt:53:5
 loop-holds : tie.Need-loop-init invariant-loop decreases-loop
-loop-holds c = passing-none c.before.before.args.slots.now c.before.before.args.dictionary.now c.before.before.args.first c.before.before.args.from
+loop-holds c = passing_none c.before.before.args.slots.now c.before.before.args.dictionary.now c.before.before.args.first c.before.before.args.from
 
 -- src/lib.rt:54:12
 is-repeated-requires : tie.Need-is-repeated-requires invariant-loop decreases-loop

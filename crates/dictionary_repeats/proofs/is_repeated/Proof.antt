@@ -1,5 +1,5 @@
 use Rattle.dictionary_index.proofs.Indexing.{search-entry}
-use Rattle.dictionary_repeats.proofs.Repeating.{found-repeats, free-none, past-none}
+use Rattle.dictionary_repeats.proofs.Repeating.{found_repeats, free_none, past_none}
 use borrow.Author.Rules.{rules}
 use Rattle.dictionary_repeats.proofs.is_repeated.Statement.{statement}
 use Rattle.dictionary_repeats.proofs.is_repeated.Tie as tie
@@ -50,7 +50,7 @@ returns c =
     let after-hash-from = c.before.before.before.before in
     let after-slot-of = c.before.before.before in
     let after-find-text = c.before.before in
-    λ k X. found-repeats start.args.slots.now start.args.dictionary.now start.args.first k start.args.at X _ (search-entry start.args.slots.now start.args.dictionary.now start.args.first start.args.at after-length-at.length_at.result after-hash-from.hash-from.result after-slot-of.slot_of.result after-find-text.find-text.result _ c.enum_told.given.1 after-length-at.length_at.ensures after-hash-from.hash-from.ensures.0 after-slot-of.slot_of.ensures after-find-text.find-text.ensures)
+    λ k X. found_repeats start.args.slots.now start.args.dictionary.now start.args.first k start.args.at X _ (search-entry start.args.slots.now start.args.dictionary.now start.args.first start.args.at after-length-at.length_at.result after-hash-from.hash-from.result after-slot-of.slot_of.result after-find-text.find-text.result _ c.enum_told.given.1 after-length-at.length_at.ensures after-hash-from.hash-from.ensures.0 after-slot-of.slot_of.ensures after-find-text.find-text.ensures)
 
 -- src/lib.rt:31:1
 returns-2 : tie.Need-returns-2
@@ -60,7 +60,7 @@ returns-2 c =
     let after-hash-from = c.before.before.before.before in
     let after-slot-of = c.before.before.before in
     let after-find-text = c.before.before in
-    λ k X. free-none start.args.slots.now start.args.dictionary.now start.args.first k start.args.at X _ (search-entry start.args.slots.now start.args.dictionary.now start.args.first start.args.at after-length-at.length_at.result after-hash-from.hash-from.result after-slot-of.slot_of.result after-find-text.find-text.result _ c.enum-told2.given.1 after-length-at.length_at.ensures after-hash-from.hash-from.ensures.0 after-slot-of.slot_of.ensures after-find-text.find-text.ensures)
+    λ k X. free_none start.args.slots.now start.args.dictionary.now start.args.first k start.args.at X _ (search-entry start.args.slots.now start.args.dictionary.now start.args.first start.args.at after-length-at.length_at.result after-hash-from.hash-from.result after-slot-of.slot_of.result after-find-text.find-text.result _ c.enum-told2.given.1 after-length-at.length_at.ensures after-hash-from.hash-from.ensures.0 after-slot-of.slot_of.ensures after-find-text.find-text.ensures)
 
 -- src/lib.rt:31:1
 returns-3 : tie.Need-returns-3
@@ -70,7 +70,7 @@ returns-3 c =
     let after-hash-from = c.before.before.before.before in
     let after-slot-of = c.before.before.before in
     let after-find-text = c.before.before in
-    λ k X. past-none start.args.slots.now start.args.dictionary.now start.args.first k start.args.at X (search-entry start.args.slots.now start.args.dictionary.now start.args.first start.args.at after-length-at.length_at.result after-hash-from.hash-from.result after-slot-of.slot_of.result after-find-text.find-text.result _ c.enum-told3.given.1 after-length-at.length_at.ensures after-hash-from.hash-from.ensures.0 after-slot-of.slot_of.ensures after-find-text.find-text.ensures)
+    λ k X. past_none start.args.slots.now start.args.dictionary.now start.args.first k start.args.at X (search-entry start.args.slots.now start.args.dictionary.now start.args.first start.args.at after-length-at.length_at.result after-hash-from.hash-from.result after-slot-of.slot_of.result after-find-text.find-text.result _ c.enum-told3.given.1 after-length-at.length_at.ensures after-hash-from.hash-from.ensures.0 after-slot-of.slot_of.ensures after-find-text.find-text.ensures)
 
 pub is-repeated-spec : {M : Type 1} → statement M
 is-repeated-spec =

@@ -1,6 +1,6 @@
 use Prim.Native.Nat.{◌-◌}
 use borrow.Author.Rules.{rules}
-use Rattle.dictionary_search.proofs.Finding.{search-token}
+use Rattle.dictionary_search.proofs.Finding.{search_token}
 use Rattle.dictionary_search.proofs.search_index.Statement.{statement}
 use Rattle.dictionary_search.proofs.search_index.Tie as tie
 use Rattle.dictionary_search.proofs.search_index.Reads as reads
@@ -23,7 +23,7 @@ find-token-requires c κs = search rules
 
 -- src/lib.rt:42:1
 returns : tie.Need-returns
-returns c = λ t H. search-token c.before.before.before.before.before.before.args.slots.now c.before.before.before.before.before.before.args.dictionary.now c.before.before.before.before.before.before.args.first t.bytes c.before.before.text-hash.result c.before.slot_of.result c.find-token.result (c.before.before.text-hash.ensures.0 t H) c.before.slot_of.ensures (c.find-token.ensures t H)
+returns c = λ t H. search_token c.before.before.before.before.before.before.args.slots.now c.before.before.before.before.before.before.args.dictionary.now c.before.before.before.before.before.before.args.first t.bytes c.before.before.text-hash.result c.before.slot_of.result c.find-token.result (c.before.before.text-hash.ensures.0 t H) c.before.slot_of.ensures (c.find-token.ensures t H)
 
 pub search-index-spec : {M : Type 1} → statement M
 search-index-spec =

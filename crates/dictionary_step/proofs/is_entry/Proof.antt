@@ -1,6 +1,6 @@
 use native.Mathlib.Omega.{arith}
 use Rattle.dictionary_step.proofs.EntriesRead.{no_room}
-use Rattle.dictionary_step.proofs.Asking.{term-comes}
+use Rattle.dictionary_step.proofs.Asking.{term_comes}
 use borrow.Author.Rules.{rules}
 use Rattle.dictionary_step.proofs.is_entry.Statement.{statement}
 use Rattle.dictionary_step.proofs.is_entry.Tie as tie
@@ -19,7 +19,7 @@ term-at-requires c κs = search rules
 
 -- src/lib.rt:72:1
 returns-2 : tie.Need-returns-2
-returns-2 c = term-comes c.before.before.before.args.dictionary.now c.before.before.before.args.at c.term-at.result c.term-at.ensures (search rules)
+returns-2 c = term_comes c.before.before.before.args.dictionary.now c.before.before.before.args.at c.term-at.result c.term-at.ensures (search rules)
 
 pub is-entry-spec : {M : Type 1} → statement M
 is-entry-spec = tie.close (tie.spec sub-if1 returns term-at-requires returns-2)

@@ -3,7 +3,7 @@ use native.Mathlib.Omega.{arith}
 use borrow.Author.Tests.{not-true, not-false}
 use Rattle.spec.proofs.Ascending.{and_left}
 use Rattle.dictionary_step.proofs.Asking.{asked-text, asked-kind, asked-most, asked-number, asked-term, asked-right}
-use Rattle.dictionary_step.proofs.Steps.{too_long}
+use Rattle.dictionary_step.proofs.Steps.{too_long_lem}
 use borrow.Author.Rules.{rules}
 use Rattle.dictionary_step.proofs.next_entry.Statement.{statement}
 use Rattle.dictionary_step.proofs.next_entry.Tie as tie
@@ -22,7 +22,7 @@ sub-if1 c = search rules
 
 -- src/lib.rt:93:9
 returns : tie.Need-returns
-returns c = too_long c.before.before.before.args.dictionary.now c.before.before.before.args.f c.before.before.before.requires.0 c.before.before.before.requires.1 (omega (arith, c.if1.true, c.before.length_at.ensures))
+returns c = too_long_lem c.before.before.before.args.dictionary.now c.before.before.before.args.f c.before.before.before.requires.0 c.before.before.before.requires.1 (omega (arith, c.if1.true, c.before.length_at.ensures))
 
 -- src/lib.rt:95:15
 add-end : tie.Need-overflow-add-end

@@ -3,7 +3,7 @@ use Prim.Native.Nat.{◌-◌}
 use lib.ListN.{length}
 use Rattle.dictionary_step.specs.inside.Filling.{Filling}
 use Rattle.dictionary_step.proofs.Asking.{walk-less}
-use Rattle.dictionary_step.proofs.Steps.{filling-none}
+use Rattle.dictionary_step.proofs.Steps.{filling_none}
 use Rattle.dictionary_walk.proofs.walk.Statement.{statement}
 use Rattle.dictionary_walk.proofs.walk.Tie as tie
 
@@ -15,7 +15,7 @@ decreases-loop dictionary f₀ f = length dictionary - f.end
 
 -- src/lib.rt:120:5
 loop-holds : tie.Need-loop-init invariant-loop decreases-loop
-loop-holds c = filling-none c.before.args.dictionary.now
+loop-holds c = filling_none c.before.args.dictionary.now
 
 -- src/lib.rt:120:11
 is-entry-requires : tie.Need-is-entry-requires invariant-loop decreases-loop

@@ -1,6 +1,6 @@
 -- A dictionary whose entries were all asked. Definitions only.
 use Rattle.std.specs.Prelude.{ℕ, ◌≡◌, false, List, [], drop}
-use Rattle.spec_ntriples.specs.Dictionary.{entries, isDictionary}
+use Rattle.spec_ntriples.specs.Dictionary.{entries, is_dictionary}
 use Rattle.dictionary_bytes.specs.declared.Filled.{Filled}
 use Rattle.dictionary_step.specs.declared.Checked.{Checked}
 use Rattle.dictionary_step.specs.declared.Checked.TheVariants.{Wrong, Right}
@@ -13,5 +13,5 @@ pub record Walked (bs : List ℕ) (f : Filled) : Type 0 where
 
 -- So; or what makes the bytes no dictionary.
 abbrev pub IsWalk : List ℕ → Checked → Type 0
-IsWalk bs Wrong = isDictionary bs ≡ false
+IsWalk bs Wrong = is_dictionary bs ≡ false
 IsWalk bs (Right f) = Walked bs f

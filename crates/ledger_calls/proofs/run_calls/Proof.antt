@@ -16,7 +16,7 @@ abbrev decreases-loop : tie.decreases-loop
 decreases-loop statements₀ facts₀ kept₀ supports₀ words bytes replies₀ left₀ at₀ to₀ statements facts kept supports replies left at to = left
 
 loop-holds : tie.Need-loop-init invariant-loop decreases-loop
-loop-holds c = (going_start _ _ _ _ c.before.before.before.before.before.before.before.requires, record { same-statements = refl; same-facts = refl; same_kept = refl; same-supports = refl }, refl)
+loop-holds c = (going_start _ _ _ _ c.before.before.before.before.before.before.before.requires, record { same_statements = refl; same_facts = refl; same_kept = refl; same_supports = refl }, refl)
 
 mul-run-call : tie.Need-overflow-mul-run-call invariant-loop decreases-loop
 mul-run-call c = search rules
@@ -70,7 +70,7 @@ loop-less : tie.Need-loop-smaller invariant-loop decreases-loop
 loop-less c = search rules
 
 loop-again : tie.Need-loop-preserved invariant-loop decreases-loop
-loop-again c = (going_more c.before.before.before.before.before.before.before.before.before.before.before.before.before.before.before.before.before.before.before.before.before.before.loop.left c.before.before.before.before.before.before.before.before.before.before.before.before.before.before.before.before.before.before.before.before.before.before.loop.invariant.0 c.before.before.before.before.before.before.before.before.before.before.before.before.before.before.before.before.before.before.before.before.before.loop-test.true c.before.before.before.before.before.before.before.before.before.before.before.before.run_call.ensures c.before.before.write-reply.ensures, record { same-statements = search rules; same-facts = search rules; same_kept = search rules; same-supports = search rules }, search rules)
+loop-again c = (going_more c.before.before.before.before.before.before.before.before.before.before.before.before.before.before.before.before.before.before.before.before.before.before.loop.left c.before.before.before.before.before.before.before.before.before.before.before.before.before.before.before.before.before.before.before.before.before.before.loop.invariant.0 c.before.before.before.before.before.before.before.before.before.before.before.before.before.before.before.before.before.before.before.before.before.loop-test.true c.before.before.before.before.before.before.before.before.before.before.before.before.run_call.ensures c.before.before.write-reply.ensures, record { same_statements = search rules; same_facts = search rules; same_kept = search rules; same_supports = search rules }, search rules)
 
 same_length : tie.Need-same-length invariant-loop decreases-loop
 same_length c = search rules

@@ -1,7 +1,7 @@
 -- Five stores, one after the other. Assumes nothing.
 use native.Mathlib.Omega.{arith}
 use lib.ListN.{length-set}
-use Rattle.ledger_calls.proofs.Running.{five-stored}
+use Rattle.ledger_calls.proofs.Running.{five_stored}
 use borrow.Author.Rules.{rules}
 use Rattle.ledger_calls.proofs.write_reply.Statement.{statement}
 use Rattle.ledger_calls.proofs.write_reply.Tie as tie
@@ -67,7 +67,7 @@ same_length : tie.Need-same-length
 same_length c = search rules
 
 returns : tie.Need-returns
-returns c = five-stored c.args.t1 c.args.replies.now c.args.at (search rules)
+returns c = five_stored c.args.t1 c.args.replies.now c.args.at (search rules)
 
 pub write-reply-spec : {M : Type 1} → statement M
 write-reply-spec =

@@ -1,7 +1,7 @@
 -- `list_facts` lists a table that `is_fact_table` judges.
 use mathlib.Core.Path.{sym, ◌∙◌}
 use borrow.Author.Rules.{rules}
-use Rattle.spec.proofs.TableFormed.{isTable-wellFormed}
+use Rattle.spec.proofs.TableFormed.{is_table_well_formed}
 use Rattle.listing.proofs.Replies.{listable}
 use Rattle.listing.proofs.list_facts.Statement.{statement}
 use Rattle.listing.proofs.list_facts.Tie as tie
@@ -10,7 +10,7 @@ is-fact-table-requires : tie.Need-is-fact-table-requires
 is-fact-table-requires c κs = search rules
 
 list-rows-requires : tie.Need-list-rows-requires
-list-rows-requires c κs = λ e. listable (isTable-wellFormed _ _ _ (sym c.before.is-fact-table.ensures ∙ e))
+list-rows-requires c κs = λ e. listable (is_table_well_formed _ _ _ (sym c.before.is-fact-table.ensures ∙ e))
 
 same_length : tie.Need-same-length
 same_length c = search rules

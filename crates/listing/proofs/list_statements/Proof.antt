@@ -1,7 +1,7 @@
 -- `list_statements` lists a table that `is_statement_table` judges.
 use mathlib.Core.Path.{sym, ◌∙◌}
 use borrow.Author.Rules.{rules}
-use Rattle.spec.proofs.TableFormed.{isTable-wellFormed}
+use Rattle.spec.proofs.TableFormed.{is_table_well_formed}
 use Rattle.listing.proofs.Replies.{listable}
 use Rattle.listing.proofs.list_statements.Statement.{statement}
 use Rattle.listing.proofs.list_statements.Tie as tie
@@ -10,7 +10,7 @@ is-statement-table-requires : tie.Need-is-statement-table-requires
 is-statement-table-requires c κs = search rules
 
 list-rows-requires : tie.Need-list-rows-requires
-list-rows-requires c κs = λ e. listable (isTable-wellFormed _ _ _ (sym c.before.is-statement-table.ensures ∙ e))
+list-rows-requires c κs = λ e. listable (is_table_well_formed _ _ _ (sym c.before.is-statement-table.ensures ∙ e))
 
 same_length : tie.Need-same-length
 same_length c = search rules

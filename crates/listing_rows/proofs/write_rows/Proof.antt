@@ -5,7 +5,7 @@ use native.Mathlib.Omega.{arith}
 use lib.ListN.{length}
 use borrow.Author.Rules.{rules}
 use Rattle.listing_rows.specs.inside.Written.{RowsWritten}
-use Rattle.listing_rows.proofs.Writing.{none_written, more-written, written-whole}
+use Rattle.listing_rows.proofs.Writing.{none_written, more-written, written_whole}
 use Rattle.listing_rows.proofs.write_rows.Statement.{statement}
 use Rattle.listing_rows.proofs.write_rows.Tie as tie
 
@@ -37,7 +37,7 @@ same_length : tie.Need-same-length invariant-loop decreases-loop
 same_length c = search rules
 
 returns : tie.Need-returns invariant-loop decreases-loop
-returns c = written-whole _ _ _ _ _ _ c.before.loop.invariant.2 (omega arith)
+returns c = written_whole _ _ _ _ _ _ c.before.loop.invariant.2 (omega arith)
 
 pub write-rows-spec : {M : Type 1} → statement M
 write-rows-spec =

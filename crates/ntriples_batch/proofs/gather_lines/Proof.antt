@@ -6,7 +6,7 @@ use mathlib.Core.List.{List}
 use lib.ListN.{length, drop, length-set}
 use Rattle.spec_ntriples.specs.Texts.{TextTriple}
 use Rattle.spec_ntriples.specs.computed.Lines.{triples, document}
-use Rattle.ntriples_batch.proofs.Gathering.{lines_left, places-left, nothing_left, Gathering, none-gathered, no-triple, one-triple, went_on, all-gathered}
+use Rattle.ntriples_batch.proofs.Gathering.{lines_left, places_left, nothing_left, Gathering, none-gathered, no_triple_lem, one_triple, went_on, all-gathered}
 use Rattle.ntriples_document.proofs.Counting.{end-within}
 use Rattle.ntriples_batch.proofs.gather_lines.Statement.{statement}
 use Rattle.ntriples_batch.proofs.gather_lines.Tie as tie
@@ -44,7 +44,7 @@ part-has-triple-start c = search rules
 
 -- src/lib.rt:48:23
 part-has-triple-end : tie.Need-slice-bounds-has-triple-end invariant-loop decreases-loop
-part-has-triple-end c = omega (arith, end-within c.before.before.before.before.before.before.args.file.now c.before.before.before.loop.at c.before.before.before.loop.invariant.1, c.before.line-end.ensures)
+part-has-triple-end c = omega (arith, end-within c.before.before.before.before.before.before.args.file.now c.before.before.before.loop.at c.before.before.before.loop.invariant.1, c.before.line_end.ensures)
 
 -- src/lib.rt:48:12
 has-triple-requires : tie.Need-has-triple-requires invariant-loop decreases-loop
@@ -56,7 +56,7 @@ mul-lines c = search rules
 
 -- src/lib.rt:49:13
 slice-write-lines : tie.Need-slice-write-lines invariant-loop decreases-loop
-slice-write-lines c = (places-left c.before.before.before.before.before.before.loop.at (length c.before.before.before.before.before.before.before.before.before.args.file.now) c.before.before.before.before.before.before.loop.count (length c.before.before.before.before.before.before.loop.lines) c.before.before.before.before.before.loop-test.true)
+slice-write-lines c = (places_left c.before.before.before.before.before.before.loop.at (length c.before.before.before.before.before.before.before.before.before.args.file.now) c.before.before.before.before.before.before.loop.count (length c.before.before.before.before.before.before.loop.lines) c.before.before.before.before.before.loop-test.true)
 
 -- src/lib.rt:50:13
 add-count : tie.Need-overflow-add-count invariant-loop decreases-loop
@@ -64,19 +64,19 @@ add-count c = search rules
 
 -- src/lib.rt:44:5
 loop-less : tie.Need-loop-smaller invariant-loop decreases-loop
-loop-less c = omega (arith, c.before.before.before.next-line.ensures.after c.before.before.before.before.before.before.loop.at (omega (arith, c.before.before.before.before.line-end.ensures)) (lines_left c.before.before.before.before.before.before.loop.at (length c.before.before.before.before.before.before.before.before.before.args.file.now) c.before.before.before.before.before.before.loop.count (length c.before.before.before.before.before.before.loop.lines) c.before.before.before.before.before.loop-test.true), (lines_left c.before.before.before.before.before.before.loop.at (length c.before.before.before.before.before.before.before.before.before.args.file.now) c.before.before.before.before.before.before.loop.count (length c.before.before.before.before.before.before.loop.lines) c.before.before.before.before.before.loop-test.true))
+loop-less c = omega (arith, c.before.before.before.next-line.ensures.after c.before.before.before.before.before.before.loop.at (omega (arith, c.before.before.before.before.line_end.ensures)) (lines_left c.before.before.before.before.before.before.loop.at (length c.before.before.before.before.before.before.before.before.before.args.file.now) c.before.before.before.before.before.before.loop.count (length c.before.before.before.before.before.before.loop.lines) c.before.before.before.before.before.loop-test.true), (lines_left c.before.before.before.before.before.before.loop.at (length c.before.before.before.before.before.before.before.before.before.args.file.now) c.before.before.before.before.before.before.loop.count (length c.before.before.before.before.before.before.loop.lines) c.before.before.before.before.before.loop-test.true))
 
 -- src/lib.rt:44:5
 loop-again : tie.Need-loop-preserved invariant-loop decreases-loop
-loop-again c = (omega (arith, c.before.before.before.before.before.before.loop.invariant.0, c.before.before.before.next-line.ensures.after c.before.before.before.before.before.before.loop.at (omega (arith, c.before.before.before.before.line-end.ensures)) (lines_left c.before.before.before.before.before.before.loop.at (length c.before.before.before.before.before.before.before.before.before.args.file.now) c.before.before.before.before.before.before.loop.count (length c.before.before.before.before.before.before.loop.lines) c.before.before.before.before.before.loop-test.true)), c.before.before.before.next-line.ensures.within, simp length-set (omega (arith, (places-left c.before.before.before.before.before.before.loop.at (length c.before.before.before.before.before.before.before.before.before.args.file.now) c.before.before.before.before.before.before.loop.count (length c.before.before.before.before.before.before.loop.lines) c.before.before.before.before.before.loop-test.true))), simp length-set c.before.before.before.before.before.before.loop.invariant.3, λ ts e. one-triple c.before.before.before.before.before.before.before.before.before.args.file.now ts c.before.before.before.before.before.before.loop.lines c.before.before.before.before.before.before.loop.count c.before.before.before.before.before.before.loop.at (c.before.before.before.before.before.before.loop.invariant.4 ts e) (lines_left c.before.before.before.before.before.before.loop.at (length c.before.before.before.before.before.before.before.before.before.args.file.now) c.before.before.before.before.before.before.loop.count (length c.before.before.before.before.before.before.loop.lines) c.before.before.before.before.before.loop-test.true) c.before.before.before.before.line-end.result c.before.before.before.before.line-end.ensures c.before.before.before.next-line.result c.before.before.before.next-line.ensures (places-left c.before.before.before.before.before.before.loop.at (length c.before.before.before.before.before.before.before.before.before.args.file.now) c.before.before.before.before.before.before.loop.count (length c.before.before.before.before.before.before.loop.lines) c.before.before.before.before.before.loop-test.true) (sym c.before.has-triple.ensures ∙ c.if1.true))
+loop-again c = (omega (arith, c.before.before.before.before.before.before.loop.invariant.0, c.before.before.before.next-line.ensures.after c.before.before.before.before.before.before.loop.at (omega (arith, c.before.before.before.before.line_end.ensures)) (lines_left c.before.before.before.before.before.before.loop.at (length c.before.before.before.before.before.before.before.before.before.args.file.now) c.before.before.before.before.before.before.loop.count (length c.before.before.before.before.before.before.loop.lines) c.before.before.before.before.before.loop-test.true)), c.before.before.before.next-line.ensures.within, simp length-set (omega (arith, (places_left c.before.before.before.before.before.before.loop.at (length c.before.before.before.before.before.before.before.before.before.args.file.now) c.before.before.before.before.before.before.loop.count (length c.before.before.before.before.before.before.loop.lines) c.before.before.before.before.before.loop-test.true))), simp length-set c.before.before.before.before.before.before.loop.invariant.3, λ ts e. one_triple c.before.before.before.before.before.before.before.before.before.args.file.now ts c.before.before.before.before.before.before.loop.lines c.before.before.before.before.before.before.loop.count c.before.before.before.before.before.before.loop.at (c.before.before.before.before.before.before.loop.invariant.4 ts e) (lines_left c.before.before.before.before.before.before.loop.at (length c.before.before.before.before.before.before.before.before.before.args.file.now) c.before.before.before.before.before.before.loop.count (length c.before.before.before.before.before.before.loop.lines) c.before.before.before.before.before.loop-test.true) c.before.before.before.before.line_end.result c.before.before.before.before.line_end.ensures c.before.before.before.next-line.result c.before.before.before.next-line.ensures (places_left c.before.before.before.before.before.before.loop.at (length c.before.before.before.before.before.before.before.before.before.args.file.now) c.before.before.before.before.before.before.loop.count (length c.before.before.before.before.before.before.loop.lines) c.before.before.before.before.before.loop-test.true) (sym c.before.has-triple.ensures ∙ c.if1.true))
 
 -- src/lib.rt:44:5
 loop-less-2 : tie.Need-loop-smaller-2 invariant-loop decreases-loop
-loop-less-2 c = omega (arith, c.before.before.before.next-line.ensures.after c.before.before.before.before.before.before.loop.at (omega (arith, c.before.before.before.before.line-end.ensures)) (lines_left c.before.before.before.before.before.before.loop.at (length c.before.before.before.before.before.before.before.before.before.args.file.now) c.before.before.before.before.before.before.loop.count (length c.before.before.before.before.before.before.loop.lines) c.before.before.before.before.before.loop-test.true), (lines_left c.before.before.before.before.before.before.loop.at (length c.before.before.before.before.before.before.before.before.before.args.file.now) c.before.before.before.before.before.before.loop.count (length c.before.before.before.before.before.before.loop.lines) c.before.before.before.before.before.loop-test.true))
+loop-less-2 c = omega (arith, c.before.before.before.next-line.ensures.after c.before.before.before.before.before.before.loop.at (omega (arith, c.before.before.before.before.line_end.ensures)) (lines_left c.before.before.before.before.before.before.loop.at (length c.before.before.before.before.before.before.before.before.before.args.file.now) c.before.before.before.before.before.before.loop.count (length c.before.before.before.before.before.before.loop.lines) c.before.before.before.before.before.loop-test.true), (lines_left c.before.before.before.before.before.before.loop.at (length c.before.before.before.before.before.before.before.before.before.args.file.now) c.before.before.before.before.before.before.loop.count (length c.before.before.before.before.before.before.loop.lines) c.before.before.before.before.before.loop-test.true))
 
 -- src/lib.rt:44:5
 loop-again-2 : tie.Need-loop-preserved-2 invariant-loop decreases-loop
-loop-again-2 c = (omega (arith, c.before.before.before.before.before.before.loop.invariant.0, c.before.before.before.next-line.ensures.after c.before.before.before.before.before.before.loop.at (omega (arith, c.before.before.before.before.line-end.ensures)) (lines_left c.before.before.before.before.before.before.loop.at (length c.before.before.before.before.before.before.before.before.before.args.file.now) c.before.before.before.before.before.before.loop.count (length c.before.before.before.before.before.before.loop.lines) c.before.before.before.before.before.loop-test.true)), c.before.before.before.next-line.ensures.within, c.before.before.before.before.before.before.loop.invariant.2, c.before.before.before.before.before.before.loop.invariant.3, λ ts e. no-triple c.before.before.before.before.before.before.before.before.before.args.file.now ts c.before.before.before.before.before.before.loop.lines c.before.before.before.before.before.before.loop.count c.before.before.before.before.before.before.loop.at (c.before.before.before.before.before.before.loop.invariant.4 ts e) (lines_left c.before.before.before.before.before.before.loop.at (length c.before.before.before.before.before.before.before.before.before.args.file.now) c.before.before.before.before.before.before.loop.count (length c.before.before.before.before.before.before.loop.lines) c.before.before.before.before.before.loop-test.true) c.before.before.before.before.line-end.result c.before.before.before.before.line-end.ensures c.before.before.before.next-line.result c.before.before.before.next-line.ensures (sym c.before.has-triple.ensures ∙ c.if1.false))
+loop-again-2 c = (omega (arith, c.before.before.before.before.before.before.loop.invariant.0, c.before.before.before.next-line.ensures.after c.before.before.before.before.before.before.loop.at (omega (arith, c.before.before.before.before.line_end.ensures)) (lines_left c.before.before.before.before.before.before.loop.at (length c.before.before.before.before.before.before.before.before.before.args.file.now) c.before.before.before.before.before.before.loop.count (length c.before.before.before.before.before.before.loop.lines) c.before.before.before.before.before.loop-test.true)), c.before.before.before.next-line.ensures.within, c.before.before.before.before.before.before.loop.invariant.2, c.before.before.before.before.before.before.loop.invariant.3, λ ts e. no_triple_lem c.before.before.before.before.before.before.before.before.before.args.file.now ts c.before.before.before.before.before.before.loop.lines c.before.before.before.before.before.before.loop.count c.before.before.before.before.before.before.loop.at (c.before.before.before.before.before.before.loop.invariant.4 ts e) (lines_left c.before.before.before.before.before.before.loop.at (length c.before.before.before.before.before.before.before.before.before.args.file.now) c.before.before.before.before.before.before.loop.count (length c.before.before.before.before.before.before.loop.lines) c.before.before.before.before.before.loop-test.true) c.before.before.before.before.line_end.result c.before.before.before.before.line_end.ensures c.before.before.before.next-line.result c.before.before.before.next-line.ensures (sym c.before.has-triple.ensures ∙ c.if1.false))
 
 -- src/lib.rt:36:1
 same_length : tie.Need-same-length invariant-loop decreases-loop

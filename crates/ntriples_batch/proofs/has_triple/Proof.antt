@@ -1,4 +1,4 @@
-use Rattle.ntriples_batch.proofs.Gathering.{wrong-none, empty-none, full-some}
+use Rattle.ntriples_batch.proofs.Gathering.{wrong_none, empty_none, full-some}
 use borrow.Author.Rules.{rules}
 use Rattle.ntriples_batch.proofs.has_triple.Statement.{statement}
 use Rattle.ntriples_batch.proofs.has_triple.Tie as tie
@@ -24,11 +24,11 @@ enum-told-3 c = search rules
 
 -- src/lib.rt:25:1
 returns : tie.Need-returns
-returns c = wrong-none _ (rw c.enum_told.given.1 at c.before.before.Line-of.ensures)
+returns c = wrong_none _ (rw c.enum_told.given.1 at c.before.before.Line-of.ensures)
 
 -- src/lib.rt:25:1
 returns-2 : tie.Need-returns-2
-returns-2 c = empty-none _ (rw c.enum-told2.given.1 at c.before.before.Line-of.ensures)
+returns-2 c = empty_none _ (rw c.enum-told2.given.1 at c.before.before.Line-of.ensures)
 
 -- src/lib.rt:25:1
 returns-3 : tie.Need-returns-3

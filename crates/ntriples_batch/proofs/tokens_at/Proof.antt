@@ -1,4 +1,4 @@
-use Rattle.ntriples_batch.proofs.Gathering.{line-utf8, line-inside, not-wrong, not-empty, have-texts}
+use Rattle.ntriples_batch.proofs.Gathering.{line-utf8, line_inside, not-wrong, not_empty, have-texts}
 use borrow.Author.Rules.{rules}
 use Rattle.ntriples_batch.proofs.tokens_at.Statement.{statement}
 use Rattle.ntriples_batch.proofs.tokens_at.Tie as tie
@@ -16,7 +16,7 @@ part-read-line-start c = search rules
 
 -- src/lib.rt:67:21
 part-read-line-end : tie.Need-slice-bounds-read-line-end
-part-read-line-end c = line-inside c.before.args.file.now c.before.args.begin c.before.args.end c.before.requires
+part-read-line-end c = line_inside c.before.args.file.now c.before.args.begin c.before.args.end c.before.requires
 
 -- src/lib.rt:67:11
 read-line-requires : tie.Need-read-line-requires
@@ -40,7 +40,7 @@ returns c = λ t L. not-wrong c.before.before.before.before.before.args.file.now
 
 -- src/lib.rt:57:1
 returns-2 : tie.Need-returns-2
-returns-2 c = λ t L. not-empty c.before.before.before.before.before.args.file.now c.before.before.before.before.before.args.begin c.before.before.before.before.before.args.end c.before.before.before.before.before.requires c.before.before.read-line.result c.before.before.read-line.ensures t L c.enum-told2.given.1
+returns-2 c = λ t L. not_empty c.before.before.before.before.before.args.file.now c.before.before.before.before.before.args.begin c.before.before.before.before.before.args.end c.before.before.before.before.before.requires c.before.before.read-line.result c.before.before.read-line.ensures t L c.enum-told2.given.1
 
 -- src/lib.rt:57:1
 returns-3 : tie.Need-returns-3

@@ -8,7 +8,7 @@ use Rattle.spec_ntriples.specs.Texts.{TextTriple}
 use Rattle.spec_ntriples.specs.computed.Lines.{triples, document}
 use Rattle.spec_ntriples.specs.Dictionary.{Entry}
 use Rattle.dictionary_bytes.specs.inside.Entries.{FilledBy}
-use Rattle.ntriples_batches.proofs.Files.{Underway, none_done, all_done, count-few, count-some, can-name, more-done, more-lacks, filled-have}
+use Rattle.ntriples_batches.proofs.Files.{Underway, none_done, all_done, count-few, count-some, can_name, more-done, more-lacks, filled_have}
 use Rattle.ntriples_batches.proofs.name_file.Statement.{statement}
 use Rattle.ntriples_batches.proofs.name_file.Tie as tie
 use Rattle.ntriples_batches.proofs.name_file.Reads as reads
@@ -49,7 +49,7 @@ slice-aggregate-name-batch c = search rules
 
 -- src/lib.rt:44:15
 name-batch-requires : tie.Need-name-batch-requires invariant-loop decreases-loop
-name-batch-requires c κs = can-name c.before.before.before.before.before.before.before.before.before.before.before.before.before.args.file.now c.before.before.before.before.before.before.before.before.before.before.before.before.before.requires.old c.before.before.before.before.before.before.before.before.before.before.before.before.before.requires.lines c.before.before.before.before.before.before.before.before.loop.dictionary c.before.before.before.before.before.before.before.before.loop.from c.before.before.before.before.before.before.before.before.loop.left c.before.before.before.before.before.before.before.before.loop.filled c.before.before.before.before.before.before.before.before.loop.terms (c.before.before.before.before.before.before.before.before.loop.invariant.4 c.before.before.before.before.before.before.before.before.before.before.before.before.before.requires.old c.before.before.before.before.before.before.before.before.before.before.before.before.before.requires.lines c.before.before.before.before.before.before.before.before.before.before.before.before.before.requires.said c.before.before.before.before.before.before.before.before.before.before.before.before.before.requires.counted c.before.before.before.before.before.before.before.before.before.before.before.before.before.requires.filled) c.before.before.before.before.before.before.before.before.before.before.before.before.before.requires.said c.before.before.before.before.before.gather-lines.new.1.1.0 c.before.before.before.before.before.gather-lines.result (c.before.before.before.before.before.gather-lines.auto.1.1.0 ∙ c.before.before.before.before.before.before.before.before.loop.invariant.2) (c.before.before.before.before.before.gather-lines.ensures.1.1 (c.before.before.before.before.before.before.before.before.loop.invariant.4 c.before.before.before.before.before.before.before.before.before.before.before.before.before.requires.old c.before.before.before.before.before.before.before.before.before.before.before.before.before.requires.lines c.before.before.before.before.before.before.before.before.before.before.before.before.before.requires.said c.before.before.before.before.before.before.before.before.before.before.before.before.before.requires.counted c.before.before.before.before.before.before.before.before.before.before.before.before.before.requires.filled).rest (c.before.before.before.before.before.before.before.before.loop.invariant.4 c.before.before.before.before.before.before.before.before.before.before.before.before.before.requires.old c.before.before.before.before.before.before.before.before.before.before.before.before.before.requires.lines c.before.before.before.before.before.before.before.before.before.before.before.before.before.requires.said c.before.before.before.before.before.before.before.before.before.before.before.before.before.requires.counted c.before.before.before.before.before.before.before.before.before.before.before.before.before.requires.filled).behind) (omega (arith, c.before.before.before.before.before.before.before.before.before.before.before.before.before.requires.room, c.before.before.before.before.before.before.before.before.loop.invariant.1))
+name-batch-requires c κs = can_name c.before.before.before.before.before.before.before.before.before.before.before.before.before.args.file.now c.before.before.before.before.before.before.before.before.before.before.before.before.before.requires.old c.before.before.before.before.before.before.before.before.before.before.before.before.before.requires.lines c.before.before.before.before.before.before.before.before.loop.dictionary c.before.before.before.before.before.before.before.before.loop.from c.before.before.before.before.before.before.before.before.loop.left c.before.before.before.before.before.before.before.before.loop.filled c.before.before.before.before.before.before.before.before.loop.terms (c.before.before.before.before.before.before.before.before.loop.invariant.4 c.before.before.before.before.before.before.before.before.before.before.before.before.before.requires.old c.before.before.before.before.before.before.before.before.before.before.before.before.before.requires.lines c.before.before.before.before.before.before.before.before.before.before.before.before.before.requires.said c.before.before.before.before.before.before.before.before.before.before.before.before.before.requires.counted c.before.before.before.before.before.before.before.before.before.before.before.before.before.requires.filled) c.before.before.before.before.before.before.before.before.before.before.before.before.before.requires.said c.before.before.before.before.before.gather-lines.new.1.1.0 c.before.before.before.before.before.gather-lines.result (c.before.before.before.before.before.gather-lines.auto.1.1.0 ∙ c.before.before.before.before.before.before.before.before.loop.invariant.2) (c.before.before.before.before.before.gather-lines.ensures.1.1 (c.before.before.before.before.before.before.before.before.loop.invariant.4 c.before.before.before.before.before.before.before.before.before.before.before.before.before.requires.old c.before.before.before.before.before.before.before.before.before.before.before.before.before.requires.lines c.before.before.before.before.before.before.before.before.before.before.before.before.before.requires.said c.before.before.before.before.before.before.before.before.before.before.before.before.before.requires.counted c.before.before.before.before.before.before.before.before.before.before.before.before.before.requires.filled).rest (c.before.before.before.before.before.before.before.before.loop.invariant.4 c.before.before.before.before.before.before.before.before.before.before.before.before.before.requires.old c.before.before.before.before.before.before.before.before.before.before.before.before.before.requires.lines c.before.before.before.before.before.before.before.before.before.before.before.before.before.requires.said c.before.before.before.before.before.before.before.before.before.before.before.before.before.requires.counted c.before.before.before.before.before.before.before.before.before.before.before.before.before.requires.filled).behind) (omega (arith, c.before.before.before.before.before.before.before.before.before.before.before.before.before.requires.room, c.before.before.before.before.before.before.before.before.loop.invariant.1))
 
 -- src/lib.rt:45:30
 enum-known-g : tie.Need-enum-known-g invariant-loop decreases-loop
@@ -65,7 +65,7 @@ same-length-2 c = search rules
 
 -- src/lib.rt:46:17
 returns : tie.Need-returns invariant-loop decreases-loop
-returns c = λ es ts e k F. more-lacks c.before.before.before.before.before.before.before.before.before.before.before.before.before.before.before.before.before.before.before.before.before.args.file.now es ts c.before.before.before.before.before.before.before.before.before.before.before.before.before.before.before.before.loop.dictionary c.before.before.before.before.before.before.before.before.before.before.before.before.before.before.before.before.loop.from c.before.before.before.before.before.before.before.before.before.before.before.before.before.before.before.before.loop.left c.before.before.before.before.before.before.before.before.before.before.before.before.before.before.before.before.loop.filled c.before.before.before.before.before.before.before.before.before.before.before.before.before.before.before.before.loop.terms (c.before.before.before.before.before.before.before.before.before.before.before.before.before.before.before.before.loop.invariant.4 es ts e k F) e c.before.before.before.before.before.before.before.before.before.before.before.before.before.gather-lines.new.1.1.0 c.before.before.before.before.before.before.before.before.before.before.before.before.before.gather-lines.result (c.before.before.before.before.before.before.before.before.before.before.before.before.before.gather-lines.auto.1.1.0 ∙ c.before.before.before.before.before.before.before.before.before.before.before.before.before.before.before.before.loop.invariant.2) (c.before.before.before.before.before.before.before.before.before.before.before.before.before.gather-lines.ensures.1.1 (c.before.before.before.before.before.before.before.before.before.before.before.before.before.before.before.before.loop.invariant.4 es ts e k F).rest (c.before.before.before.before.before.before.before.before.before.before.before.before.before.before.before.before.loop.invariant.4 es ts e k F).behind) c.before.before.before.before.before.before.before.name-batch.new.1.1.1.0 c.before.before.before.before.before.before.before.name-batch.new.1.1.1.1.1.0 c.before.before.before.before.before.before.before.name-batch.result c.before.before.before.before.before.before.before.name-batch.ensures (filled-have c.before.before.before.before.before.before.before.before.before.before.before.before.before.before.before.before.before.before.before.before.before.args.dictionary.now c.before.before.before.before.before.before.before.before.before.before.before.before.before.before.before.before.before.before.before.before.before.args.f es F) _ c.before.g.given.1
+returns c = λ es ts e k F. more-lacks c.before.before.before.before.before.before.before.before.before.before.before.before.before.before.before.before.before.before.before.before.before.args.file.now es ts c.before.before.before.before.before.before.before.before.before.before.before.before.before.before.before.before.loop.dictionary c.before.before.before.before.before.before.before.before.before.before.before.before.before.before.before.before.loop.from c.before.before.before.before.before.before.before.before.before.before.before.before.before.before.before.before.loop.left c.before.before.before.before.before.before.before.before.before.before.before.before.before.before.before.before.loop.filled c.before.before.before.before.before.before.before.before.before.before.before.before.before.before.before.before.loop.terms (c.before.before.before.before.before.before.before.before.before.before.before.before.before.before.before.before.loop.invariant.4 es ts e k F) e c.before.before.before.before.before.before.before.before.before.before.before.before.before.gather-lines.new.1.1.0 c.before.before.before.before.before.before.before.before.before.before.before.before.before.gather-lines.result (c.before.before.before.before.before.before.before.before.before.before.before.before.before.gather-lines.auto.1.1.0 ∙ c.before.before.before.before.before.before.before.before.before.before.before.before.before.before.before.before.loop.invariant.2) (c.before.before.before.before.before.before.before.before.before.before.before.before.before.gather-lines.ensures.1.1 (c.before.before.before.before.before.before.before.before.before.before.before.before.before.before.before.before.loop.invariant.4 es ts e k F).rest (c.before.before.before.before.before.before.before.before.before.before.before.before.before.before.before.before.loop.invariant.4 es ts e k F).behind) c.before.before.before.before.before.before.before.name-batch.new.1.1.1.0 c.before.before.before.before.before.before.before.name-batch.new.1.1.1.1.1.0 c.before.before.before.before.before.before.before.name-batch.result c.before.before.before.before.before.before.before.name-batch.ensures (filled_have c.before.before.before.before.before.before.before.before.before.before.before.before.before.before.before.before.before.before.before.before.before.args.dictionary.now c.before.before.before.before.before.before.before.before.before.before.before.before.before.before.before.before.before.before.before.before.before.args.f es F) _ c.before.g.given.1
 
 -- src/lib.rt:48:28
 enum-known-g-2 : tie.Need-enum-known-g-2 invariant-loop decreases-loop
@@ -77,7 +77,7 @@ loop-less c = omega (arith, count-few c.before.before.before.before.before.befor
 
 -- src/lib.rt:40:5
 loop-again : tie.Need-loop-preserved invariant-loop decreases-loop
-loop-again c = (c.before.before.before.before.before.before.before.name-batch.auto.1.1.1.0 ∙ c.before.before.before.before.before.before.before.before.before.before.before.before.before.before.before.before.loop.invariant.0, c.before.before.before.before.before.before.before.name-batch.auto.1.1.1.1.1.0 ∙ c.before.before.before.before.before.before.before.before.before.before.before.before.before.before.before.before.loop.invariant.1, (c.before.before.before.before.before.before.before.before.before.before.before.before.before.gather-lines.auto.1.1.0 ∙ c.before.before.before.before.before.before.before.before.before.before.before.before.before.before.before.before.loop.invariant.2), c.before.before.before.before.before.before.before.before.before.before.before.before.before.gather-lines.ensures.0, λ es ts e k F. more-done c.before.before.before.before.before.before.before.before.before.before.before.before.before.before.before.before.before.before.before.before.before.args.file.now es ts c.before.before.before.before.before.before.before.before.before.before.before.before.before.before.before.before.loop.dictionary c.before.before.before.before.before.before.before.before.before.before.before.before.before.before.before.before.loop.from c.before.before.before.before.before.before.before.before.before.before.before.before.before.before.before.before.loop.left c.before.before.before.before.before.before.before.before.before.before.before.before.before.before.before.before.loop.filled c.before.before.before.before.before.before.before.before.before.before.before.before.before.before.before.before.loop.terms (c.before.before.before.before.before.before.before.before.before.before.before.before.before.before.before.before.loop.invariant.4 es ts e k F) e c.before.before.before.before.before.before.before.before.before.before.before.before.before.gather-lines.new.1.1.0 c.before.before.before.before.before.before.before.before.before.before.before.before.before.gather-lines.result (c.before.before.before.before.before.before.before.before.before.before.before.before.before.gather-lines.auto.1.1.0 ∙ c.before.before.before.before.before.before.before.before.before.before.before.before.before.before.before.before.loop.invariant.2) (c.before.before.before.before.before.before.before.before.before.before.before.before.before.gather-lines.ensures.1.1 (c.before.before.before.before.before.before.before.before.before.before.before.before.before.before.before.before.loop.invariant.4 es ts e k F).rest (c.before.before.before.before.before.before.before.before.before.before.before.before.before.before.before.before.loop.invariant.4 es ts e k F).behind) c.before.before.before.before.before.before.before.name-batch.new.1.1.1.0 c.before.before.before.before.before.before.before.name-batch.new.1.1.1.1.1.0 c.before.before.before.before.before.before.before.name-batch.result c.before.before.before.before.before.before.before.name-batch.ensures (filled-have c.before.before.before.before.before.before.before.before.before.before.before.before.before.before.before.before.before.before.before.before.before.args.dictionary.now c.before.before.before.before.before.before.before.before.before.before.before.before.before.before.before.before.before.before.before.before.before.args.f es F) _ c.before.g2.given.1 c.before.before.before.before.before.before.before.before.before.before.before.before.before.before.before.loop-test.true)
+loop-again c = (c.before.before.before.before.before.before.before.name-batch.auto.1.1.1.0 ∙ c.before.before.before.before.before.before.before.before.before.before.before.before.before.before.before.before.loop.invariant.0, c.before.before.before.before.before.before.before.name-batch.auto.1.1.1.1.1.0 ∙ c.before.before.before.before.before.before.before.before.before.before.before.before.before.before.before.before.loop.invariant.1, (c.before.before.before.before.before.before.before.before.before.before.before.before.before.gather-lines.auto.1.1.0 ∙ c.before.before.before.before.before.before.before.before.before.before.before.before.before.before.before.before.loop.invariant.2), c.before.before.before.before.before.before.before.before.before.before.before.before.before.gather-lines.ensures.0, λ es ts e k F. more-done c.before.before.before.before.before.before.before.before.before.before.before.before.before.before.before.before.before.before.before.before.before.args.file.now es ts c.before.before.before.before.before.before.before.before.before.before.before.before.before.before.before.before.loop.dictionary c.before.before.before.before.before.before.before.before.before.before.before.before.before.before.before.before.loop.from c.before.before.before.before.before.before.before.before.before.before.before.before.before.before.before.before.loop.left c.before.before.before.before.before.before.before.before.before.before.before.before.before.before.before.before.loop.filled c.before.before.before.before.before.before.before.before.before.before.before.before.before.before.before.before.loop.terms (c.before.before.before.before.before.before.before.before.before.before.before.before.before.before.before.before.loop.invariant.4 es ts e k F) e c.before.before.before.before.before.before.before.before.before.before.before.before.before.gather-lines.new.1.1.0 c.before.before.before.before.before.before.before.before.before.before.before.before.before.gather-lines.result (c.before.before.before.before.before.before.before.before.before.before.before.before.before.gather-lines.auto.1.1.0 ∙ c.before.before.before.before.before.before.before.before.before.before.before.before.before.before.before.before.loop.invariant.2) (c.before.before.before.before.before.before.before.before.before.before.before.before.before.gather-lines.ensures.1.1 (c.before.before.before.before.before.before.before.before.before.before.before.before.before.before.before.before.loop.invariant.4 es ts e k F).rest (c.before.before.before.before.before.before.before.before.before.before.before.before.before.before.before.before.loop.invariant.4 es ts e k F).behind) c.before.before.before.before.before.before.before.name-batch.new.1.1.1.0 c.before.before.before.before.before.before.before.name-batch.new.1.1.1.1.1.0 c.before.before.before.before.before.before.before.name-batch.result c.before.before.before.before.before.before.before.name-batch.ensures (filled_have c.before.before.before.before.before.before.before.before.before.before.before.before.before.before.before.before.before.before.before.before.before.args.dictionary.now c.before.before.before.before.before.before.before.before.before.before.before.before.before.before.before.before.before.before.before.before.before.args.f es F) _ c.before.g2.given.1 c.before.before.before.before.before.before.before.before.before.before.before.before.before.before.before.loop-test.true)
 
 -- src/lib.rt:26:1
 same-length-3 : tie.Need-same-length-3 invariant-loop decreases-loop

@@ -1,10 +1,10 @@
 -- A file whose texts get their terms batch by batch. Definitions only.
 use Rattle.std.specs.Prelude.{ℕ, ◌≤◌, ◌≡◌, List, map, length}
-use Rattle.spec.specs.Tables.{firstRows}
+use Rattle.spec.specs.Tables.{first_rows}
 use Rattle.spec_ntriples.specs.Texts.{TextTriple}
 use Rattle.spec_ntriples.specs.computed.Lines.{triples, document}
 use Rattle.spec_ntriples.specs.Dictionary.{Entry}
-use Rattle.spec_ntriples.specs.Reading.{withAll, triple_of}
+use Rattle.spec_ntriples.specs.Reading.{with_all, triple_of}
 use Rattle.dictionary_bytes.specs.declared.Filled.{Filled}
 use Rattle.dictionary_bytes.specs.inside.Entries.{FilledBy}
 use Rattle.ntriples_segments.specs.declared.Batched.{Batched}
@@ -23,8 +23,8 @@ pub record CanNameFile (file : List ℕ) (n : ℕ) (bs : List ℕ) (f : Filled) 
 -- All texts of a file have terms: the dictionary has the entries es with them; and where a delivery has room for its triples, the rows are
 -- these.
 pub record FileNamed (es : List Entry) (ts : List TextTriple) (bs : List ℕ) (f : Filled) (ws : List ℕ) : Type 0 where
-  pub filled : FilledBy bs f (withAll es ts)
-  pub rows : length ts ≤ 5460 → firstRows (length ts) ws ≡ map (triple_of (withAll es ts)) ts
+  pub filled : FilledBy bs f (with_all es ts)
+  pub rows : length ts ≤ 5460 → first_rows (length ts) ws ≡ map (triple_of (with_all es ts)) ts
 
 -- They have; or the entries with them do not fit.
 abbrev pub IsFile : (es : List Entry) (ts : List TextTriple) (bs ws : List ℕ) → Batched → Type 0

@@ -3,7 +3,7 @@ use native.Mathlib.Omega.{arith}
 use mathlib.Core.Path.{◌≡◌, refl}
 use lib.ListN.{length, drop}
 use Prim.Native.Nat.{◌+◌, ◌-◌, ◌≤◌}
-use Rattle.ntriples_breaks.specs.inside.Breaks.{lineLength}
+use Rattle.ntriples_breaks.specs.inside.Breaks.{line_length}
 use Rattle.ntriples_breaks.proofs.Breaking.{line-all, line-stop, line-goes}
 use Rattle.ntriples_breaks.proofs.line_end.Statement.{statement}
 use Rattle.ntriples_breaks.proofs.line_end.Tie as tie
@@ -11,7 +11,7 @@ use Rattle.ntriples_breaks.proofs.line_end.Reads as reads
 use Rattle.ntriples_breaks.proofs.line_end.Lts as lts
 
 abbrev invariant-loop : tie.invariant-loop
-invariant-loop file from at₀ at = (at ≤ length file) × (from + lineLength (drop from file) ≡ at + lineLength (drop at file))
+invariant-loop file from at₀ at = (at ≤ length file) × (from + line_length (drop from file) ≡ at + line_length (drop at file))
 
 abbrev decreases-loop : tie.decreases-loop
 decreases-loop file from at₀ at = length file - at

@@ -4,7 +4,7 @@ use mathlib.Core.Path.{◌≡◌, refl, sym, ◌∙◌, ap}
 use lib.ListN.{length, drop}
 use Prim.Native.Nat.{◌-◌, ◌≤◌}
 use Rattle.spec_ntriples.specs.computed.Decoded.{decode}
-use Rattle.ntriples_bytes.specs.inside.Whole.{areChars, areCharsFrom}
+use Rattle.ntriples_bytes.specs.inside.Whole.{are_chars, are_chars_from}
 use Rattle.ntriples_bytes.specs.declared.Open.TheVariants.{Due}
 use Rattle.ntriples_bytes.proofs.Scanning.{none_read, ascii-read, broken-read, due-read, all_read}
 use Rattle.ntriples_bytes.proofs.is_utf8.Statement.{statement}
@@ -14,7 +14,7 @@ use Rattle.ntriples_bytes.proofs.is_utf8.Lts as lts
 use Rattle.ntriples_bytes.proofs.next_byte.Reads as next-byte-reads
 
 abbrev invariant-loop : tie.invariant-loop
-invariant-loop bytes left₀ low₀ high₀ at₀ left low high at = (at ≤ length bytes) × (areChars (decode bytes) ≡ areCharsFrom (drop at bytes) (Due left low high))
+invariant-loop bytes left₀ low₀ high₀ at₀ left low high at = (at ≤ length bytes) × (are_chars (decode bytes) ≡ are_chars_from (drop at bytes) (Due left low high))
 
 abbrev decreases-loop : tie.decreases-loop
 decreases-loop bytes left₀ low₀ high₀ at₀ left low high at = length bytes - at

@@ -1,6 +1,6 @@
 use native.Mathlib.Omega.{arith}
 use mathlib.Core.Path.{◌≡◌, refl, sym, ◌∙◌, ap}
-use Rattle.ntriples_bytes.proofs.Scanning.{next-first, too_small, too-great, in-range}
+use Rattle.ntriples_bytes.proofs.Scanning.{next-first, too_small, too_great, in_range}
 use borrow.Author.Rules.{rules}
 use Rattle.ntriples_bytes.proofs.next_byte.Statement.{statement}
 use Rattle.ntriples_bytes.proofs.next_byte.Tie as tie
@@ -22,7 +22,7 @@ returns-2 c = too_small c.before.before.args.left c.before.before.args.low c.bef
 
 -- src/lib.rt:77:9
 returns-3 : tie.Need-returns-3
-returns-3 c = too-great c.before.before.before.args.left c.before.before.before.args.low c.before.before.before.args.high c.before.before.before.args.b (λ x. omega (arith, x)) (search rules) (search rules)
+returns-3 c = too_great c.before.before.before.args.left c.before.before.before.args.low c.before.before.before.args.high c.before.before.before.args.b (λ x. omega (arith, x)) (search rules) (search rules)
 
 -- src/lib.rt:79:15
 sub-t6 : tie.Need-overflow-sub-t6
@@ -30,7 +30,7 @@ sub-t6 c = search rules
 
 -- src/lib.rt:67:1
 returns-4 : tie.Need-returns-4
-returns-4 c = in-range c.before.before.before.args.left c.before.before.before.args.low c.before.before.before.args.high c.before.before.before.args.b (λ x. omega (arith, x)) (search rules) (search rules)
+returns-4 c = in_range c.before.before.before.args.left c.before.before.before.args.low c.before.before.before.args.high c.before.before.before.args.b (λ x. omega (arith, x)) (search rules) (search rules)
 
 pub next-byte-spec : {M : Type 1} → statement M
 next-byte-spec =

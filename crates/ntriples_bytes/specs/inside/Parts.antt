@@ -9,6 +9,6 @@ joined (decoded cs) broken = broken
 joined (decoded cs) (decoded ds) = decoded (cs ++ ds)
 
 -- Whether some of a list pass a test.
-unfoldable pub hasAny : (ℕ → Bool) → List ℕ → Bool
-hasAny test [] = false
-hasAny test (c ∷ cs) = test c || hasAny test cs
+unfoldable pub has_any : (ℕ → Bool) → List ℕ → Bool
+has_any test [] = false
+has_any test (c ∷ cs) = test c || has_any test cs

@@ -5,11 +5,11 @@ use Rattle.ntriples_bytes.specs.declared.Open.{Open}
 use Rattle.ntriples_bytes.specs.declared.Open.TheVariants.{Broken, Due}
 
 -- Whether decoding gives characters.
-unfoldable pub areChars : Decoded → Bool
-areChars broken = false
-areChars (decoded cs) = true
+unfoldable pub are_chars : Decoded → Bool
+are_chars broken = false
+are_chars (decoded cs) = true
 
 -- Whether an open character and the bytes behind it are characters; the number so far says nothing of that.
-unfoldable pub areCharsFrom : List ℕ → Open → Bool
-areCharsFrom bs Broken = false
-areCharsFrom bs (Due left low high) = areChars (decode_from bs (due left 0 low high))
+unfoldable pub are_chars_from : List ℕ → Open → Bool
+are_chars_from bs Broken = false
+are_chars_from bs (Due left low high) = are_chars (decode_from bs (due left 0 low high))

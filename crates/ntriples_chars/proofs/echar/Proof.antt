@@ -2,7 +2,7 @@ use native.Mathlib.Omega.{arith}
 use mathlib.Core.Path.{◌≡◌, refl, sym, ◌∙◌, ap}
 use borrow.Author.Tests.{eq-eqb, ne_eqb}
 use mathlib.Core.Bool.{◌||◌}
-use Rattle.spec_ntriples.specs.Characters.{echar, isOneOf, codes}
+use Rattle.spec_ntriples.specs.Characters.{echar, is_one_of, codes}
 use Rattle.ntriples_chars.proofs.Testing.{or-false}
 use borrow.Author.Rules.{rules}
 use Rattle.ntriples_chars.proofs.echar.Statement.{statement}
@@ -69,12 +69,12 @@ cast-if6-3 c = search rules
 
 -- src/chars.rt:151:9
 returns-6 : tie.Need-returns-6
-unfolding echar isOneOf codes
+unfolding echar is_one_of codes
 returns-6 c = simp or-false (rw (ne_eqb _ _ c.before.before.before.before.before.if1.false, ne_eqb _ _ c.before.before.before.before.if2.false, ne_eqb _ _ c.before.before.before.if3.false, ne_eqb _ _ c.before.before.if4.false, ne_eqb _ _ c.before.if5.false, c.if6.true))
 
 -- src/chars.rt:132:1
 returns-7 : tie.Need-returns-7
-unfolding echar isOneOf codes
+unfolding echar is_one_of codes
 returns-7 c = simp or-false (rw (ne_eqb _ _ c.before.before.before.before.before.if1.false, ne_eqb _ _ c.before.before.before.before.if2.false, ne_eqb _ _ c.before.before.before.if3.false, ne_eqb _ _ c.before.before.if4.false, ne_eqb _ _ c.before.if5.false, c.if6.false))
 
 pub echar-spec : {M : Type 1} → statement M

@@ -1,7 +1,7 @@
 use native.Mathlib.Omega.{arith}
 use mathlib.Core.Path.{◌≡◌, refl, sym, ◌∙◌, ap}
 use Rattle.ntriples_bytes.proofs.Marking.{between}
-use Rattle.spec_ntriples.specs.Characters.{hexValue}
+use Rattle.spec_ntriples.specs.Characters.{hex_value}
 use borrow.Author.Rules.{rules}
 use Rattle.ntriples_chars.proofs.hex_value.Statement.{statement}
 use Rattle.ntriples_chars.proofs.hex_value.Tie as tie
@@ -26,7 +26,7 @@ sub-result c = omega (arith, between 48 c.before.args.c 57 c.if1.true)
 
 -- src/chars.rt:120:9
 returns : tie.Need-returns
-unfolding hexValue
+unfolding hex_value
 returns c = (rw c.if1.true, omega (arith, between 48 c.before.args.c 57 c.if1.true))
 
 -- src/chars.rt:122:9
@@ -51,7 +51,7 @@ add-result c = search rules
 
 -- src/chars.rt:123:9
 returns-2 : tie.Need-returns-2
-unfolding hexValue
+unfolding hex_value
 returns-2 c = (rw (c.before.if1.false, c.if2.true) (omega (arith, between 65 c.before.before.args.c 70 c.if2.true)), omega (arith, between 65 c.before.before.args.c 70 c.if2.true))
 
 -- src/chars.rt:125:9
@@ -76,12 +76,12 @@ add-result-2 c = search rules
 
 -- src/chars.rt:126:9
 returns-3 : tie.Need-returns-3
-unfolding hexValue
+unfolding hex_value
 returns-3 c = (rw (c.before.before.if1.false, c.before.if2.false, c.if3.true) (omega (arith, between 97 c.before.before.before.args.c 102 c.if3.true)), omega (arith, between 97 c.before.before.before.args.c 102 c.if3.true))
 
 -- src/chars.rt:115:1
 returns-4 : tie.Need-returns-4
-unfolding hexValue
+unfolding hex_value
 returns-4 c = (rw (c.before.before.if1.false, c.before.if2.false, c.if3.false), omega arith)
 
 pub hex-value-spec : {M : Type 1} → statement M

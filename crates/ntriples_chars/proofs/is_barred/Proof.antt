@@ -1,6 +1,6 @@
 use native.Mathlib.Omega.{arith}
 use mathlib.Core.Path.{◌≡◌, refl, sym, ◌∙◌, ap}
-use Rattle.spec_ntriples.specs.Characters.{isOneOf, codes}
+use Rattle.spec_ntriples.specs.Characters.{is_one_of, codes}
 use Rattle.ntriples_chars.proofs.Testing.{or-false}
 use borrow.Author.Rules.{rules}
 use Rattle.ntriples_chars.proofs.is_barred.Statement.{statement}
@@ -46,7 +46,7 @@ cast-result-9 c = search rules
 
 -- src/chars.rt:50:1
 returns : tie.Need-returns
-unfolding isOneOf codes
+unfolding is_one_of codes
 returns c = simp or-false
 
 pub is-barred-spec : {M : Type 1} → statement M

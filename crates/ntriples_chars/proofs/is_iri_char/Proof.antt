@@ -1,6 +1,6 @@
 use native.Mathlib.Omega.{arith}
 use mathlib.Core.Path.{◌≡◌, refl, sym, ◌∙◌, ap}
-use Rattle.spec_ntriples.specs.Characters.{isIriChar}
+use Rattle.spec_ntriples.specs.Characters.{is_iri_char}
 use borrow.Author.Rules.{rules}
 use Rattle.ntriples_chars.proofs.is_iri_char.Statement.{statement}
 use Rattle.ntriples_chars.proofs.is_iri_char.Tie as tie
@@ -14,7 +14,7 @@ is-barred-requires c κs = search rules
 
 -- src/chars.rt:64:1
 returns : tie.Need-returns
-unfolding isIriChar
+unfolding is_iri_char
 returns c = rw c.is-barred.ensures
 
 pub is-iri-char-spec : {M : Type 1} → statement M

@@ -1,6 +1,6 @@
 use native.Mathlib.Omega.{arith}
 use mathlib.Core.Path.{◌≡◌, refl, sym, ◌∙◌, ap}
-use Rattle.spec_ntriples.specs.Characters.{isPnChars}
+use Rattle.spec_ntriples.specs.Characters.{is_pn_chars}
 use borrow.Author.Rules.{rules}
 use Rattle.ntriples_chars.proofs.is_pn_chars.Statement.{statement}
 use Rattle.ntriples_chars.proofs.is_pn_chars.Tie as tie
@@ -23,7 +23,7 @@ is-digit-requires c κs = search rules
 
 -- src/chars.rt:104:1
 returns : tie.Need-returns
-unfolding isPnChars
+unfolding is_pn_chars
 returns c = rw (c.before.is-pn-chars-u.ensures, c.is_digit.ensures)
 
 pub is-pn-chars-spec : {M : Type 1} → statement M

@@ -1,6 +1,6 @@
 use native.Mathlib.Omega.{arith}
 use mathlib.Core.Path.{◌≡◌, refl, sym, ◌∙◌, ap}
-use Rattle.spec_ntriples.specs.Characters.{isPnCharsBase}
+use Rattle.spec_ntriples.specs.Characters.{is_pn_chars_base}
 use borrow.Author.Rules.{rules}
 use Rattle.ntriples_chars.proofs.is_pn_chars_base.Statement.{statement}
 use Rattle.ntriples_chars.proofs.is_pn_chars_base.Tie as tie
@@ -14,7 +14,7 @@ is-letter-requires c κs = search rules
 
 -- src/chars.rt:78:1
 returns : tie.Need-returns
-unfolding isPnCharsBase
+unfolding is_pn_chars_base
 returns c = rw c.is-letter.ensures
 
 pub is-pn-chars-base-spec : {M : Type 1} → statement M

@@ -1,6 +1,6 @@
 use native.Mathlib.Omega.{arith}
 use mathlib.Core.Path.{◌≡◌, refl, sym, ◌∙◌, ap}
-use Rattle.spec_ntriples.specs.Characters.{isPnCharsU, isOneOf, codes}
+use Rattle.spec_ntriples.specs.Characters.{is_pn_chars_u, is_one_of, codes}
 use Rattle.ntriples_chars.proofs.Testing.{or-false}
 use borrow.Author.Rules.{rules}
 use Rattle.ntriples_chars.proofs.is_pn_chars_u.Statement.{statement}
@@ -23,7 +23,7 @@ cast-result-2 c = search rules
 
 -- src/chars.rt:97:1
 returns : tie.Need-returns
-unfolding isPnCharsU isOneOf codes
+unfolding is_pn_chars_u is_one_of codes
 returns c = rw c.is-pn-chars-base.ensures (simp or-false)
 
 pub is-pn-chars-u-spec : {M : Type 1} → statement M

@@ -1,6 +1,6 @@
 use native.Mathlib.Omega.{arith}
 use mathlib.Core.Path.{◌≡◌, refl, sym, ◌∙◌, ap}
-use Rattle.spec_ntriples.specs.Characters.{isOneOf, codes}
+use Rattle.spec_ntriples.specs.Characters.{is_one_of, codes}
 use Rattle.ntriples_chars.proofs.Testing.{or-false}
 use borrow.Author.Rules.{rules}
 use Rattle.ntriples_chars.proofs.is_scheme_char.Statement.{statement}
@@ -27,7 +27,7 @@ cast-result-3 c = search rules
 
 -- src/chars.rt:43:1
 returns : tie.Need-returns
-unfolding isOneOf codes
+unfolding is_one_of codes
 returns c = rw c.is-letter-or-digit.ensures (simp or-false)
 
 pub is-scheme-char-spec : {M : Type 1} → statement M

@@ -1,6 +1,6 @@
 use native.Mathlib.Omega.{arith}
 use mathlib.Core.Path.{◌≡◌, refl, sym, ◌∙◌, ap}
-use Rattle.spec_ntriples.specs.Characters.{isStringChar, isOneOf, codes}
+use Rattle.spec_ntriples.specs.Characters.{is_string_char, is_one_of, codes}
 use Rattle.ntriples_chars.proofs.Testing.{or-false}
 use borrow.Author.Rules.{rules}
 use Rattle.ntriples_chars.proofs.is_string_char.Statement.{statement}
@@ -26,7 +26,7 @@ cast-result-4 c = search rules
 
 -- src/chars.rt:71:1
 returns : tie.Need-returns
-unfolding isStringChar isOneOf codes
+unfolding is_string_char is_one_of codes
 returns c = simp or-false
 
 pub is-string-char-spec : {M : Type 1} → statement M

@@ -5,7 +5,7 @@ use mathlib.Core.Path.{◌≡◌, refl, sym, ap, ◌∙◌}
 use mathlib.Core.List.{List}
 use lib.ListN.{length, replicate, set, length-set}
 use lib.Seq.{sets}
-use Rattle.ntriples_copy.proofs.Copying.{clear-more}
+use Rattle.ntriples_copy.proofs.Copying.{clear_more}
 use Rattle.ntriples_copy.proofs.clear_from.Statement.{statement}
 use Rattle.ntriples_copy.proofs.clear_from.Tie as tie
 use Rattle.ntriples_copy.proofs.clear_from.Reads as reads
@@ -35,7 +35,7 @@ loop-less c = simp length-set (omega arith)
 
 -- src/lib.rt:74:5
 loop-again : tie.Need-loop-preserved invariant-loop decreases-loop
-loop-again c = (omega arith, simp length-set (omega arith), simp length-set c.before.loop.invariant.2, ap (λ (o : List ℕ). set o c.before.loop.i 0) c.before.loop.invariant.3 ∙ clear-more c.before.before.args.out.now c.before.before.args.at c.before.loop.i c.before.loop.invariant.0)
+loop-again c = (omega arith, simp length-set (omega arith), simp length-set c.before.loop.invariant.2, ap (λ (o : List ℕ). set o c.before.loop.i 0) c.before.loop.invariant.3 ∙ clear_more c.before.before.args.out.now c.before.before.args.at c.before.loop.i c.before.loop.invariant.0)
 
 -- src/lib.rt:69:1
 same_length : tie.Need-same-length invariant-loop decreases-loop

@@ -1,5 +1,5 @@
 use native.Mathlib.Omega.{arith}
-use Rattle.ntriples_copy.proofs.Vocabulary.{length_two, length_three, length-four, length-five}
+use Rattle.ntriples_copy.proofs.Vocabulary.{length_two, length_three, length_four, length_five}
 use Rattle.ntriples_copy.proofs.vocabulary_length.Statement.{statement}
 use Rattle.ntriples_copy.proofs.vocabulary_length.Tie as tie
 use Rattle.ntriples_copy.proofs.vocabulary_length.Reads as reads
@@ -15,11 +15,11 @@ returns-2 c = length_three c.before.before.args.term (omega arith)
 
 -- src/lib.rt:33:9
 returns-3 : tie.Need-returns-3
-returns-3 c = length-four c.before.before.before.args.term (omega arith)
+returns-3 c = length_four c.before.before.before.args.term (omega arith)
 
 -- src/lib.rt:22:1
 returns-4 : tie.Need-returns-4
-returns-4 c = length-five c.before.before.before.args.term (omega arith)
+returns-4 c = length_five c.before.before.before.args.term (omega arith)
 
 pub vocabulary-length-spec : {M : Type 1} → statement M
 vocabulary-length-spec = tie.close (tie.spec returns returns-2 returns-3 returns-4)

@@ -3,8 +3,8 @@ use Rattle.std.specs.Prelude.{ℕ, ◌+◌, ◌≤◌, ◌<◌, ◌≡◌, List,
 use Prim.Native.Char.{code}
 use Rattle.spec_ntriples.specs.Utf8.{utf8}
 use Rattle.spec_ntriples.specs.Characters.{codes}
-use Rattle.spec_ntriples.specs.computed.Terminals.{outside, iriStep, stringStep, scan, got, skip}
-use Rattle.spec_ntriples.specs.Texts.{lowerChar, Text, iriText, canonicalChars, xsdString}
+use Rattle.spec_ntriples.specs.computed.Terminals.{outside, iri_step, string_step, scan, got, skip}
+use Rattle.spec_ntriples.specs.Texts.{lower_char, Text, iri_text, canonical_chars, xsd_string}
 use Rattle.ntriples_bytes.specs.inside.Places.{At, HasText}
 use Rattle.ntriples_cursor.specs.inside.Readers.{Reads}
 use Rattle.ntriples_cursor.specs.declared.Mode.{Mode}
@@ -17,7 +17,7 @@ use Rattle.ntriples_cursor.specs.declared.Piece.{Piece}
 -- A tag in lower case.
 unfoldable pub lowered : List ℕ → List ℕ
 lowered [] = []
-lowered (c ∷ cs) = lowerChar c ∷ lowered cs
+lowered (c ∷ cs) = lower_char c ∷ lowered cs
 
 -- Characters of ASCII.
 abbrev pub AreAscii : List ℕ → Type 0
@@ -30,7 +30,7 @@ pub record Typed (cs rest given : List ℕ) : Type 0 where
   pub marks : cs ≡ code "^" ∷ code "^" ∷ behind
   pub inner : List ℕ
   pub opens : skip behind ≡ code "<" ∷ inner
-  pub scans : scan iriStep outside inner ≡ got given rest
+  pub scans : scan iri_step outside inner ≡ got given rest
 
 -- "@" and a tag with some characters, behind which others stand.
 pub record Tagged (cs rest given : List ℕ) : Type 0 where
@@ -40,8 +40,8 @@ pub record Tagged (cs rest given : List ℕ) : Type 0 where
 -- What follows the string of a literal that ends before some characters, and how its canonical text goes on behind the string.
 pub data Follows (cs rest bytes : List ℕ) : Type 0 where
   plain : cs ≡ rest → bytes ≡ [] → Follows cs rest bytes
-  leftOff : (given : List ℕ) → Typed (skip cs) rest given → iriText given ≡ xsdString → bytes ≡ [] → Follows cs rest bytes
-  typed : (given : List ℕ) → Typed (skip cs) rest given → (iriText given ≡ xsdString → ⊥) → bytes ≡ codes "^^" ++ iriText given → Follows cs rest bytes
+  left_off : (given : List ℕ) → Typed (skip cs) rest given → iri_text given ≡ xsd_string → bytes ≡ [] → Follows cs rest bytes
+  typed : (given : List ℕ) → Typed (skip cs) rest given → (iri_text given ≡ xsd_string → ⊥) → bytes ≡ codes "^^" ++ iri_text given → Follows cs rest bytes
   tagged : (given : List ℕ) → Tagged (skip cs) rest given → bytes ≡ code "@" ∷ lowered given → Follows cs rest bytes
 
 -- ---- what is to come, by the mode of the cursor
@@ -56,7 +56,7 @@ pub record TermComing (line : List ℕ) (end place : ℕ) (bytes : List ℕ) : T
 pub record IriComing (line : List ℕ) (end place : ℕ) (bytes : List ℕ) : Type 0 where
   pub given : List ℕ
   pub rest : List ℕ
-  pub reads : Reads line place iriStep outside given rest
+  pub reads : Reads line place iri_step outside given rest
   pub ends : At line end rest
   pub same : bytes ≡ utf8 given ++ (code ">" ∷ [])
 
@@ -74,15 +74,15 @@ pub record StringComing (line : List ℕ) (end place : ℕ) (bytes : List ℕ) :
   pub behind : List ℕ
   pub rest : List ℕ
   pub more : List ℕ
-  pub reads : Reads line place stringStep outside given behind
+  pub reads : Reads line place string_step outside given behind
   pub ends : At line end rest
   pub follows : Follows behind rest more
-  pub same : bytes ≡ canonicalChars given ++ (code "\"" ∷ more)
+  pub same : bytes ≡ canonical_chars given ++ (code "\"" ∷ more)
 
 -- At the mark of a datatype or a tag that is shown.
 pub data Shown (cs rest bytes : List ℕ) : Type 0 where
-  typedAt : (given : List ℕ) → Typed cs rest given → bytes ≡ codes "^^" ++ iriText given → Shown cs rest bytes
-  taggedAt : (given : List ℕ) → Tagged cs rest given → bytes ≡ code "@" ∷ lowered given → Shown cs rest bytes
+  typed_at : (given : List ℕ) → Typed cs rest given → bytes ≡ codes "^^" ++ iri_text given → Shown cs rest bytes
+  tagged_at : (given : List ℕ) → Tagged cs rest given → bytes ≡ code "@" ∷ lowered given → Shown cs rest bytes
 
 -- Behind a literal's string, at the mark of what is shown of its datatype or tag, up to the end of the term.
 pub record SuffixComing (line : List ℕ) (end place : ℕ) (bytes : List ℕ) : Type 0 where
@@ -137,8 +137,8 @@ pub record SomeFollows (line : List ℕ) (end place : ℕ) : Type 0 where
   pub follows : Follows chars rest more
 
 -- xsd:string behind its first mark.
-abbrev pub typeTail : List ℕ
-typeTail = codes "http://www.w3.org/2001/XMLSchema#string>"
+abbrev pub type_tail : List ℕ
+type_tail = codes "http://www.w3.org/2001/XMLSchema#string>"
 
 -- ---- pieces
 

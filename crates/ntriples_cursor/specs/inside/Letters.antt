@@ -3,5 +3,5 @@ use Rattle.std.specs.Prelude.{ℕ, cond, eqb}
 use Prim.Native.Char.{code}
 
 -- The letter behind the backslash of a character that is escaped in canonical text, 0 for any other.
-unfoldable pub letterOf : ℕ → ℕ
-letterOf c = cond (eqb c 0x22) (code "\"") (cond (eqb c 0x5C) (code "\\") (cond (eqb c 0x0A) (code "n") (cond (eqb c 0x0D) (code "r") 0)))
+unfoldable pub letter_of : ℕ → ℕ
+letter_of c = cond (eqb c 0x22) (code "\"") (cond (eqb c 0x5C) (code "\\") (cond (eqb c 0x0A) (code "n") (cond (eqb c 0x0D) (code "r") 0)))

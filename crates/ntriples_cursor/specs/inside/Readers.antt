@@ -1,10 +1,10 @@
 -- Characters of IRIs and strings at indices of a line, escapes resolved. Definitions only.
 use Rattle.std.specs.Prelude.{ℕ, zero, suc, ◌+◌, ◌≤◌, ◌<◌, ◌≡◌, Bool, List, ◌∷◌, length}
 use Prim.Native.Char.{code}
-use Rattle.spec_ntriples.specs.Utf8.{encodeChar}
-use Rattle.spec_ntriples.specs.Characters.{noChar, echar}
-use Rattle.spec_ntriples.specs.computed.Terminals.{State, outside, slash, digits, Step, ends, breaks, leads, gives, hexStep, scan, got}
-use Rattle.spec_ntriples.specs.Texts.{canonicalChar}
+use Rattle.spec_ntriples.specs.Utf8.{encode_char}
+use Rattle.spec_ntriples.specs.Characters.{no_char, echar}
+use Rattle.spec_ntriples.specs.computed.Terminals.{State, outside, slash, digits, Step, ends, breaks, leads, gives, hex_step, scan, got}
+use Rattle.spec_ntriples.specs.Texts.{canonical_char}
 use Rattle.ntriples_bytes.specs.inside.Places.{At}
 use Rattle.ntriples_bytes.specs.declared.Mark.{Mark}
 
@@ -14,11 +14,11 @@ pub record IsReader (step : State → ℕ → Step) (close : ℕ) : Type 0 where
   pub allowed : ℕ → Bool
   pub closes : step outside close ≡ ends
   pub escapes : step outside (code "\\") ≡ leads slash
-  pub plain : (c : ℕ) → (c ≡ close → ⊥) → (c ≡ code "\\" → ⊥) → (step outside c ≡ breaks → ⊥) → (step outside c ≡ gives c) × (canonicalChar c ≡ encodeChar c)
+  pub plain : (c : ℕ) → (c ≡ close → ⊥) → (c ≡ code "\\" → ⊥) → (step outside c ≡ breaks → ⊥) → (step outside c ≡ gives c) × (canonical_char c ≡ encode_char c)
   pub short : step slash (code "u") ≡ leads (digits 4 0)
   pub long : step slash (code "U") ≡ leads (digits 8 0)
-  pub letter : (c : ℕ) → (c ≡ code "u" → ⊥) → (c ≡ code "U" → ⊥) → (step slash c ≡ breaks → ⊥) → (step slash c ≡ gives (echar c)) × echar c < noChar
-  pub number : (left v c : ℕ) → step (digits left v) c ≡ hexStep allowed left v c
+  pub letter : (c : ℕ) → (c ≡ code "u" → ⊥) → (c ≡ code "U" → ⊥) → (step slash c ≡ breaks → ⊥) → (step slash c ≡ gives (echar c)) × echar c < no_char
+  pub number : (left v c : ℕ) → step (digits left v) c ≡ hex_step allowed left v c
 
 -- A reader that stands at an index in a state has characters ds still to give before its terminal ends, behind which others stand.
 pub record Reads (line : List ℕ) (at : ℕ) (step : State → ℕ → Step) (s : State) (ds rest : List ℕ) : Type 0 where
@@ -56,7 +56,7 @@ pub record Gives (line : List ℕ) (from before : ℕ) (step : State → ℕ →
   pub same : ds ≡ m.code ∷ later
   pub reads : Reads line m.next step outside later rest
   pub small : m.code < 0x200000
-  pub room : from + length (canonicalChar m.code) ≤ before + m.next
+  pub room : from + length (canonical_char m.code) ≤ before + m.next
 
 -- A character was given, and a reader goes on at an index.
 pub record Given (line : List ℕ) (at : ℕ) (step : State → ℕ → Step) (c : ℕ) (ds rest : List ℕ) : Type 0 where

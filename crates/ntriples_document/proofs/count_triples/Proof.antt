@@ -1,7 +1,7 @@
 use borrow.Author.Rules.{rules}
 use native.Mathlib.Omega.{arith}
 use mathlib.Core.Path.{◌≡◌, refl, sym, ◌∙◌, ap}
-use Rattle.ntriples_document.proofs.Counting.{CharsOf, chars-of, utf8-whole, line-decoded, line-broken, Counts, none-counted, all-counted, end-within, beyond, wrong-line, empty-line, full-line}
+use Rattle.ntriples_document.proofs.Counting.{CharsOf, chars_of_lem, utf8_whole, line_decoded, line_broken, Counts, none-counted, all-counted, end-within, beyond, wrong_line, empty_line_lem, full_line}
 use Rattle.ntriples_lines.proofs.Lines.{line_same}
 use lib.ListN.{length}
 use Prim.Native.Nat.{◌-◌}
@@ -37,7 +37,7 @@ part-line-of-start c = search rules
 
 -- src/lib.rt:63:23
 part-line-of-end : tie.Need-slice-bounds-line-of-end invariant-loop decreases-loop
-part-line-of-end c = omega (arith, end-within c.before.before.before.before.args.file.now c.before.before.loop.from c.before.before.loop.invariant.within, c.line-end.ensures)
+part-line-of-end c = omega (arith, end-within c.before.before.before.before.args.file.now c.before.before.loop.from c.before.before.loop.invariant.within, c.line_end.ensures)
 
 -- src/lib.rt:63:15
 line-of-requires : tie.Need-line-of-requires invariant-loop decreases-loop
@@ -49,7 +49,7 @@ enum_told c = search rules
 
 -- src/lib.rt:65:17
 returns : tie.Need-returns invariant-loop decreases-loop
-returns c = wrong-line c.before.before.before.before.before.before.before.before.args.file.now c.before.before.before.before.before.before.loop.from c.before.before.before.before.before.before.loop.count c.before.before.before.before.before.before.loop.invariant c.before.before.before.before.before.loop-test.true c.before.before.before.before.line-end.result c.before.before.before.before.line-end.ensures (rw c.enum_told.given.1 at c.before.before.Line-of.ensures)
+returns c = wrong_line c.before.before.before.before.before.before.before.before.args.file.now c.before.before.before.before.before.before.loop.from c.before.before.before.before.before.before.loop.count c.before.before.before.before.before.before.loop.invariant c.before.before.before.before.before.loop-test.true c.before.before.before.before.line_end.result c.before.before.before.before.line_end.ensures (rw c.enum_told.given.1 at c.before.before.Line-of.ensures)
 
 -- src/lib.rt:68:17
 enum-told-2 : tie.Need-enum-told-2 invariant-loop decreases-loop
@@ -61,11 +61,11 @@ next-line-requires c κs = search rules
 
 -- src/lib.rt:61:5
 loop-less : tie.Need-loop-smaller invariant-loop decreases-loop
-loop-less c = omega (arith, beyond c.before.before.before.before.before.before.before.before.before.args.file.now c.before.before.before.before.before.before.before.loop.from c.before.before.before.before.before.before.before.loop.count c.before.before.before.before.before.before.before.loop.invariant c.before.before.before.before.before.before.loop-test.true c.before.before.before.before.before.line-end.result c.before.before.before.before.before.line-end.ensures c.next-line.result c.next-line.ensures, c.before.before.before.before.before.before.loop-test.true)
+loop-less c = omega (arith, beyond c.before.before.before.before.before.before.before.before.before.args.file.now c.before.before.before.before.before.before.before.loop.from c.before.before.before.before.before.before.before.loop.count c.before.before.before.before.before.before.before.loop.invariant c.before.before.before.before.before.before.loop-test.true c.before.before.before.before.before.line_end.result c.before.before.before.before.before.line_end.ensures c.next-line.result c.next-line.ensures, c.before.before.before.before.before.before.loop-test.true)
 
 -- src/lib.rt:61:5
 loop-again : tie.Need-loop-preserved invariant-loop decreases-loop
-loop-again c = empty-line c.before.before.before.before.before.before.before.before.before.args.file.now c.before.before.before.before.before.before.before.loop.from c.before.before.before.before.before.before.before.loop.count c.before.before.before.before.before.before.before.loop.invariant c.before.before.before.before.before.before.loop-test.true c.before.before.before.before.before.line-end.result c.before.before.before.before.before.line-end.ensures c.next-line.result c.next-line.ensures (rw c.before.enum-told2.given.1 at c.before.before.before.Line-of.ensures)
+loop-again c = empty_line_lem c.before.before.before.before.before.before.before.before.before.args.file.now c.before.before.before.before.before.before.before.loop.from c.before.before.before.before.before.before.before.loop.count c.before.before.before.before.before.before.before.loop.invariant c.before.before.before.before.before.before.loop-test.true c.before.before.before.before.before.line_end.result c.before.before.before.before.before.line_end.ensures c.next-line.result c.next-line.ensures (rw c.before.enum-told2.given.1 at c.before.before.before.Line-of.ensures)
 
 -- src/lib.rt:71:17
 enum-told-3 : tie.Need-enum-told-3 invariant-loop decreases-loop
@@ -81,11 +81,11 @@ next-line-requires-2 c κs = search rules
 
 -- src/lib.rt:61:5
 loop-less-2 : tie.Need-loop-smaller-2 invariant-loop decreases-loop
-loop-less-2 c = omega (arith, beyond c.before.before.before.before.before.before.before.before.before.args.file.now c.before.before.before.before.before.before.before.loop.from c.before.before.before.before.before.before.before.loop.count c.before.before.before.before.before.before.before.loop.invariant c.before.before.before.before.before.before.loop-test.true c.before.before.before.before.before.line-end.result c.before.before.before.before.before.line-end.ensures c.next-line2.result c.next-line2.ensures, c.before.before.before.before.before.before.loop-test.true)
+loop-less-2 c = omega (arith, beyond c.before.before.before.before.before.before.before.before.before.args.file.now c.before.before.before.before.before.before.before.loop.from c.before.before.before.before.before.before.before.loop.count c.before.before.before.before.before.before.before.loop.invariant c.before.before.before.before.before.before.loop-test.true c.before.before.before.before.before.line_end.result c.before.before.before.before.before.line_end.ensures c.next-line2.result c.next-line2.ensures, c.before.before.before.before.before.before.loop-test.true)
 
 -- src/lib.rt:61:5
 loop-again-2 : tie.Need-loop-preserved-2 invariant-loop decreases-loop
-loop-again-2 c = full-line c.before.before.before.before.before.before.before.before.before.args.file.now c.before.before.before.before.before.before.before.loop.from c.before.before.before.before.before.before.before.loop.count c.before.before.before.before.before.before.before.loop.invariant c.before.before.before.before.before.before.loop-test.true c.before.before.before.before.before.line-end.result c.before.before.before.before.before.line-end.ensures c.next-line2.result c.next-line2.ensures (rw c.before.enum-told3.given.1 at c.before.before.before.Line-of.ensures).triple (rw c.before.enum-told3.given.1 at c.before.before.before.Line-of.ensures).same
+loop-again-2 c = full_line c.before.before.before.before.before.before.before.before.before.args.file.now c.before.before.before.before.before.before.before.loop.from c.before.before.before.before.before.before.before.loop.count c.before.before.before.before.before.before.before.loop.invariant c.before.before.before.before.before.before.loop-test.true c.before.before.before.before.before.line_end.result c.before.before.before.before.before.line_end.ensures c.next-line2.result c.next-line2.ensures (rw c.before.enum-told3.given.1 at c.before.before.before.Line-of.ensures).triple (rw c.before.enum-told3.given.1 at c.before.before.before.Line-of.ensures).same
 
 -- src/lib.rt:56:1
 returns-2 : tie.Need-returns-2 invariant-loop decreases-loop

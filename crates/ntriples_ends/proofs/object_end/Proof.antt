@@ -1,7 +1,7 @@
 use mathlib.Core.Path.{ap}
 use Prim.Native.Char.{code}
 use lib.Dec.{eqb}
-use Rattle.ntriples_terminals.specs.inside.Ends.{behindRead}
+use Rattle.ntriples_terminals.specs.inside.Ends.{behind_read}
 use Rattle.ntriples_terminals.proofs.Ending.{end_same}
 use Rattle.ntriples_ends.proofs.Ends.{missing, found, behind-utf8}
 use Rattle.ntriples_ends.proofs.Heads.{object-subject, object-literal}
@@ -28,10 +28,10 @@ literal-end-requires : tie.Need-literal-end-requires
 literal-end-requires c κs = behind-utf8 (λ x. eqb x (code "\"")) c.before.before.before.before.before.args.line.now c.before.before.before.before.before.args.at c.before.before.before.mark-end.result c.before.before.before.mark-end.ensures _ c.before.next.given.1
 
 returns : tie.Need-returns
-returns c = end_same c.before.before.before.before.before.args.line.now _ _ c.subject-end.result (ap behindRead (object-subject _ (missing (λ x. eqb x (code "\"")) c.before.before.before.before.before.args.line.now c.before.before.before.before.before.args.at c.before.before.before.mark-end.result c.before.before.before.mark-end.ensures c.before.enum_told.given.1))) c.subject-end.ensures
+returns c = end_same c.before.before.before.before.before.args.line.now _ _ c.subject-end.result (ap behind_read (object-subject _ (missing (λ x. eqb x (code "\"")) c.before.before.before.before.before.args.line.now c.before.before.before.before.before.args.at c.before.before.before.mark-end.result c.before.before.before.mark-end.ensures c.before.enum_told.given.1))) c.subject-end.ensures
 
 returns-2 : tie.Need-returns-2
-returns-2 c = end_same c.before.before.before.before.before.before.args.line.now _ _ c.literal-end.result (ap behindRead (object-literal _ _ (found (λ x. eqb x (code "\"")) c.before.before.before.before.before.before.args.line.now c.before.before.before.before.before.before.args.at c.before.before.before.before.mark-end.result c.before.before.before.before.mark-end.ensures _ c.before.before.next.given.1))) c.literal-end.ensures
+returns-2 c = end_same c.before.before.before.before.before.before.args.line.now _ _ c.literal_end.result (ap behind_read (object-literal _ _ (found (λ x. eqb x (code "\"")) c.before.before.before.before.before.before.args.line.now c.before.before.before.before.before.before.args.at c.before.before.before.before.mark-end.result c.before.before.before.before.mark-end.ensures _ c.before.before.next.given.1))) c.literal_end.ensures
 
 pub object-end-spec : {M : Type 1} → statement M
 object-end-spec =

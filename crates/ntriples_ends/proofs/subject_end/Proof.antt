@@ -1,10 +1,10 @@
 use mathlib.Core.Path.{ap}
 use Prim.Native.Char.{code}
 use lib.Dec.{eqb}
-use Rattle.ntriples_terminals.specs.inside.Ends.{behindRead}
+use Rattle.ntriples_terminals.specs.inside.Ends.{behind_read}
 use Rattle.ntriples_terminals.proofs.Ending.{end_same}
 use Rattle.ntriples_ends.proofs.Ends.{missing, found, behind-utf8}
-use Rattle.ntriples_ends.proofs.Heads.{subject-iri, subject-blank}
+use Rattle.ntriples_ends.proofs.Heads.{subject_iri, subject_blank}
 use borrow.Author.Rules.{rules}
 use Rattle.ntriples_ends.proofs.subject_end.Statement.{statement}
 use Rattle.ntriples_ends.proofs.subject_end.Tie as tie
@@ -28,10 +28,10 @@ blank-end-requires : tie.Need-blank-end-requires
 blank-end-requires c κs = behind-utf8 (λ x. eqb x (code "_")) c.before.before.before.before.before.args.line.now c.before.before.before.before.before.args.at c.before.before.before.mark-end.result c.before.before.before.mark-end.ensures _ c.before.next.given.1
 
 returns : tie.Need-returns
-returns c = end_same c.before.before.before.before.before.args.line.now _ _ c.iri-end.result (ap behindRead (subject-iri _ (missing (λ x. eqb x (code "_")) c.before.before.before.before.before.args.line.now c.before.before.before.before.before.args.at c.before.before.before.mark-end.result c.before.before.before.mark-end.ensures c.before.enum_told.given.1))) c.iri-end.ensures
+returns c = end_same c.before.before.before.before.before.args.line.now _ _ c.iri_end.result (ap behind_read (subject_iri _ (missing (λ x. eqb x (code "_")) c.before.before.before.before.before.args.line.now c.before.before.before.before.before.args.at c.before.before.before.mark-end.result c.before.before.before.mark-end.ensures c.before.enum_told.given.1))) c.iri_end.ensures
 
 returns-2 : tie.Need-returns-2
-returns-2 c = end_same c.before.before.before.before.before.before.args.line.now _ _ c.blank-end.result (ap behindRead (subject-blank _ _ (found (λ x. eqb x (code "_")) c.before.before.before.before.before.before.args.line.now c.before.before.before.before.before.before.args.at c.before.before.before.before.mark-end.result c.before.before.before.before.mark-end.ensures _ c.before.before.next.given.1))) c.blank-end.ensures
+returns-2 c = end_same c.before.before.before.before.before.before.args.line.now _ _ c.blank-end.result (ap behind_read (subject_blank _ _ (found (λ x. eqb x (code "_")) c.before.before.before.before.before.before.args.line.now c.before.before.before.before.before.before.args.at c.before.before.before.before.mark-end.result c.before.before.before.before.mark-end.ensures _ c.before.before.next.given.1))) c.blank-end.ensures
 
 pub subject-end-spec : {M : Type 1} → statement M
 subject-end-spec =

@@ -1,6 +1,6 @@
 use mathlib.Core.Path.{sym, ◌∙◌}
 use Rattle.spec_ntriples.specs.Dictionary.{entries}
-use Rattle.ntriples_copy.proofs.Vocabulary.{vocabulary-has, entry_has}
+use Rattle.ntriples_copy.proofs.Vocabulary.{vocabulary_has, entry_has}
 use borrow.Author.Rules.{rules}
 use Rattle.ntriples_have_texts.proofs.has_text.Statement.{statement}
 use Rattle.ntriples_have_texts.proofs.has_text.Tie as tie
@@ -15,7 +15,7 @@ is-vocabulary-requires c κs = search rules
 
 -- src/lib.rt:22:9
 returns : tie.Need-returns
-returns c = λ bs d F. vocabulary-has (entries bs) c.before.before.args.term (sym c.before.is-vocabulary.ensures ∙ c.if1.true)
+returns c = λ bs d F. vocabulary_has (entries bs) c.before.before.args.term (sym c.before.is-vocabulary.ensures ∙ c.if1.true)
 
 -- src/lib.rt:24:5
 has-entry-requires : tie.Need-has-entry-requires

@@ -8,10 +8,10 @@ use native.Mathlib.Omega.{arith}
 use borrow.Author.Tests.{not-true, not-false}
 use Rattle.spec.specs.Lists.{all}
 use Rattle.spec.specs.Tables.{rows}
-use Rattle.spec_ntriples.specs.Dictionary.{entries, isDictionary}
-use Rattle.spec_writing.specs.Writing.{hasText, hasTexts}
+use Rattle.spec_ntriples.specs.Dictionary.{entries, is_dictionary}
+use Rattle.spec_writing.specs.Writing.{has_text, has_texts}
 use Rattle.dictionary_bytes.specs.inside.Entries.{FilledBy}
-use Rattle.ntriples_have_texts.proofs.Words.{between, texts-first, texts-stop, texts-more, texts-end}
+use Rattle.ntriples_have_texts.proofs.Words.{between, texts_first, texts_stop, texts_more, texts_end}
 use Rattle.ntriples_have_texts.proofs.have_texts.Statement.{statement}
 use Rattle.ntriples_have_texts.proofs.have_texts.Tie as tie
 use Rattle.ntriples_have_texts.proofs.have_texts.Reads as reads
@@ -19,7 +19,7 @@ use Rattle.ntriples_have_texts.proofs.have_texts.Lts as lts
 use Rattle.ntriples_have_texts.proofs.has_text.Reads as has-text-reads
 
 abbrev invariant-loop : tie.invariant-loop
-invariant-loop table f end i₀ i = (1 ≤ i) × ((i ≤ end) × ((end ≤ length table) × ((bs : List ℕ) → isDictionary bs ≡ true → FilledBy bs f (entries bs) → all (hasText (entries bs)) (between table i end) ≡ all (hasTexts (entries bs)) (rows table))))
+invariant-loop table f end i₀ i = (1 ≤ i) × ((i ≤ end) × ((end ≤ length table) × ((bs : List ℕ) → is_dictionary bs ≡ true → FilledBy bs f (entries bs) → all (has_text (entries bs)) (between table i end) ≡ all (has_texts (entries bs)) (rows table))))
 
 abbrev decreases-loop : tie.decreases-loop
 decreases-loop table f end i₀ i = end - i
@@ -42,7 +42,7 @@ add-end c = search rules
 
 -- src/lib.rt:34:5
 loop-holds : tie.Need-loop-init invariant-loop decreases-loop
-loop-holds c = (omega arith, (omega arith, (omega (arith, c.before.before.requires.counted, c.before.before.requires.fits), λ bs d F. texts-first (entries bs) c.before.before.args.table.now _ c.before.before.requires refl)))
+loop-holds c = (omega arith, (omega arith, (omega (arith, c.before.before.requires.counted, c.before.before.requires.fits), λ bs d F. texts_first (entries bs) c.before.before.args.table.now _ c.before.before.requires refl)))
 
 -- src/lib.rt:35:25
 mul-has-text : tie.Need-overflow-mul-has-text invariant-loop decreases-loop
@@ -58,7 +58,7 @@ has-text-requires c κs = search rules
 
 -- src/lib.rt:36:13
 returns : tie.Need-returns invariant-loop decreases-loop
-returns c = λ bs d F. sym (texts-stop (entries bs) c.before.before.before.before.before.before.before.args.table.now _ c.before.before.before.before.loop.i (omega arith) c.before.before.before.before.loop.invariant.1.1.0 (sym (c.before.has-text.ensures bs d F) ∙ not-true _ c.if1.true)) ∙ c.before.before.before.before.loop.invariant.1.1.1 bs d F
+returns c = λ bs d F. sym (texts_stop (entries bs) c.before.before.before.before.before.before.before.args.table.now _ c.before.before.before.before.loop.i (omega arith) c.before.before.before.before.loop.invariant.1.1.0 (sym (c.before.has-text.ensures bs d F) ∙ not-true _ c.if1.true)) ∙ c.before.before.before.before.loop.invariant.1.1.1 bs d F
 
 -- src/lib.rt:38:9
 add-i : tie.Need-overflow-add-i invariant-loop decreases-loop
@@ -70,11 +70,11 @@ loop-less c = search rules
 
 -- src/lib.rt:34:5
 loop-again : tie.Need-loop-preserved invariant-loop decreases-loop
-loop-again c = (omega arith, (omega arith, (c.before.before.before.before.loop.invariant.1.1.0, λ bs d F. texts-more (entries bs) c.before.before.before.before.before.before.before.args.table.now _ c.before.before.before.before.loop.i (omega arith) c.before.before.before.before.loop.invariant.1.1.0 (sym (c.before.has-text.ensures bs d F) ∙ not-false _ c.if1.false) ∙ c.before.before.before.before.loop.invariant.1.1.1 bs d F)))
+loop-again c = (omega arith, (omega arith, (c.before.before.before.before.loop.invariant.1.1.0, λ bs d F. texts_more (entries bs) c.before.before.before.before.before.before.before.args.table.now _ c.before.before.before.before.loop.i (omega arith) c.before.before.before.before.loop.invariant.1.1.0 (sym (c.before.has-text.ensures bs d F) ∙ not-false _ c.if1.false) ∙ c.before.before.before.before.loop.invariant.1.1.1 bs d F)))
 
 -- src/lib.rt:28:1
 returns-2 : tie.Need-returns-2 invariant-loop decreases-loop
-returns-2 c = λ bs d F. sym (texts-end (entries bs) c.before.before.before.before.args.table.now _ c.before.loop.i (omega arith)) ∙ c.before.loop.invariant.1.1.1 bs d F
+returns-2 c = λ bs d F. sym (texts_end (entries bs) c.before.before.before.before.args.table.now _ c.before.loop.i (omega arith)) ∙ c.before.loop.invariant.1.1.1 bs d F
 
 pub have-texts-spec : {M : Type 1} → statement M
 have-texts-spec =

@@ -1,4 +1,4 @@
-use Rattle.ntriples_labels.specs.inside.Inside.{goesOn}
+use Rattle.ntriples_labels.specs.inside.Inside.{goes_on}
 use borrow.Author.Rules.{rules}
 use Rattle.ntriples_labels.proofs.goes_on.Statement.{statement}
 use Rattle.ntriples_labels.proofs.goes_on.Tie as tie
@@ -10,11 +10,11 @@ is-letter-or-digit-requires : tie.Need-is-letter-or-digit-requires
 is-letter-or-digit-requires c κs = search rules
 
 returns : tie.Need-returns
-unfolding goesOn
+unfolding goes_on
 returns c = rw c.before.if1.true c.is-letter.ensures
 
 returns-2 : tie.Need-returns-2
-unfolding goesOn
+unfolding goes_on
 returns-2 c = rw c.before.if1.false c.is-letter-or-digit.ensures
 
 pub goes-on-spec : {M : Type 1} → statement M

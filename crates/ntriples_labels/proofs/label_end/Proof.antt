@@ -3,7 +3,7 @@ use native.Mathlib.Omega.{arith}
 use mathlib.Core.Path.{sym, ◌∙◌}
 use lib.ListN.{length}
 use Prim.Native.Nat.{◌-◌}
-use Rattle.ntriples_labels.proofs.Naming.{InLabel, label-start, label-end, label-on, label-dotted, label-off}
+use Rattle.ntriples_labels.proofs.Naming.{InLabel, label_start, label_end, label-on, label-dotted, label-off}
 use Rattle.ntriples_labels.proofs.label_end.Statement.{statement}
 use Rattle.ntriples_labels.proofs.label_end.Tie as tie
 
@@ -14,7 +14,7 @@ abbrev decreases-loop : tie.decreases-loop
 decreases-loop line from end₀ at₀ end at = length line - at
 
 loop-holds : tie.Need-loop-init invariant-loop decreases-loop
-loop-holds c = label-start c.before.args.line.now c.before.args.from c.before.requires
+loop-holds c = label_start c.before.args.line.now c.before.args.from c.before.requires
 
 char-at-requires : tie.Need-char-at-requires invariant-loop decreases-loop
 char-at-requires c κs = (c.before.loop.invariant.utf8, c.loop-test.true)
@@ -41,7 +41,7 @@ loop-again-2 : tie.Need-loop-preserved-2 invariant-loop decreases-loop
 loop-again-2 c = label-dotted c.before.before.before.before.before.before.before.before.args.line.now c.before.before.before.before.before.before.before.before.args.from c.before.before.before.before.before.before.loop.end c.before.before.before.before.before.before.loop.at c.before.before.before.before.before.before.loop.invariant _ c.before.before.before.before.char-at.ensures (sym c.before.before.before.is-pn-chars.ensures ∙ c.before.before.if1.false) c.if2.false
 
 returns-2 : tie.Need-returns-2 invariant-loop decreases-loop
-returns-2 c = label-end c.before.before.before.args.line.now c.before.before.before.args.from c.before.loop.end c.before.loop.at c.before.loop.invariant (search rules)
+returns-2 c = label_end c.before.before.before.args.line.now c.before.before.before.args.from c.before.loop.end c.before.loop.at c.before.loop.invariant (search rules)
 
 pub label-end-spec : {M : Type 1} → statement M
 label-end-spec =

@@ -3,8 +3,8 @@ use native.Mathlib.Omega.{arith}
 use mathlib.Core.Path.{sym, ◌∙◌}
 use lib.ListN.{length}
 use Prim.Native.Nat.{◌-◌}
-use Rattle.ntriples_bytes.proofs.Decoding.{from-marked}
-use Rattle.ntriples_labels.proofs.Naming.{InTag, tag-start, tag-end, tag-on, tag-off, tag-stop, tag-hyphen}
+use Rattle.ntriples_bytes.proofs.Decoding.{from_marked}
+use Rattle.ntriples_labels.proofs.Naming.{InTag, tag_start, tag_end, tag-on, tag-off, tag-stop, tag-hyphen}
 use borrow.Author.Tests.{not-true, not-false}
 use Rattle.ntriples_labels.proofs.tag_end.Statement.{statement}
 use Rattle.ntriples_labels.proofs.tag_end.Tie as tie
@@ -16,7 +16,7 @@ abbrev decreases-loop : tie.decreases-loop
 decreases-loop line from letters₀ at₀ letters at = length line - at
 
 loop-holds : tie.Need-loop-init invariant-loop decreases-loop
-loop-holds c = tag-start c.before.args.line.now c.before.args.from c.before.requires
+loop-holds c = tag_start c.before.args.line.now c.before.args.from c.before.requires
 
 char-at-requires : tie.Need-char-at-requires invariant-loop decreases-loop
 char-at-requires c κs = (c.before.loop.invariant.utf8, c.loop-test.true)
@@ -37,7 +37,7 @@ returns : tie.Need-returns invariant-loop decreases-loop
 returns c = tag-off c.before.before.before.before.before.before.before.before.args.line.now c.before.before.before.before.before.before.before.before.args.from c.before.before.before.before.before.before.loop.letters c.before.before.before.before.before.before.loop.at c.before.before.before.before.before.before.loop.invariant _ c.before.before.before.before.char-at.ensures (sym c.before.before.before.goes_on.ensures ∙ c.before.before.if1.false) c.if2.true
 
 is-at-tag-requires : tie.Need-is-at-tag-requires invariant-loop decreases-loop
-is-at-tag-requires c κs = from-marked c.before.before.before.before.char-at.ensures
+is-at-tag-requires c κs = from_marked c.before.before.before.before.char-at.ensures
 
 returns-2 : tie.Need-returns-2 invariant-loop decreases-loop
 returns-2 c = tag-stop c.before.before.before.before.before.before.before.before.before.before.args.line.now c.before.before.before.before.before.before.before.before.before.before.args.from c.before.before.before.before.before.before.before.before.loop.letters c.before.before.before.before.before.before.before.before.loop.at c.before.before.before.before.before.before.before.before.loop.invariant _ c.before.before.before.before.before.before.char-at.ensures (sym c.before.before.before.before.before.goes_on.ensures ∙ c.before.before.before.before.if1.false) c.before.before.if2.false (sym c.before.is-at-tag.ensures ∙ not-true _ c.if3.true)
@@ -49,7 +49,7 @@ loop-again-2 : tie.Need-loop-preserved-2 invariant-loop decreases-loop
 loop-again-2 c = tag-hyphen c.before.before.before.before.before.before.before.before.before.before.args.line.now c.before.before.before.before.before.before.before.before.before.before.args.from c.before.before.before.before.before.before.before.before.loop.letters c.before.before.before.before.before.before.before.before.loop.at c.before.before.before.before.before.before.before.before.loop.invariant _ c.before.before.before.before.before.before.char-at.ensures (sym c.before.before.before.before.before.goes_on.ensures ∙ c.before.before.before.before.if1.false) c.before.before.if2.false (sym c.before.is-at-tag.ensures ∙ not-false _ c.if3.false)
 
 returns-3 : tie.Need-returns-3 invariant-loop decreases-loop
-returns-3 c = tag-end c.before.before.before.args.line.now c.before.before.before.args.from c.before.loop.letters c.before.loop.at c.before.loop.invariant (search rules)
+returns-3 c = tag_end c.before.before.before.args.line.now c.before.before.before.args.from c.before.loop.letters c.before.loop.at c.before.loop.invariant (search rules)
 
 pub tag-end-spec : {M : Type 1} → statement M
 tag-end-spec =

@@ -1,15 +1,15 @@
 -- A batch of lines whose texts get their terms segment by segment. Definitions only.
 use Rattle.std.specs.Prelude.{ℕ, ◌*◌, ◌≤◌, ◌<◌, ◌≡◌, false, ◌&&◌, List, ◌++◌, map, length, leb}
-use Rattle.spec.specs.Tables.{firstRows}
+use Rattle.spec.specs.Tables.{first_rows}
 use Rattle.spec_ntriples.specs.Texts.{TextTriple}
-use Rattle.spec_ntriples.specs.Dictionary.{Entry, bytesOfEntries, areNumbersEnough}
-use Rattle.spec_ntriples.specs.Reading.{withAll, triple_of}
+use Rattle.spec_ntriples.specs.Dictionary.{Entry, bytes_of_entries, are_numbers_enough}
+use Rattle.spec_ntriples.specs.Reading.{with_all, triple_of}
 use Rattle.dictionary_bytes.specs.declared.Filled.{Filled}
 use Rattle.dictionary_bytes.specs.inside.Entries.{FilledBy}
 use Rattle.dictionary_names.specs.inside.Naming.{LastSegment}
 use Rattle.ntriples_terms.specs.inside.Words.{LinesAt}
 use Rattle.ntriples_naming.specs.declared.Last.{Last}
-use Rattle.ntriples_naming.specs.inside.Progress.{linesTexts, AreWords}
+use Rattle.ntriples_naming.specs.inside.Progress.{lines_texts, AreWords}
 use Rattle.ntriples_last.specs.declared.Step.{Step}
 use Rattle.ntriples_last.specs.declared.Step.TheVariants.{Done, Lacks, Next}
 
@@ -24,18 +24,18 @@ pub record IsBatch (file lines : List ℕ) (n : ℕ) (ts : List TextTriple) : Ty
 
 -- All its texts have terms: the dictionary has the entries es with its texts, and the rows are its triples.
 pub record AllNamed (es : List Entry) (ts : List TextTriple) (bs : List ℕ) (f : Filled) (ws : List ℕ) : Type 0 where
-  pub filled : FilledBy bs f (withAll es ts)
-  pub rows : firstRows (length ts) ws ≡ map (triple_of (withAll es ts)) ts
+  pub filled : FilledBy bs f (with_all es ts)
+  pub rows : first_rows (length ts) ws ≡ map (triple_of (with_all es ts)) ts
 
 -- Question 14 says no to some entries in a dictionary of len bytes: they are longer, or a kind has too few numbers.
 abbrev pub DoNotFit : ℕ → List Entry → Type 0
-DoNotFit len es = (leb (length (bytesOfEntries es)) len && areNumbersEnough es) ≡ false
+DoNotFit len es = (leb (length (bytes_of_entries es)) len && are_numbers_enough es) ≡ false
 
 -- The dictionary has the entries es and perhaps more, and with the texts of some triples they do not fit.
 pub record TextsLackSpace (es : List Entry) (ts : List TextTriple) (bs : List ℕ) (f : Filled) : Type 0 where
   pub more : List Entry
   pub filled : FilledBy bs f (es ++ more)
-  pub lacks : DoNotFit (length bs) (withAll es ts)
+  pub lacks : DoNotFit (length bs) (with_all es ts)
 
 -- ---- segments
 
@@ -46,10 +46,10 @@ pub record Looked (es : List Entry) (ts : List TextTriple) (bs : List ℕ) (firs
   pub behind : List Entry
   pub more : List Entry
   pub filled : FilledBy bs f (before ++ behind)
-  pub starts : first ≡ length (bytesOfEntries before)
+  pub starts : first ≡ length (bytes_of_entries before)
   pub grown : before ++ behind ≡ es ++ more
-  pub same : withAll (before ++ behind) ts ≡ withAll es ts
-  pub words : AreWords before (before ++ behind) (linesTexts ts) ws
+  pub same : with_all (before ++ behind) ts ≡ with_all es ts
+  pub words : AreWords before (before ++ behind) (lines_texts ts) ws
 
 -- They were, for some entries and a batch that is noted, with three words for each line.
 pub record CanLook (bs : List ℕ) (first : ℕ) (f : Filled) (file lines : List ℕ) (n : ℕ) (ws : List ℕ) : Type 0 where

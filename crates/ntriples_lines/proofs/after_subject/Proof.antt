@@ -1,6 +1,6 @@
 use Rattle.ntriples_ends.proofs.Ends.{there, not_there, found}
-use Rattle.ntriples_lines.proofs.Lines.{no-term, term_found, iri-object, no-property, after-property, line_same}
-use Rattle.spec_ntriples.specs.computed.Lines.{readIri}
+use Rattle.ntriples_lines.proofs.Lines.{no_term, term_found, iri-object, no_property, after-property, line_same}
+use Rattle.spec_ntriples.specs.computed.Lines.{read_iri}
 use borrow.Author.Rules.{rules}
 use Rattle.ntriples_lines.proofs.after_subject.Statement.{statement}
 use Rattle.ntriples_lines.proofs.after_subject.Tie as tie
@@ -23,15 +23,15 @@ enum-known-end c = search rules
 
 -- src/lib.rt:94:28
 after-property-requires : tie.Need-after-property-requires
-after-property-requires c κs = (there c.before.before.before.before.before.before.args.line.now _ c.before.before.before.iri-end.result c.before.before.before.iri-end.ensures _ c.before.end.given.1).from
+after-property-requires c κs = (there c.before.before.before.before.before.before.args.line.now _ c.before.before.before.iri_end.result c.before.before.before.iri_end.ensures _ c.before.end.given.1).from
 
 -- src/lib.rt:87:1
 returns : tie.Need-returns
-returns c = λ s S. no-property s _ (no-term readIri c.before.before.before.before.before.args.line.now c.before.before.before.skip.result _ c.before.before.before.skip.ensures (not_there c.before.before.before.before.before.args.line.now _ c.before.before.iri-end.result c.before.before.iri-end.ensures c.enum_told.given.1))
+returns c = λ s S. no_property s _ (no_term read_iri c.before.before.before.before.before.args.line.now c.before.before.before.skip.result _ c.before.before.before.skip.ensures (not_there c.before.before.before.before.before.args.line.now _ c.before.before.iri_end.result c.before.before.iri_end.ensures c.enum_told.given.1))
 
 -- src/lib.rt:87:1
 returns-2 : tie.Need-returns-2
-returns-2 c = λ s S. line_same c.before.before.before.before.before.before.before.args.line.now _ _ c.after-property.result (after-property s c.before.before.before.before.before.before.before.args.line.now _ _ _ (term_found readIri c.before.before.before.before.before.before.before.args.line.now c.before.before.before.before.before.skip.result _ c.before.before.before.before.before.skip.ensures iri-object _ (there c.before.before.before.before.before.before.before.args.line.now _ c.before.before.before.before.iri-end.result c.before.before.before.before.iri-end.ensures _ c.before.before.end.given.1))) (c.after-property.ensures s (term_found readIri c.before.before.before.before.before.before.before.args.line.now c.before.before.before.before.before.skip.result _ c.before.before.before.before.before.skip.ensures iri-object _ (there c.before.before.before.before.before.before.before.args.line.now _ c.before.before.before.before.iri-end.result c.before.before.before.before.iri-end.ensures _ c.before.before.end.given.1)).text S (term_found readIri c.before.before.before.before.before.before.before.args.line.now c.before.before.before.before.before.skip.result _ c.before.before.before.before.before.skip.ensures iri-object _ (there c.before.before.before.before.before.before.before.args.line.now _ c.before.before.before.before.iri-end.result c.before.before.before.before.iri-end.ensures _ c.before.before.end.given.1)).has)
+returns-2 c = λ s S. line_same c.before.before.before.before.before.before.before.args.line.now _ _ c.after-property.result (after-property s c.before.before.before.before.before.before.before.args.line.now _ _ _ (term_found read_iri c.before.before.before.before.before.before.before.args.line.now c.before.before.before.before.before.skip.result _ c.before.before.before.before.before.skip.ensures iri-object _ (there c.before.before.before.before.before.before.before.args.line.now _ c.before.before.before.before.iri_end.result c.before.before.before.before.iri_end.ensures _ c.before.before.end.given.1))) (c.after-property.ensures s (term_found read_iri c.before.before.before.before.before.before.before.args.line.now c.before.before.before.before.before.skip.result _ c.before.before.before.before.before.skip.ensures iri-object _ (there c.before.before.before.before.before.before.before.args.line.now _ c.before.before.before.before.iri_end.result c.before.before.before.before.iri_end.ensures _ c.before.before.end.given.1)).text S (term_found read_iri c.before.before.before.before.before.before.before.args.line.now c.before.before.before.before.before.skip.result _ c.before.before.before.before.before.skip.ensures iri-object _ (there c.before.before.before.before.before.before.before.args.line.now _ c.before.before.before.before.iri_end.result c.before.before.before.before.iri_end.ensures _ c.before.before.end.given.1)).has)
 
 pub after-subject-spec : {M : Type 1} → statement M
 after-subject-spec =

@@ -10,9 +10,9 @@ use Rattle.ntriples_lines.specs.declared.Line as code-line
 use Rattle.ntriples_lines.specs.declared.Line.TheVariants.{Wrong, Empty, Full}
 
 -- Whether a dot, and no more, follows.
-unfoldable pub isEnded : List ℕ → Bool
-isEnded [] = false
-isEnded (c ∷ cs) = eqb c (code ".") && is_rest (skip cs)
+unfoldable pub is_ended : List ℕ → Bool
+is_ended [] = false
+is_ended (c ∷ cs) = eqb c (code ".") && is_rest (skip cs)
 
 -- The places of a triple's terms: the texts there are its texts.
 pub record IsFull (line : List ℕ) (l : Line) (k : Tokens) : Type 0 where

@@ -1,5 +1,5 @@
 use Prim.Native.Nat.{◌-◌}
-use Rattle.ntriples_naming.proofs.Batch.{going_on, not_full, not-lacking}
+use Rattle.ntriples_naming.proofs.Batch.{going_on, not_full, not_lacking}
 use borrow.Author.Rules.{rules}
 use Rattle.ntriples_names.proofs.is_going.Statement.{statement}
 use Rattle.ntriples_names.proofs.is_going.Tie as tie
@@ -28,7 +28,7 @@ returns-2 c = not_full c.before.before.args.p _ c.enum-told2.given.1
 
 -- src/lib.rt:115:1
 returns-3 : tie.Need-returns-3
-returns-3 c = not-lacking c.before.before.args.p _ c.enum-told3.given.1
+returns-3 c = not_lacking c.before.before.args.p _ c.enum-told3.given.1
 
 pub is-going-spec : {M : Type 1} → statement M
 is-going-spec = tie.close (tie.spec enum_told enum-told-2 enum-told-3 returns returns-2 returns-3)

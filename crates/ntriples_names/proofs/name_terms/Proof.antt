@@ -8,7 +8,7 @@ use Rattle.ntriples_naming.specs.inside.Progress.{Reached}
 use Rattle.spec_ntriples.specs.Texts.{TextTriple}
 use Rattle.spec_ntriples.specs.Dictionary.{Entry}
 use borrow.Author.Tests.{not-true}
-use Rattle.ntriples_naming.specs.inside.Progress.{linesTexts, Begins}
+use Rattle.ntriples_naming.specs.inside.Progress.{lines_texts, Begins}
 use Rattle.ntriples_naming.proofs.Batch.{stopped, begin-as}
 use Rattle.ntriples_naming.specs.declared.Last.{Last}
 use Rattle.ntriples_naming.specs.declared.Progress.TheVariants.{Going}
@@ -21,7 +21,7 @@ use Rattle.ntriples_names.proofs.is_going.Reads as is-going-reads
 use Rattle.ntriples_names.proofs.name_at.Reads as name-at-reads
 
 abbrev invariant-loop : tie.invariant-loop
-invariant-loop slots₀ dictionary₀ first file lines n terms₀ p₀ i₀ slots dictionary terms p i = (i ≤ n) × (length slots ≡ length slots₀) × (length dictionary ≡ length dictionary₀) × (length terms ≡ length terms₀) × ((ds es : List Entry) (ts : List TextTriple) (l : Last) → p₀ ≡ Going l → Begins ds es ts slots₀ dictionary₀ first l file lines n terms₀ → Reached ds es (linesTexts ts) (i * 3) slots dictionary first terms p)
+invariant-loop slots₀ dictionary₀ first file lines n terms₀ p₀ i₀ slots dictionary terms p i = (i ≤ n) × (length slots ≡ length slots₀) × (length dictionary ≡ length dictionary₀) × (length terms ≡ length terms₀) × ((ds es : List Entry) (ts : List TextTriple) (l : Last) → p₀ ≡ Going l → Begins ds es ts slots₀ dictionary₀ first l file lines n terms₀ → Reached ds es (lines_texts ts) (i * 3) slots dictionary first terms p)
 
 abbrev decreases-loop : tie.decreases-loop
 decreases-loop slots₀ dictionary₀ first file lines n terms₀ p₀ i₀ slots dictionary terms p i = n - i
@@ -48,7 +48,7 @@ same-length-3 c = search rules
 
 -- src/lib.rt:166:13
 returns : tie.Need-returns invariant-loop decreases-loop
-returns c = λ ds es ts B. stopped ds es (linesTexts ts) c.before.before.before.loop.slots c.before.before.before.loop.dictionary c.before.before.before.before.before.before.before.before.before.args.first c.before.before.before.loop.terms c.before.before.before.loop.p (c.before.before.before.loop.i * 3) (c.before.before.before.before.before.before.before.before.before.args.n * 3) (sym c.before.is-going.ensures ∙ not-true _ c.if1.true) (c.before.before.before.loop.invariant.4 ds es ts c.before.before.before.before.before.before.before.before.before.args.last refl B)
+returns c = λ ds es ts B. stopped ds es (lines_texts ts) c.before.before.before.loop.slots c.before.before.before.loop.dictionary c.before.before.before.before.before.before.before.before.before.args.first c.before.before.before.loop.terms c.before.before.before.loop.p (c.before.before.before.loop.i * 3) (c.before.before.before.before.before.before.before.before.before.args.n * 3) (sym c.before.is-going.ensures ∙ not-true _ c.if1.true) (c.before.before.before.loop.invariant.4 ds es ts c.before.before.before.before.before.before.before.before.before.args.last refl B)
 
 -- src/lib.rt:168:56
 mul-name-at : tie.Need-overflow-mul-name-at invariant-loop decreases-loop
@@ -72,7 +72,7 @@ loop-less c = search rules
 
 -- src/lib.rt:164:5
 loop-again : tie.Need-loop-preserved invariant-loop decreases-loop
-loop-again c = (omega (arith, c.before.before.before.before.before.before.before.before.before.before.before.before.before.loop-test.true), c.before.before.before.before.before.before.name-at.auto.1.0 ∙ c.before.before.before.before.before.before.before.before.before.before.before.before.before.before.loop.invariant.1, c.before.before.before.before.before.before.name-at.auto.1.1.0 ∙ c.before.before.before.before.before.before.before.before.before.before.before.before.before.before.loop.invariant.2, c.before.before.before.before.before.before.name-at.auto.1.1.1.1.1.1.0 ∙ c.before.before.before.before.before.before.before.before.before.before.before.before.before.before.loop.invariant.3, λ ds es ts l q B. let e : c.before.before.before.before.before.before.before.before.before.before.before.before.before.before.loop.i * 3 + 3 ≡ (c.before.before.before.before.before.before.before.before.before.before.before.before.before.before.loop.i + 1) * 3 = omega arith in reached-at ds es (linesTexts ts) c.before.before.before.before.before.before.name-at.new.1.0 c.before.before.before.before.before.before.name-at.new.1.1.0 c.before.before.before.before.before.before.before.before.before.before.before.before.before.before.before.before.before.before.before.before.args.first c.before.before.before.before.before.before.name-at.new.1.1.1.1.1.1.0 c.before.before.before.before.before.before.name-at.result (c.before.before.before.before.before.before.before.before.before.before.before.before.before.before.loop.i * 3 + 3) ((c.before.before.before.before.before.before.before.before.before.before.before.before.before.before.loop.i + 1) * 3) e (c.before.before.before.before.before.before.name-at.ensures ds es ts (omega (arith, c.before.before.before.before.before.before.before.before.before.before.before.before.before.loop-test.true, B.counted)) (B.stand c.before.before.before.before.before.before.before.before.before.before.before.before.before.before.loop.i c.before.before.before.before.before.before.before.before.before.before.before.before.before.loop-test.true) (c.before.before.before.before.before.before.before.before.before.before.before.before.before.before.loop.invariant.4 ds es ts l q B)))
+loop-again c = (omega (arith, c.before.before.before.before.before.before.before.before.before.before.before.before.before.loop-test.true), c.before.before.before.before.before.before.name-at.auto.1.0 ∙ c.before.before.before.before.before.before.before.before.before.before.before.before.before.before.loop.invariant.1, c.before.before.before.before.before.before.name-at.auto.1.1.0 ∙ c.before.before.before.before.before.before.before.before.before.before.before.before.before.before.loop.invariant.2, c.before.before.before.before.before.before.name-at.auto.1.1.1.1.1.1.0 ∙ c.before.before.before.before.before.before.before.before.before.before.before.before.before.before.loop.invariant.3, λ ds es ts l q B. let e : c.before.before.before.before.before.before.before.before.before.before.before.before.before.before.loop.i * 3 + 3 ≡ (c.before.before.before.before.before.before.before.before.before.before.before.before.before.before.loop.i + 1) * 3 = omega arith in reached-at ds es (lines_texts ts) c.before.before.before.before.before.before.name-at.new.1.0 c.before.before.before.before.before.before.name-at.new.1.1.0 c.before.before.before.before.before.before.before.before.before.before.before.before.before.before.before.before.before.before.before.before.args.first c.before.before.before.before.before.before.name-at.new.1.1.1.1.1.1.0 c.before.before.before.before.before.before.name-at.result (c.before.before.before.before.before.before.before.before.before.before.before.before.before.before.loop.i * 3 + 3) ((c.before.before.before.before.before.before.before.before.before.before.before.before.before.before.loop.i + 1) * 3) e (c.before.before.before.before.before.before.name-at.ensures ds es ts (omega (arith, c.before.before.before.before.before.before.before.before.before.before.before.before.before.loop-test.true, B.counted)) (B.stand c.before.before.before.before.before.before.before.before.before.before.before.before.before.before.loop.i c.before.before.before.before.before.before.before.before.before.before.before.before.before.loop-test.true) (c.before.before.before.before.before.before.before.before.before.before.before.before.before.before.loop.invariant.4 ds es ts l q B)))
 
 -- src/lib.rt:149:1
 same-length-4 : tie.Need-same-length-4 invariant-loop decreases-loop
@@ -88,7 +88,7 @@ same-length-6 c = search rules
 
 -- src/lib.rt:149:1
 returns-2 : tie.Need-returns-2 invariant-loop decreases-loop
-returns-2 c = λ ds es ts B. let e : c.before.loop.i * 3 ≡ c.before.before.before.before.before.before.before.args.n * 3 = omega (arith, c.before.loop.invariant.0, c.loop-test.false) in reached-at ds es (linesTexts ts) c.before.loop.slots c.before.loop.dictionary c.before.before.before.before.before.before.before.args.first c.before.loop.terms c.before.loop.p (c.before.loop.i * 3) (c.before.before.before.before.before.before.before.args.n * 3) e (c.before.loop.invariant.4 ds es ts c.before.before.before.before.before.before.before.args.last refl B)
+returns-2 c = λ ds es ts B. let e : c.before.loop.i * 3 ≡ c.before.before.before.before.before.before.before.args.n * 3 = omega (arith, c.before.loop.invariant.0, c.loop-test.false) in reached-at ds es (lines_texts ts) c.before.loop.slots c.before.loop.dictionary c.before.before.before.before.before.before.before.args.first c.before.loop.terms c.before.loop.p (c.before.loop.i * 3) (c.before.before.before.before.before.before.before.args.n * 3) e (c.before.loop.invariant.4 ds es ts c.before.before.before.before.before.before.before.args.last refl B)
 
 pub name-terms-spec : {M : Type 1} → statement M
 name-terms-spec =

@@ -2,7 +2,7 @@ use native.Mathlib.Omega.{arith}
 use Prim.Native.Nat.{◌-◌}
 use lib.ListN.{get_or}
 use Rattle.dictionary_names.proofs.Naming.{has-kind}
-use Rattle.ntriples_naming.specs.inside.Progress.{noText}
+use Rattle.ntriples_naming.specs.inside.Progress.{no_text}
 use Rattle.ntriples_naming.proofs.Steps.{few-entries, had-word, reached-known, reached-new, reached-full, reached-no-space}
 use borrow.Author.Rules.{rules}
 use Rattle.ntriples_naming.proofs.name_in.Statement.{statement}
@@ -77,7 +77,7 @@ same-length-3 c = search rules
 
 -- src/lib.rt:35:1
 returns-2 : tie.Need-returns-2
-returns-2 c = λ ds es xs h H R. reached-known ds es xs c.before.before.before.before.before.before.before.before.before.before.before.before.before.before.before.before.before.args.slots.now c.before.before.before.before.before.before.before.before.before.before.before.before.before.before.before.before.before.args.dictionary.now c.before.before.before.before.before.before.before.name-text.new.0 c.before.before.before.before.before.before.before.name-text.new.1.0 c.before.before.before.before.before.before.before.before.before.before.before.before.before.before.before.before.before.args.first c.before.before.before.before.before.before.before.before.before.before.before.before.before.before.before.before.before.args.terms.now c.before.before.before.before.before.before.before.before.before.before.before.before.before.before.before.before.before.args.last c.before.before.before.before.before.before.before.before.before.before.before.before.before.before.before.before.before.args.j R h c.before.before.before.before.before.before.before.before.before.before.before.before.before.before.before.before.before.requires.room (omega (arith, c.before.before.before.before.before.before.before.before.before.before.before.if1.false)) c.before.before.before.before.before.before.before.name-text.result (c.before.before.before.before.before.before.before.name-text.ensures ds R.0.entries (get_or xs c.before.before.before.before.before.before.before.before.before.before.before.before.before.before.before.before.before.args.j noText) R.0.last H) _ c.before.w.given.1
+returns-2 c = λ ds es xs h H R. reached-known ds es xs c.before.before.before.before.before.before.before.before.before.before.before.before.before.before.before.before.before.args.slots.now c.before.before.before.before.before.before.before.before.before.before.before.before.before.before.before.before.before.args.dictionary.now c.before.before.before.before.before.before.before.name-text.new.0 c.before.before.before.before.before.before.before.name-text.new.1.0 c.before.before.before.before.before.before.before.before.before.before.before.before.before.before.before.before.before.args.first c.before.before.before.before.before.before.before.before.before.before.before.before.before.before.before.before.before.args.terms.now c.before.before.before.before.before.before.before.before.before.before.before.before.before.before.before.before.before.args.last c.before.before.before.before.before.before.before.before.before.before.before.before.before.before.before.before.before.args.j R h c.before.before.before.before.before.before.before.before.before.before.before.before.before.before.before.before.before.requires.room (omega (arith, c.before.before.before.before.before.before.before.before.before.before.before.if1.false)) c.before.before.before.before.before.before.before.name-text.result (c.before.before.before.before.before.before.before.name-text.ensures ds R.0.entries (get_or xs c.before.before.before.before.before.before.before.before.before.before.before.before.before.before.before.before.before.args.j no_text) R.0.last H) _ c.before.w.given.1
 
 -- src/lib.rt:35:1
 same-length-4 : tie.Need-same-length-4
@@ -93,7 +93,7 @@ same-length-6 c = search rules
 
 -- src/lib.rt:35:1
 returns-3 : tie.Need-returns-3
-returns-3 c = λ ds es xs h H R. reached-new ds es xs c.before.before.before.before.before.before.before.before.before.before.before.before.before.before.before.before.before.before.args.slots.now c.before.before.before.before.before.before.before.before.before.before.before.before.before.before.before.before.before.before.args.dictionary.now c.before.before.before.before.before.before.before.before.name-text.new.0 c.before.before.before.before.before.before.before.before.name-text.new.1.0 c.before.before.before.before.before.before.before.before.before.before.before.before.before.before.before.before.before.before.args.first c.before.before.before.before.before.before.before.before.before.before.before.before.before.before.before.before.before.before.args.terms.now c.before.before.before.before.before.before.before.before.before.before.before.before.before.before.before.before.before.before.args.last c.before.before.before.before.before.before.before.before.before.before.before.before.before.before.before.before.before.before.args.j R h c.before.before.before.before.before.before.before.before.before.before.before.before.before.before.before.before.before.before.requires.room (omega (arith, c.before.before.before.before.before.before.before.before.before.before.before.before.if1.false)) c.before.before.before.before.before.before.before.before.name-text.result (c.before.before.before.before.before.before.before.before.name-text.ensures ds R.0.entries (get_or xs c.before.before.before.before.before.before.before.before.before.before.before.before.before.before.before.before.before.before.args.j noText) R.0.last H) _ _ c.before.before.w2.given.1 (has-kind c.before.before.before.before.before.before.before.before.before.before.before.before.before.before.before.before.before.before.args.line.now c.before.before.before.before.before.before.before.before.before.before.before.before.before.before.before.before.before.before.args.token.from c.before.before.before.before.before.before.before.before.before.before.before.before.before.before.before.before.before.before.args.token.end (get_or xs c.before.before.before.before.before.before.before.before.before.before.before.before.before.before.before.before.before.before.args.j noText) H)
+returns-3 c = λ ds es xs h H R. reached-new ds es xs c.before.before.before.before.before.before.before.before.before.before.before.before.before.before.before.before.before.before.args.slots.now c.before.before.before.before.before.before.before.before.before.before.before.before.before.before.before.before.before.before.args.dictionary.now c.before.before.before.before.before.before.before.before.name-text.new.0 c.before.before.before.before.before.before.before.before.name-text.new.1.0 c.before.before.before.before.before.before.before.before.before.before.before.before.before.before.before.before.before.before.args.first c.before.before.before.before.before.before.before.before.before.before.before.before.before.before.before.before.before.before.args.terms.now c.before.before.before.before.before.before.before.before.before.before.before.before.before.before.before.before.before.before.args.last c.before.before.before.before.before.before.before.before.before.before.before.before.before.before.before.before.before.before.args.j R h c.before.before.before.before.before.before.before.before.before.before.before.before.before.before.before.before.before.before.requires.room (omega (arith, c.before.before.before.before.before.before.before.before.before.before.before.before.if1.false)) c.before.before.before.before.before.before.before.before.name-text.result (c.before.before.before.before.before.before.before.before.name-text.ensures ds R.0.entries (get_or xs c.before.before.before.before.before.before.before.before.before.before.before.before.before.before.before.before.before.before.args.j no_text) R.0.last H) _ _ c.before.before.w2.given.1 (has-kind c.before.before.before.before.before.before.before.before.before.before.before.before.before.before.before.before.before.before.args.line.now c.before.before.before.before.before.before.before.before.before.before.before.before.before.before.before.before.before.before.args.token.from c.before.before.before.before.before.before.before.before.before.before.before.before.before.before.before.before.before.before.args.token.end (get_or xs c.before.before.before.before.before.before.before.before.before.before.before.before.before.before.before.before.before.before.args.j no_text) H)
 
 -- src/lib.rt:35:1
 same-length-7 : tie.Need-same-length-7
@@ -105,7 +105,7 @@ same-length-8 c = search rules
 
 -- src/lib.rt:35:1
 returns-4 : tie.Need-returns-4
-returns-4 c = λ ds es xs h H R. reached-full ds es xs c.before.before.before.before.before.before.before.before.before.before.before.before.before.before.before.before.args.slots.now c.before.before.before.before.before.before.before.before.before.before.before.before.before.before.before.before.args.dictionary.now c.before.before.before.before.before.before.name-text.new.0 c.before.before.before.before.before.before.name-text.new.1.0 c.before.before.before.before.before.before.before.before.before.before.before.before.before.before.before.before.args.first c.before.before.before.before.before.before.before.before.before.before.before.before.before.before.before.before.args.terms.now c.before.before.before.before.before.before.before.before.before.before.before.before.before.before.before.before.args.last c.before.before.before.before.before.before.before.before.before.before.before.before.before.before.before.before.args.j R h c.before.before.before.before.before.before.before.before.before.before.before.before.before.before.before.before.requires.room (omega (arith, c.before.before.before.before.before.before.before.before.before.before.if1.false)) c.before.before.before.before.before.before.name-text.result (c.before.before.before.before.before.before.name-text.ensures ds R.0.entries (get_or xs c.before.before.before.before.before.before.before.before.before.before.before.before.before.before.before.before.args.j noText) R.0.last H) c.enum_told.given.1
+returns-4 c = λ ds es xs h H R. reached-full ds es xs c.before.before.before.before.before.before.before.before.before.before.before.before.before.before.before.before.args.slots.now c.before.before.before.before.before.before.before.before.before.before.before.before.before.before.before.before.args.dictionary.now c.before.before.before.before.before.before.name-text.new.0 c.before.before.before.before.before.before.name-text.new.1.0 c.before.before.before.before.before.before.before.before.before.before.before.before.before.before.before.before.args.first c.before.before.before.before.before.before.before.before.before.before.before.before.before.before.before.before.args.terms.now c.before.before.before.before.before.before.before.before.before.before.before.before.before.before.before.before.args.last c.before.before.before.before.before.before.before.before.before.before.before.before.before.before.before.before.args.j R h c.before.before.before.before.before.before.before.before.before.before.before.before.before.before.before.before.requires.room (omega (arith, c.before.before.before.before.before.before.before.before.before.before.if1.false)) c.before.before.before.before.before.before.name-text.result (c.before.before.before.before.before.before.name-text.ensures ds R.0.entries (get_or xs c.before.before.before.before.before.before.before.before.before.before.before.before.before.before.before.before.args.j no_text) R.0.last H) c.enum_told.given.1
 
 -- src/lib.rt:35:1
 same-length-9 : tie.Need-same-length-9
@@ -117,7 +117,7 @@ same-length-10 c = search rules
 
 -- src/lib.rt:35:1
 returns-5 : tie.Need-returns-5
-returns-5 c = λ ds es xs h H R. reached-no-space ds es xs c.before.before.before.before.before.before.before.before.before.before.before.before.before.before.before.before.args.slots.now c.before.before.before.before.before.before.before.before.before.before.before.before.before.before.before.before.args.dictionary.now c.before.before.before.before.before.before.name-text.new.0 c.before.before.before.before.before.before.name-text.new.1.0 c.before.before.before.before.before.before.before.before.before.before.before.before.before.before.before.before.args.first c.before.before.before.before.before.before.before.before.before.before.before.before.before.before.before.before.args.terms.now c.before.before.before.before.before.before.before.before.before.before.before.before.before.before.before.before.args.last c.before.before.before.before.before.before.before.before.before.before.before.before.before.before.before.before.args.j R h c.before.before.before.before.before.before.before.before.before.before.before.before.before.before.before.before.requires.room (omega (arith, c.before.before.before.before.before.before.before.before.before.before.if1.false)) c.before.before.before.before.before.before.name-text.result (c.before.before.before.before.before.before.name-text.ensures ds R.0.entries (get_or xs c.before.before.before.before.before.before.before.before.before.before.before.before.before.before.before.before.args.j noText) R.0.last H) c.enum-told2.given.1 (has-kind c.before.before.before.before.before.before.before.before.before.before.before.before.before.before.before.before.args.line.now c.before.before.before.before.before.before.before.before.before.before.before.before.before.before.before.before.args.token.from c.before.before.before.before.before.before.before.before.before.before.before.before.before.before.before.before.args.token.end (get_or xs c.before.before.before.before.before.before.before.before.before.before.before.before.before.before.before.before.args.j noText) H)
+returns-5 c = λ ds es xs h H R. reached-no-space ds es xs c.before.before.before.before.before.before.before.before.before.before.before.before.before.before.before.before.args.slots.now c.before.before.before.before.before.before.before.before.before.before.before.before.before.before.before.before.args.dictionary.now c.before.before.before.before.before.before.name-text.new.0 c.before.before.before.before.before.before.name-text.new.1.0 c.before.before.before.before.before.before.before.before.before.before.before.before.before.before.before.before.args.first c.before.before.before.before.before.before.before.before.before.before.before.before.before.before.before.before.args.terms.now c.before.before.before.before.before.before.before.before.before.before.before.before.before.before.before.before.args.last c.before.before.before.before.before.before.before.before.before.before.before.before.before.before.before.before.args.j R h c.before.before.before.before.before.before.before.before.before.before.before.before.before.before.before.before.requires.room (omega (arith, c.before.before.before.before.before.before.before.before.before.before.if1.false)) c.before.before.before.before.before.before.name-text.result (c.before.before.before.before.before.before.name-text.ensures ds R.0.entries (get_or xs c.before.before.before.before.before.before.before.before.before.before.before.before.before.before.before.before.args.j no_text) R.0.last H) c.enum-told2.given.1 (has-kind c.before.before.before.before.before.before.before.before.before.before.before.before.before.before.before.before.args.line.now c.before.before.before.before.before.before.before.before.before.before.before.before.before.before.before.before.args.token.from c.before.before.before.before.before.before.before.before.before.before.before.before.before.before.before.before.args.token.end (get_or xs c.before.before.before.before.before.before.before.before.before.before.before.before.before.before.before.before.args.j no_text) H)
 
 pub name-in-spec : {M : Type 1} → statement M
 name-in-spec =

@@ -1,5 +1,5 @@
 use Prim.Native.Nat.{◌+◌, ◌-◌}
-use Rattle.ntriples_naming.proofs.Steps.{stopped-full, stopped-no-space, still-going}
+use Rattle.ntriples_naming.proofs.Steps.{stopped_full, stopped_no_space, still-going}
 use borrow.Author.Rules.{rules}
 use Rattle.ntriples_naming.proofs.name_word.Statement.{statement}
 use Rattle.ntriples_naming.proofs.name_word.Tie as tie
@@ -41,11 +41,11 @@ returns c = λ ds es xs h H R. c.before.before.before.before.before.before.name_
 
 -- src/lib.rt:70:1
 returns-2 : tie.Need-returns-2
-returns-2 c = λ ds es xs h H R. stopped-full ds es xs c.before.before.before.before.before.before.before.args.slots.now c.before.before.before.before.before.before.before.args.dictionary.now c.before.before.before.before.before.before.before.args.first c.before.before.before.before.before.before.before.args.terms.now c.before.before.before.before.before.before.before.args.p _ c.before.before.before.before.before.before.before.args.j (c.before.before.before.before.before.before.before.args.j + 1) c.before.p2.given.1 R
+returns-2 c = λ ds es xs h H R. stopped_full ds es xs c.before.before.before.before.before.before.before.args.slots.now c.before.before.before.before.before.before.before.args.dictionary.now c.before.before.before.before.before.before.before.args.first c.before.before.before.before.before.before.before.args.terms.now c.before.before.before.before.before.before.before.args.p _ c.before.before.before.before.before.before.before.args.j (c.before.before.before.before.before.before.before.args.j + 1) c.before.p2.given.1 R
 
 -- src/lib.rt:70:1
 returns-3 : tie.Need-returns-3
-returns-3 c = λ ds es xs h H R. stopped-no-space ds es xs c.before.before.before.before.before.before.before.args.slots.now c.before.before.before.before.before.before.before.args.dictionary.now c.before.before.before.before.before.before.before.args.first c.before.before.before.before.before.before.before.args.terms.now c.before.before.before.before.before.before.before.args.p _ c.before.before.before.before.before.before.before.args.j (c.before.before.before.before.before.before.before.args.j + 1) c.before.p3.given.1 R
+returns-3 c = λ ds es xs h H R. stopped_no_space ds es xs c.before.before.before.before.before.before.before.args.slots.now c.before.before.before.before.before.before.before.args.dictionary.now c.before.before.before.before.before.before.before.args.first c.before.before.before.before.before.before.before.args.terms.now c.before.before.before.before.before.before.before.args.p _ c.before.before.before.before.before.before.before.args.j (c.before.before.before.before.before.before.before.args.j + 1) c.before.p3.given.1 R
 
 pub name-word-spec : {M : Type 1} → statement M
 name-word-spec =

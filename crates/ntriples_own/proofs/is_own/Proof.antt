@@ -1,5 +1,5 @@
 -- The test of the mode that the cursor stands in. Assumes nothing.
-use Rattle.ntriples_own.proofs.Own.{own-iri, own-string}
+use Rattle.ntriples_own.proofs.Own.{own_iri, own_string}
 use borrow.Author.Rules.{rules}
 use Rattle.ntriples_own.proofs.is_own.Statement.{statement}
 use Rattle.ntriples_own.proofs.is_own.Tie as tie
@@ -29,10 +29,10 @@ enum-told-6 : tie.Need-enum-told-6
 enum-told-6 c = search rules
 
 returns : tie.Need-returns
-returns c = own-iri _ _ _ c.before.enum_told.given.1 c.is-but.ensures
+returns c = own_iri _ _ _ c.before.enum_told.given.1 c.is_but_lem.ensures
 
 returns-2 : tie.Need-returns-2
-returns-2 c = own-string _ _ _ c.before.enum-told2.given.1 c.is-but2.ensures
+returns-2 c = own_string _ _ _ c.before.enum-told2.given.1 c.is-but2.ensures
 
 returns-3 : tie.Need-returns-3
 returns-3 c = search rules

@@ -1,6 +1,6 @@
 use native.Mathlib.Omega.{arith}
 use mathlib.Core.Path.{◌≡◌, refl, sym, ◌∙◌, ap}
-use Rattle.ntriples_pieces.specs.inside.Pieces.{closingOf}
+use Rattle.ntriples_pieces.specs.inside.Pieces.{closing_of}
 use borrow.Author.Rules.{rules}
 use Rattle.ntriples_pieces.proofs.closing.Statement.{statement}
 use Rattle.ntriples_pieces.proofs.closing.Tie as tie
@@ -17,12 +17,12 @@ cast-result-2 c = search rules
 
 -- src/pieces.rt:44:1
 returns : tie.Need-returns
-unfolding closingOf
+unfolding closing_of
 returns c = rw c.if1.true
 
 -- src/pieces.rt:44:1
 returns-2 : tie.Need-returns-2
-unfolding closingOf
+unfolding closing_of
 returns-2 c = rw c.if1.false
 
 pub closing-spec : {M : Type 1} → statement M

@@ -3,7 +3,7 @@ use native.Mathlib.Omega.{arith}
 use mathlib.Core.Path.{◌≡◌, refl, sym, ◌∙◌, ap}
 use lib.ListN.{length}
 use Prim.Native.Nat.{◌-◌}
-use Rattle.ntriples_pieces.proofs.Reading.{Digits, first-digit, digits-end, not-hex, too-great-digit, last-digit, more-digits}
+use Rattle.ntriples_pieces.proofs.Reading.{Digits, first-digit, digits_end, not-hex, too-great-digit, last-digit, more-digits}
 use Rattle.ntriples_pieces.proofs.digits_at.Statement.{statement}
 use Rattle.ntriples_pieces.proofs.digits_at.Tie as tie
 use Rattle.ntriples_pieces.proofs.digits_at.Reads as reads
@@ -68,7 +68,7 @@ loop-again c = more-digits c.before.before.before.before.before.before.before.be
 
 -- src/pieces.rt:68:1
 returns-4 : tie.Need-returns-4 invariant-loop decreases-loop
-returns-4 c = digits-end c.before.before.before.args.iri c.before.before.before.args.line.now c.before.before.before.args.from c.before.before.before.args.count c.before.loop.left c.before.loop.value c.before.loop.at c.before.loop.invariant (search rules)
+returns-4 c = digits_end c.before.before.before.args.iri c.before.before.before.args.line.now c.before.before.before.args.from c.before.before.before.args.count c.before.loop.left c.before.loop.value c.before.loop.at c.before.loop.invariant (search rules)
 
 pub digits-at-spec : {M : Type 1} → statement M
 digits-at-spec =

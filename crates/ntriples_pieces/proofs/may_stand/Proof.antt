@@ -1,6 +1,6 @@
 use native.Mathlib.Omega.{arith}
 use mathlib.Core.Path.{◌≡◌, refl, sym, ◌∙◌, ap}
-use Rattle.ntriples_pieces.specs.inside.Pieces.{mayStand}
+use Rattle.ntriples_pieces.specs.inside.Pieces.{may_stand}
 use borrow.Author.Rules.{rules}
 use Rattle.ntriples_pieces.proofs.may_stand.Statement.{statement}
 use Rattle.ntriples_pieces.proofs.may_stand.Tie as tie
@@ -19,12 +19,12 @@ is-string-char-requires c κs = search rules
 
 -- src/pieces.rt:30:1
 returns : tie.Need-returns
-unfolding mayStand
+unfolding may_stand
 returns c = rw c.before.if1.true c.is-iri-char.ensures
 
 -- src/pieces.rt:30:1
 returns-2 : tie.Need-returns-2
-unfolding mayStand
+unfolding may_stand
 returns-2 c = rw c.before.if1.false c.is-string-char.ensures
 
 pub may-stand-spec : {M : Type 1} → statement M

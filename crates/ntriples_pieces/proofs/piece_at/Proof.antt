@@ -2,8 +2,8 @@ use native.Mathlib.Omega.{arith}
 use mathlib.Core.Path.{◌≡◌, refl, sym, ◌∙◌, ap}
 use Rattle.ntriples_pieces.specs.inside.Pieces.{step_of}
 use Rattle.spec_ntriples.specs.computed.Terminals.{outside, slash, digits}
-use Rattle.ntriples_bytes.proofs.Decoding.{from-marked}
-use Rattle.ntriples_pieces.proofs.Reading.{piece-from, leads-scan, gives-piece, breaks-piece, ends-piece, outside-ends, outside-leads, outside-gives, outside-breaks}
+use Rattle.ntriples_bytes.proofs.Decoding.{from_marked}
+use Rattle.ntriples_pieces.proofs.Reading.{piece_from, leads-scan, gives-piece, breaks-piece, ends-piece, outside_ends, outside_leads, outside-gives, outside-breaks}
 use borrow.Author.Rules.{rules}
 use Rattle.ntriples_pieces.proofs.piece_at.Statement.{statement}
 use Rattle.ntriples_pieces.proofs.piece_at.Tie as tie
@@ -24,7 +24,7 @@ closing-requires c κs = search rules
 
 -- src/pieces.rt:128:9
 returns : tie.Need-returns
-returns c = ends-piece (step_of c.before.before.before.before.before.args.iri) outside c.before.before.before.before.before.args.line.now c.before.before.before.before.before.args.at _ c.before.before.before.char-at.ensures (outside-ends c.before.before.before.before.before.args.iri _ (c.if1.true ∙ c.before.before.closing.ensures))
+returns c = ends-piece (step_of c.before.before.before.before.before.args.iri) outside c.before.before.before.before.before.args.line.now c.before.before.before.before.before.args.at _ c.before.before.before.char-at.ensures (outside_ends c.before.before.before.before.before.args.iri _ (c.if1.true ∙ c.before.before.closing.ensures))
 
 -- src/pieces.rt:130:18
 cast-if2 : tie.Need-overflow-cast-if2
@@ -32,11 +32,11 @@ cast-if2 c = search rules
 
 -- src/pieces.rt:131:9
 escape-at-requires : tie.Need-escape-at-requires
-escape-at-requires c κs = from-marked c.before.before.before.before.before.char-at.ensures
+escape-at-requires c κs = from_marked c.before.before.before.before.before.char-at.ensures
 
 -- src/pieces.rt:131:9
 returns-2 : tie.Need-returns-2
-returns-2 c = piece-from (step_of c.before.before.before.before.before.before.before.before.args.iri) outside c.before.before.before.before.before.before.before.before.args.line.now c.before.before.before.before.before.before.before.before.args.at slash c.before.before.before.before.before.before.char-at.result.next c.escape-at.result c.before.before.before.before.before.before.char-at.ensures.after (leads-scan (step_of c.before.before.before.before.before.before.before.before.args.iri) outside c.before.before.before.before.before.before.before.before.args.line.now c.before.before.before.before.before.before.before.before.args.at _ c.before.before.before.before.before.before.char-at.ensures slash (outside-leads c.before.before.before.before.before.before.before.before.args.iri _ (λ x. c.before.before.before.if1.false (x ∙ sym c.before.before.before.before.before.closing.ensures)) c.before.if2.true)) c.escape-at.ensures
+returns-2 c = piece_from (step_of c.before.before.before.before.before.before.before.before.args.iri) outside c.before.before.before.before.before.before.before.before.args.line.now c.before.before.before.before.before.before.before.before.args.at slash c.before.before.before.before.before.before.char-at.result.next c.escape-at.result c.before.before.before.before.before.before.char-at.ensures.after (leads-scan (step_of c.before.before.before.before.before.before.before.before.args.iri) outside c.before.before.before.before.before.before.before.before.args.line.now c.before.before.before.before.before.before.before.before.args.at _ c.before.before.before.before.before.before.char-at.ensures slash (outside_leads c.before.before.before.before.before.before.before.before.args.iri _ (λ x. c.before.before.before.if1.false (x ∙ sym c.before.before.before.before.before.closing.ensures)) c.before.if2.true)) c.escape-at.ensures
 
 -- src/pieces.rt:133:8
 may-stand-requires : tie.Need-may-stand-requires

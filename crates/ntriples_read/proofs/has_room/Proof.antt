@@ -1,5 +1,5 @@
 use borrow.Author.Rules.{rules}
-use Rattle.ntriples_read.proofs.Reading.{room-none, room-some}
+use Rattle.ntriples_read.proofs.Reading.{room_none, room-some}
 use Rattle.ntriples_read.proofs.has_room.Statement.{statement}
 use Rattle.ntriples_read.proofs.has_room.Tie as tie
 use Rattle.ntriples_read.proofs.has_room.Reads as reads
@@ -7,7 +7,7 @@ use Rattle.ntriples_read.proofs.has_room.Lts as lts
 
 -- src/lib.rt:42:9
 returns : tie.Need-returns
-returns c = room-none c.before.args.n c.before.args.len c.if1.true
+returns c = room_none c.before.args.n c.before.args.len c.if1.true
 
 -- src/lib.rt:44:19
 mul-result : tie.Need-overflow-mul-result

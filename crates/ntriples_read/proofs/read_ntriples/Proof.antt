@@ -2,9 +2,9 @@ use mathlib.Core.Path.{sym, ap, ◌∙◌}
 use Prim.Native.Nat.{ℕ}
 use lib.ListN.{length}
 use Rattle.spec_ntriples.specs.computed.Lines.{document}
-use Rattle.spec_ntriples.specs.Reading.{readNTriples}
-use Rattle.ntriples_read.proofs.Reading.{refused-1, refused-13, counted-lines}
-use Rattle.ntriples_zero.proofs.Zeros.{zeros-kept}
+use Rattle.spec_ntriples.specs.Reading.{read_nTriples}
+use Rattle.ntriples_read.proofs.Reading.{refused_1, refused_13, counted-lines}
+use Rattle.ntriples_zero.proofs.Zeros.{zeros_kept}
 use borrow.Author.Rules.{rules}
 use Rattle.ntriples_read.proofs.read_ntriples.Statement.{statement}
 use Rattle.ntriples_read.proofs.read_ntriples.Tie as tie
@@ -45,7 +45,7 @@ enum-known-n c = search rules
 
 -- src/lib.rt:84:36
 read-triples-requires : tie.Need-read-triples-requires
-read-triples-requires c κs = record { lines = (counted-lines (document c.before.before.before.before.before.before.before.before.before.before.before.before.before.before.before.before.before.before.args.file.now) _ (sym c.before.before.before.before.before.count-triples.ensures ∙ c.before.before.before.n.given.1)).lines; said = (counted-lines (document c.before.before.before.before.before.before.before.before.before.before.before.before.before.before.before.before.before.before.args.file.now) _ (sym c.before.before.before.before.before.count-triples.ensures ∙ c.before.before.before.n.given.1)).said; counted = (counted-lines (document c.before.before.before.before.before.before.before.before.before.before.before.before.before.before.before.before.before.before.args.file.now) _ (sym c.before.before.before.before.before.count-triples.ensures ∙ c.before.before.before.n.given.1)).counted; formed = (rw c.before.before.before.before.before.before.before.f.given.1 at c.before.before.before.before.before.before.before.before.before.check-dictionary.ensures).0; filled = (rw c.before.before.before.before.before.before.before.f.given.1 at c.before.before.before.before.before.before.before.before.before.check-dictionary.ensures).1; zeros = zeros-kept c.before.before.before.before.before.before.before.before.before.before.before.before.before.clear.new.0 c.before.before.before.before.before.before.before.before.before.before.before.before.before.before.before.before.before.before.args.delivery.now c.before.before.before.before.before.before.before.before.before.before.before.before.before.clear.ensures c.before.before.before.before.before.before.before.before.before.before.before.before.before.clear.auto.0 }
+read-triples-requires c κs = record { lines = (counted-lines (document c.before.before.before.before.before.before.before.before.before.before.before.before.before.before.before.before.before.before.args.file.now) _ (sym c.before.before.before.before.before.count-triples.ensures ∙ c.before.before.before.n.given.1)).lines; said = (counted-lines (document c.before.before.before.before.before.before.before.before.before.before.before.before.before.before.before.before.before.before.args.file.now) _ (sym c.before.before.before.before.before.count-triples.ensures ∙ c.before.before.before.n.given.1)).said; counted = (counted-lines (document c.before.before.before.before.before.before.before.before.before.before.before.before.before.before.before.before.before.before.args.file.now) _ (sym c.before.before.before.before.before.count-triples.ensures ∙ c.before.before.before.n.given.1)).counted; formed = (rw c.before.before.before.before.before.before.before.f.given.1 at c.before.before.before.before.before.before.before.before.before.check-dictionary.ensures).0; filled = (rw c.before.before.before.before.before.before.before.f.given.1 at c.before.before.before.before.before.before.before.before.before.check-dictionary.ensures).1; zeros = zeros_kept c.before.before.before.before.before.before.before.before.before.before.before.before.before.clear.new.0 c.before.before.before.before.before.before.before.before.before.before.before.before.before.before.before.before.before.before.args.delivery.now c.before.before.before.before.before.before.before.before.before.before.before.before.before.clear.ensures c.before.before.before.before.before.before.before.before.before.before.before.before.before.clear.auto.0 }
 
 -- src/lib.rt:76:1
 same_length : tie.Need-same-length
@@ -57,7 +57,7 @@ same-length-2 c = search rules
 
 -- src/lib.rt:76:1
 returns : tie.Need-returns
-returns c = refused-1 c.before.before.before.before.before.before.before.before.before.before.before.args.dictionary.now c.before.before.before.before.before.before.before.before.before.before.before.args.file.now (length c.before.before.before.before.before.before.before.before.before.before.before.args.delivery.now) c.before.before.before.before.before.before.clear.new.0 (rw c.enum_told.given.1 at c.before.before.check-dictionary.ensures) c.before.before.before.before.before.before.clear.ensures
+returns c = refused_1 c.before.before.before.before.before.before.before.before.before.before.before.args.dictionary.now c.before.before.before.before.before.before.before.before.before.before.before.args.file.now (length c.before.before.before.before.before.before.before.before.before.before.before.args.delivery.now) c.before.before.before.before.before.before.clear.new.0 (rw c.enum_told.given.1 at c.before.before.check-dictionary.ensures) c.before.before.before.before.before.before.clear.ensures
 
 -- src/lib.rt:76:1
 same-length-3 : tie.Need-same-length-3
@@ -69,7 +69,7 @@ same-length-4 c = search rules
 
 -- src/lib.rt:76:1
 returns-2 : tie.Need-returns-2
-returns-2 c = refused-13 c.before.before.before.before.before.before.before.before.before.before.before.before.before.before.before.args.dictionary.now c.before.before.before.before.before.before.before.before.before.before.before.before.before.before.before.args.file.now (length c.before.before.before.before.before.before.before.before.before.before.before.before.before.before.before.args.delivery.now) c.before.before.before.before.before.before.before.before.before.before.clear.new.0 (rw c.before.before.before.before.f.given.1 at c.before.before.before.before.before.before.check-dictionary.ensures).0 (sym c.before.before.count-triples.ensures ∙ c.enum-told2.given.1) c.before.before.before.before.before.before.before.before.before.before.clear.ensures
+returns-2 c = refused_13 c.before.before.before.before.before.before.before.before.before.before.before.before.before.before.before.args.dictionary.now c.before.before.before.before.before.before.before.before.before.before.before.before.before.before.before.args.file.now (length c.before.before.before.before.before.before.before.before.before.before.before.before.before.before.before.args.delivery.now) c.before.before.before.before.before.before.before.before.before.before.clear.new.0 (rw c.before.before.before.before.f.given.1 at c.before.before.before.before.before.before.check-dictionary.ensures).0 (sym c.before.before.count-triples.ensures ∙ c.enum-told2.given.1) c.before.before.before.before.before.before.before.before.before.before.clear.ensures
 
 -- src/lib.rt:76:1
 same-length-5 : tie.Need-same-length-5
@@ -81,7 +81,7 @@ same-length-6 c = search rules
 
 -- src/lib.rt:76:1
 returns-3 : tie.Need-returns-3
-returns-3 c = c.before.before.before.before.read-triples.ensures ∙ ap (λ (n : ℕ). readNTriples c.before.before.before.before.before.before.before.before.before.before.before.before.before.before.before.before.before.before.before.before.before.before.before.args.dictionary.now c.before.before.before.before.before.before.before.before.before.before.before.before.before.before.before.before.before.before.before.before.before.before.before.args.file.now n) c.before.before.before.before.before.before.before.before.before.before.before.before.before.before.before.before.before.before.clear.auto.0
+returns-3 c = c.before.before.before.before.read-triples.ensures ∙ ap (λ (n : ℕ). read_nTriples c.before.before.before.before.before.before.before.before.before.before.before.before.before.before.before.before.before.before.before.before.before.before.before.args.dictionary.now c.before.before.before.before.before.before.before.before.before.before.before.before.before.before.before.before.before.before.before.before.before.before.before.args.file.now n) c.before.before.before.before.before.before.before.before.before.before.before.before.before.before.before.before.before.before.clear.auto.0
 
 pub read-ntriples-spec : {M : Type 1} → statement M
 read-ntriples-spec =

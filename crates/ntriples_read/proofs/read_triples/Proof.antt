@@ -1,7 +1,7 @@
 use native.Mathlib.Omega.{arith}
 use mathlib.Core.Path.{sym, ◌∙◌}
 use Rattle.spec_ntriples.specs.Dictionary.{entries}
-use Rattle.ntriples_read.proofs.Reading.{can-name, lacking-within, refused-14, named-within, refused-15, few, room-there, read_whole}
+use Rattle.ntriples_read.proofs.Reading.{can_name, lacking-within, refused-14, named-within, refused-15, few, room-there, read_whole}
 use borrow.Author.Rules.{rules}
 use Rattle.ntriples_read.proofs.read_triples.Statement.{statement}
 use Rattle.ntriples_read.proofs.read_triples.Tie as tie
@@ -23,7 +23,7 @@ slice-aggregate-name-file c = search rules
 
 -- src/lib.rt:59:11
 name-file-requires : tie.Need-name-file-requires
-name-file-requires c κs = can-name c.before.before.before.before.before.before.args.file.now c.before.before.before.before.before.before.args.n c.before.before.before.before.before.before.args.dictionary.now c.before.before.before.before.before.before.args.f c.before.before.before.before.before.before.args.delivery.now c.before.before.before.before.before.before.requires c.before.before.no-terms.result c.before.before.no-terms.ensures
+name-file-requires c κs = can_name c.before.before.before.before.before.before.args.file.now c.before.before.before.before.before.before.args.n c.before.before.before.before.before.before.args.dictionary.now c.before.before.before.before.before.before.args.f c.before.before.before.before.before.before.args.delivery.now c.before.before.before.before.before.before.requires c.before.before.no_terms.result c.before.before.no_terms.ensures
 
 -- src/lib.rt:60:26
 enum-known-tried : tie.Need-enum-known-tried
@@ -47,7 +47,7 @@ slice-aggregate-write-delivery c = search rules
 
 -- src/lib.rt:66:42
 write-delivery-requires : tie.Need-write-delivery-requires
-write-delivery-requires c κs = ((omega (arith, few c.before.before.before.before.before.before.before.before.before.before.before.before.before.before.before.before.before.args.file.now c.before.before.before.before.before.before.before.before.before.before.before.before.before.before.before.before.before.args.n c.before.before.before.before.before.before.before.before.before.before.before.before.before.before.before.before.before.args.dictionary.now c.before.before.before.before.before.before.before.before.before.before.before.before.before.before.before.before.before.args.f c.before.before.before.before.before.before.before.before.before.before.before.before.before.before.before.before.before.args.delivery.now c.before.before.before.before.before.before.before.before.before.before.before.before.before.before.before.before.before.requires c.before.before.before.before.before.before.before.before.before.before.name-file.new.1.1.0 c.before.before.before.before.before.before.before.before.before.before.name-file.new.1.1.1.1.0 c.before.before.before.before.before.before.before.before.before.before.name-file.result (c.before.before.before.before.before.before.before.before.before.before.name-file.ensures (entries c.before.before.before.before.before.before.before.before.before.before.before.before.before.before.before.before.before.args.dictionary.now) c.before.before.before.before.before.before.before.before.before.before.before.before.before.before.before.before.before.requires.lines c.before.before.before.before.before.before.before.before.before.before.before.before.before.before.before.before.before.requires.said c.before.before.before.before.before.before.before.before.before.before.before.before.before.before.before.before.before.requires.counted c.before.before.before.before.before.before.before.before.before.before.before.before.before.before.before.before.before.requires.filled) c.before.before.before.before.before.before.before.before.before.before.name-file.auto.1.1.0 _ c.before.before.before.before.before.named.given.1 (sym c.before.before.before.has_room.ensures ∙ c.before.before.if1.true), c.before.before.before.before.before.before.before.before.before.before.name-file.auto.1.1.1.1.0, c.before.before.before.before.before.before.before.before.before.before.before.before.before.no-terms.ensures), few c.before.before.before.before.before.before.before.before.before.before.before.before.before.before.before.before.before.args.file.now c.before.before.before.before.before.before.before.before.before.before.before.before.before.before.before.before.before.args.n c.before.before.before.before.before.before.before.before.before.before.before.before.before.before.before.before.before.args.dictionary.now c.before.before.before.before.before.before.before.before.before.before.before.before.before.before.before.before.before.args.f c.before.before.before.before.before.before.before.before.before.before.before.before.before.before.before.before.before.args.delivery.now c.before.before.before.before.before.before.before.before.before.before.before.before.before.before.before.before.before.requires c.before.before.before.before.before.before.before.before.before.before.name-file.new.1.1.0 c.before.before.before.before.before.before.before.before.before.before.name-file.new.1.1.1.1.0 c.before.before.before.before.before.before.before.before.before.before.name-file.result (c.before.before.before.before.before.before.before.before.before.before.name-file.ensures (entries c.before.before.before.before.before.before.before.before.before.before.before.before.before.before.before.before.before.args.dictionary.now) c.before.before.before.before.before.before.before.before.before.before.before.before.before.before.before.before.before.requires.lines c.before.before.before.before.before.before.before.before.before.before.before.before.before.before.before.before.before.requires.said c.before.before.before.before.before.before.before.before.before.before.before.before.before.before.before.before.before.requires.counted c.before.before.before.before.before.before.before.before.before.before.before.before.before.before.before.before.before.requires.filled) c.before.before.before.before.before.before.before.before.before.before.name-file.auto.1.1.0 _ c.before.before.before.before.before.named.given.1 (sym c.before.before.before.has_room.ensures ∙ c.before.before.if1.true)), room-there c.before.before.before.before.before.before.before.before.before.before.before.before.before.before.before.before.before.args.file.now c.before.before.before.before.before.before.before.before.before.before.before.before.before.before.before.before.before.args.n c.before.before.before.before.before.before.before.before.before.before.before.before.before.before.before.before.before.args.dictionary.now c.before.before.before.before.before.before.before.before.before.before.before.before.before.before.before.before.before.args.f c.before.before.before.before.before.before.before.before.before.before.before.before.before.before.before.before.before.args.delivery.now c.before.before.before.before.before.before.before.before.before.before.before.before.before.before.before.before.before.requires c.before.before.before.before.before.before.before.before.before.before.name-file.new.1.1.0 c.before.before.before.before.before.before.before.before.before.before.name-file.new.1.1.1.1.0 c.before.before.before.before.before.before.before.before.before.before.name-file.result (c.before.before.before.before.before.before.before.before.before.before.name-file.ensures (entries c.before.before.before.before.before.before.before.before.before.before.before.before.before.before.before.before.before.args.dictionary.now) c.before.before.before.before.before.before.before.before.before.before.before.before.before.before.before.before.before.requires.lines c.before.before.before.before.before.before.before.before.before.before.before.before.before.before.before.before.before.requires.said c.before.before.before.before.before.before.before.before.before.before.before.before.before.before.before.before.before.requires.counted c.before.before.before.before.before.before.before.before.before.before.before.before.before.before.before.before.before.requires.filled) c.before.before.before.before.before.before.before.before.before.before.name-file.auto.1.1.0 _ c.before.before.before.before.before.named.given.1 (sym c.before.before.before.has_room.ensures ∙ c.before.before.if1.true))
+write-delivery-requires c κs = ((omega (arith, few c.before.before.before.before.before.before.before.before.before.before.before.before.before.before.before.before.before.args.file.now c.before.before.before.before.before.before.before.before.before.before.before.before.before.before.before.before.before.args.n c.before.before.before.before.before.before.before.before.before.before.before.before.before.before.before.before.before.args.dictionary.now c.before.before.before.before.before.before.before.before.before.before.before.before.before.before.before.before.before.args.f c.before.before.before.before.before.before.before.before.before.before.before.before.before.before.before.before.before.args.delivery.now c.before.before.before.before.before.before.before.before.before.before.before.before.before.before.before.before.before.requires c.before.before.before.before.before.before.before.before.before.before.name-file.new.1.1.0 c.before.before.before.before.before.before.before.before.before.before.name-file.new.1.1.1.1.0 c.before.before.before.before.before.before.before.before.before.before.name-file.result (c.before.before.before.before.before.before.before.before.before.before.name-file.ensures (entries c.before.before.before.before.before.before.before.before.before.before.before.before.before.before.before.before.before.args.dictionary.now) c.before.before.before.before.before.before.before.before.before.before.before.before.before.before.before.before.before.requires.lines c.before.before.before.before.before.before.before.before.before.before.before.before.before.before.before.before.before.requires.said c.before.before.before.before.before.before.before.before.before.before.before.before.before.before.before.before.before.requires.counted c.before.before.before.before.before.before.before.before.before.before.before.before.before.before.before.before.before.requires.filled) c.before.before.before.before.before.before.before.before.before.before.name-file.auto.1.1.0 _ c.before.before.before.before.before.named.given.1 (sym c.before.before.before.has_room.ensures ∙ c.before.before.if1.true), c.before.before.before.before.before.before.before.before.before.before.name-file.auto.1.1.1.1.0, c.before.before.before.before.before.before.before.before.before.before.before.before.before.no_terms.ensures), few c.before.before.before.before.before.before.before.before.before.before.before.before.before.before.before.before.before.args.file.now c.before.before.before.before.before.before.before.before.before.before.before.before.before.before.before.before.before.args.n c.before.before.before.before.before.before.before.before.before.before.before.before.before.before.before.before.before.args.dictionary.now c.before.before.before.before.before.before.before.before.before.before.before.before.before.before.before.before.before.args.f c.before.before.before.before.before.before.before.before.before.before.before.before.before.before.before.before.before.args.delivery.now c.before.before.before.before.before.before.before.before.before.before.before.before.before.before.before.before.before.requires c.before.before.before.before.before.before.before.before.before.before.name-file.new.1.1.0 c.before.before.before.before.before.before.before.before.before.before.name-file.new.1.1.1.1.0 c.before.before.before.before.before.before.before.before.before.before.name-file.result (c.before.before.before.before.before.before.before.before.before.before.name-file.ensures (entries c.before.before.before.before.before.before.before.before.before.before.before.before.before.before.before.before.before.args.dictionary.now) c.before.before.before.before.before.before.before.before.before.before.before.before.before.before.before.before.before.requires.lines c.before.before.before.before.before.before.before.before.before.before.before.before.before.before.before.before.before.requires.said c.before.before.before.before.before.before.before.before.before.before.before.before.before.before.before.before.before.requires.counted c.before.before.before.before.before.before.before.before.before.before.before.before.before.before.before.before.before.requires.filled) c.before.before.before.before.before.before.before.before.before.before.name-file.auto.1.1.0 _ c.before.before.before.before.before.named.given.1 (sym c.before.before.before.has_room.ensures ∙ c.before.before.if1.true)), room-there c.before.before.before.before.before.before.before.before.before.before.before.before.before.before.before.before.before.args.file.now c.before.before.before.before.before.before.before.before.before.before.before.before.before.before.before.before.before.args.n c.before.before.before.before.before.before.before.before.before.before.before.before.before.before.before.before.before.args.dictionary.now c.before.before.before.before.before.before.before.before.before.before.before.before.before.before.before.before.before.args.f c.before.before.before.before.before.before.before.before.before.before.before.before.before.before.before.before.before.args.delivery.now c.before.before.before.before.before.before.before.before.before.before.before.before.before.before.before.before.before.requires c.before.before.before.before.before.before.before.before.before.before.name-file.new.1.1.0 c.before.before.before.before.before.before.before.before.before.before.name-file.new.1.1.1.1.0 c.before.before.before.before.before.before.before.before.before.before.name-file.result (c.before.before.before.before.before.before.before.before.before.before.name-file.ensures (entries c.before.before.before.before.before.before.before.before.before.before.before.before.before.before.before.before.before.args.dictionary.now) c.before.before.before.before.before.before.before.before.before.before.before.before.before.before.before.before.before.requires.lines c.before.before.before.before.before.before.before.before.before.before.before.before.before.before.before.before.before.requires.said c.before.before.before.before.before.before.before.before.before.before.before.before.before.before.before.before.before.requires.counted c.before.before.before.before.before.before.before.before.before.before.before.before.before.before.before.before.before.requires.filled) c.before.before.before.before.before.before.before.before.before.before.name-file.auto.1.1.0 _ c.before.before.before.before.before.named.given.1 (sym c.before.before.before.has_room.ensures ∙ c.before.before.if1.true))
 
 -- src/lib.rt:66:17
 same_length : tie.Need-same-length

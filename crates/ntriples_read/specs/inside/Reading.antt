@@ -2,7 +2,7 @@
 use Rattle.std.specs.Prelude.{ℕ, ◌≡◌, true, List, length, replicate}
 use Rattle.spec_ntriples.specs.Texts.{TextTriple}
 use Rattle.spec_ntriples.specs.computed.Lines.{triples, document}
-use Rattle.spec_ntriples.specs.Dictionary.{entries, isDictionary}
+use Rattle.spec_ntriples.specs.Dictionary.{entries, is_dictionary}
 use Rattle.dictionary_bytes.specs.declared.Filled.{Filled}
 use Rattle.dictionary_bytes.specs.inside.Entries.{FilledBy}
 
@@ -11,6 +11,6 @@ pub record CanRead (file : List ℕ) (n : ℕ) (bs : List ℕ) (f : Filled) (del
   pub lines : List TextTriple
   pub said : document file ≡ triples lines
   pub counted : n ≡ length lines
-  pub formed : isDictionary bs ≡ true
+  pub formed : is_dictionary bs ≡ true
   pub filled : FilledBy bs f (entries bs)
   pub zeros : delivery ≡ replicate (length delivery) 0

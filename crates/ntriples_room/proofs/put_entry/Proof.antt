@@ -1,9 +1,9 @@
 use native.Mathlib.Omega.{arith}
 use mathlib.Core.Path.{sym, ap, ◌∙◌}
 use lib.Seq.{sets}
-use Rattle.dictionary_bytes.specs.inside.Entries.{textAt}
+use Rattle.dictionary_bytes.specs.inside.Entries.{text_at}
 use Rattle.dictionary_bytes.proofs.Entry.{text-length}
-use Rattle.ntriples_room.proofs.Putting.{text-none, text-put, text-part}
+use Rattle.ntriples_room.proofs.Putting.{text_none, text-put, text_part}
 use borrow.Author.Rules.{rules}
 use Rattle.ntriples_room.proofs.put_entry.Statement.{statement}
 use Rattle.ntriples_room.proofs.put_entry.Tie as tie
@@ -22,7 +22,7 @@ sub-if1 c = search rules
 
 -- src/lib.rt:33:9
 returns : tie.Need-returns
-returns c = text-none c.before.before.before.before.args.out.now _ (textAt c.before.before.before.before.args.dictionary.now c.before.before.before.before.args.place) c.before.before.before.before.args.at _ (c.before.length_at.ensures ∙ sym (text-length c.before.before.before.before.args.dictionary.now c.before.before.before.before.args.place c.before.before.before.before.requires.0)) c.before.before.before.before.requires.1 (omega arith)
+returns c = text_none c.before.before.before.before.args.out.now _ (text_at c.before.before.before.before.args.dictionary.now c.before.before.before.before.args.place) c.before.before.before.before.args.at _ (c.before.length_at.ensures ∙ sym (text-length c.before.before.before.before.args.dictionary.now c.before.before.before.before.args.place c.before.before.before.before.requires.0)) c.before.before.before.before.requires.1 (omega arith)
 
 -- src/lib.rt:35:28
 add-copy-bytes : tie.Need-overflow-add-copy-bytes
@@ -54,7 +54,7 @@ same_length c = search rules
 
 -- src/lib.rt:26:1
 returns-2 : tie.Need-returns-2
-returns-2 c = text-put c.before.before.before.before.before.before.before.before.args.out.now _ (textAt c.before.before.before.before.before.before.before.before.args.dictionary.now c.before.before.before.before.before.before.before.before.args.place) c.before.before.before.before.before.before.before.before.args.at _ (c.before.before.copy-bytes.ensures ∙ ap (sets c.before.before.before.before.before.before.before.before.args.out.now c.before.before.before.before.before.before.before.before.args.at) (text-part c.before.before.before.before.before.before.before.before.args.dictionary.now c.before.before.before.before.before.before.before.before.args.place _ c.before.before.before.before.before.length_at.ensures)) (c.before.before.before.before.before.length_at.ensures ∙ sym (text-length c.before.before.before.before.before.before.before.before.args.dictionary.now c.before.before.before.before.before.before.before.before.args.place c.before.before.before.before.before.before.before.before.requires.0)) c.before.before.before.before.before.before.before.before.requires.1 (omega arith)
+returns-2 c = text-put c.before.before.before.before.before.before.before.before.args.out.now _ (text_at c.before.before.before.before.before.before.before.before.args.dictionary.now c.before.before.before.before.before.before.before.before.args.place) c.before.before.before.before.before.before.before.before.args.at _ (c.before.before.copy-bytes.ensures ∙ ap (sets c.before.before.before.before.before.before.before.before.args.out.now c.before.before.before.before.before.before.before.before.args.at) (text_part c.before.before.before.before.before.before.before.before.args.dictionary.now c.before.before.before.before.before.before.before.before.args.place _ c.before.before.before.before.before.length_at.ensures)) (c.before.before.before.before.before.length_at.ensures ∙ sym (text-length c.before.before.before.before.before.before.before.before.args.dictionary.now c.before.before.before.before.before.before.before.before.args.place c.before.before.before.before.before.before.before.before.requires.0)) c.before.before.before.before.before.before.before.before.requires.1 (omega arith)
 
 pub put-entry-spec : {M : Type 1} → statement M
 put-entry-spec =

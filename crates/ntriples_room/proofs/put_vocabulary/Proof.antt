@@ -1,6 +1,6 @@
 use native.Mathlib.Omega.{arith}
-use Rattle.ntriples_copy.specs.inside.Vocabulary.{vocabularyText}
-use Rattle.ntriples_room.proofs.Putting.{text-none, text-put}
+use Rattle.ntriples_copy.specs.inside.Vocabulary.{vocabulary_text}
+use Rattle.ntriples_room.proofs.Putting.{text_none, text-put}
 use borrow.Author.Rules.{rules}
 use Rattle.ntriples_room.proofs.put_vocabulary.Statement.{statement}
 use Rattle.ntriples_room.proofs.put_vocabulary.Tie as tie
@@ -19,7 +19,7 @@ sub-if1 c = search rules
 
 -- src/lib.rt:48:9
 returns : tie.Need-returns
-returns c = text-none c.before.before.before.args.out.now _ (vocabularyText c.before.before.before.args.term) c.before.before.before.args.at _ c.before.vocabulary-length.ensures c.before.before.before.requires.1 (omega arith)
+returns c = text_none c.before.before.before.args.out.now _ (vocabulary_text c.before.before.before.args.term) c.before.before.before.args.at _ c.before.vocabulary-length.ensures c.before.before.before.requires.1 (omega arith)
 
 -- src/lib.rt:50:5
 write-vocabulary-requires : tie.Need-write-vocabulary-requires
@@ -47,7 +47,7 @@ same_length c = search rules
 
 -- src/lib.rt:41:1
 returns-2 : tie.Need-returns-2
-returns-2 c = text-put c.before.before.before.before.before.before.before.args.out.now _ (vocabularyText c.before.before.before.before.before.before.before.args.term) c.before.before.before.before.before.before.before.args.at _ c.before.before.write-vocabulary.ensures c.before.before.before.before.before.vocabulary-length.ensures c.before.before.before.before.before.before.before.requires.1 (omega arith)
+returns-2 c = text-put c.before.before.before.before.before.before.before.args.out.now _ (vocabulary_text c.before.before.before.before.before.before.before.args.term) c.before.before.before.before.before.before.before.args.at _ c.before.before.write-vocabulary.ensures c.before.before.before.before.before.vocabulary-length.ensures c.before.before.before.before.before.before.before.requires.1 (omega arith)
 
 pub put-vocabulary-spec : {M : Type 1} → statement M
 put-vocabulary-spec =

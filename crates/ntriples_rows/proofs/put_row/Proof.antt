@@ -1,7 +1,7 @@
 use native.Mathlib.Omega.{arith}
 use Rattle.spec_ntriples.specs.Dictionary.{entries}
-use Rattle.spec_writing.proofs.WrittenRows.{all-texts}
-use Rattle.ntriples_rows.proofs.Lines.{no-subject, no-property, no-object, line-put}
+use Rattle.spec_writing.proofs.WrittenRows.{all_texts}
+use Rattle.ntriples_rows.proofs.Lines.{no_subject, no_property, no_object, line-put}
 use borrow.Author.Rules.{rules}
 use Rattle.ntriples_rows.proofs.put_row.Statement.{statement}
 use Rattle.ntriples_rows.proofs.put_row.Tie as tie
@@ -12,7 +12,7 @@ use Rattle.ntriples_rows.proofs.put_term.Reads as put-term-reads
 
 -- src/lib.rt:64:9
 put-term-requires : tie.Need-put-term-requires
-put-term-requires c κs = (c.before.before.before.before.requires.0, ((all-texts (entries c.before.before.before.before.args.dictionary.now) c.before.before.before.before.args.t c.before.before.before.before.requires.1.0).subject, c.before.before.before.before.requires.1.1))
+put-term-requires c κs = (c.before.before.before.before.requires.0, ((all_texts (entries c.before.before.before.before.args.dictionary.now) c.before.before.before.before.args.t c.before.before.before.before.requires.1.0).subject, c.before.before.before.before.requires.1.1))
 
 -- src/lib.rt:66:9
 same_length : tie.Need-same-length
@@ -20,11 +20,11 @@ same_length c = search rules
 
 -- src/lib.rt:66:9
 returns : tie.Need-returns
-returns c = no-subject (entries c.before.before.before.before.before.before.before.before.args.dictionary.now) c.before.before.before.before.before.before.before.before.args.t c.before.before.before.put-term.ensures (omega (arith, c.if1.true))
+returns c = no_subject (entries c.before.before.before.before.before.before.before.before.args.dictionary.now) c.before.before.before.before.before.before.before.before.args.t c.before.before.before.put-term.ensures (omega (arith, c.if1.true))
 
 -- src/lib.rt:68:9
 put-term-requires-2 : tie.Need-put-term-requires-2
-put-term-requires-2 c κs = (c.before.before.before.before.before.before.before.before.before.requires.0, ((all-texts (entries c.before.before.before.before.before.before.before.before.before.args.dictionary.now) c.before.before.before.before.before.before.before.before.before.args.t c.before.before.before.before.before.before.before.before.before.requires.1.0).property, omega (arith, c.before.before.before.before.put-term.ensures.fits (omega (arith, c.before.if1.false)), c.before.before.before.before.put-term.auto.1.1.1.1.0)))
+put-term-requires-2 c κs = (c.before.before.before.before.before.before.before.before.before.requires.0, ((all_texts (entries c.before.before.before.before.before.before.before.before.before.args.dictionary.now) c.before.before.before.before.before.before.before.before.before.args.t c.before.before.before.before.before.before.before.before.before.requires.1.0).property, omega (arith, c.before.before.before.before.put-term.ensures.fits (omega (arith, c.before.if1.false)), c.before.before.before.before.put-term.auto.1.1.1.1.0)))
 
 -- src/lib.rt:70:9
 same-length-2 : tie.Need-same-length-2
@@ -32,11 +32,11 @@ same-length-2 c = search rules
 
 -- src/lib.rt:70:9
 returns-2 : tie.Need-returns-2
-returns-2 c = no-property (entries c.before.before.before.before.before.before.before.before.before.before.before.before.before.args.dictionary.now) c.before.before.before.before.before.before.before.before.before.before.before.before.before.args.t c.before.before.before.before.before.before.before.before.put-term.ensures (omega (arith, c.before.before.before.before.before.if1.false)) c.before.before.before.put-term2.ensures (omega (arith, c.if2.true))
+returns-2 c = no_property (entries c.before.before.before.before.before.before.before.before.before.before.before.before.before.args.dictionary.now) c.before.before.before.before.before.before.before.before.before.before.before.before.before.args.t c.before.before.before.before.before.before.before.before.put-term.ensures (omega (arith, c.before.before.before.before.before.if1.false)) c.before.before.before.put-term2.ensures (omega (arith, c.if2.true))
 
 -- src/lib.rt:72:9
 put-term-requires-3 : tie.Need-put-term-requires-3
-put-term-requires-3 c κs = (c.before.before.before.before.before.before.before.before.before.before.before.before.before.before.requires.0, ((all-texts (entries c.before.before.before.before.before.before.before.before.before.before.before.before.before.before.args.dictionary.now) c.before.before.before.before.before.before.before.before.before.before.before.before.before.before.args.t c.before.before.before.before.before.before.before.before.before.before.before.before.before.before.requires.1.0).object, omega (arith, c.before.before.before.before.put-term2.ensures.fits (omega (arith, c.before.if2.false)), c.before.before.before.before.put-term2.auto.1.1.1.1.0)))
+put-term-requires-3 c κs = (c.before.before.before.before.before.before.before.before.before.before.before.before.before.before.requires.0, ((all_texts (entries c.before.before.before.before.before.before.before.before.before.before.before.before.before.before.args.dictionary.now) c.before.before.before.before.before.before.before.before.before.before.before.before.before.before.args.t c.before.before.before.before.before.before.before.before.before.before.before.before.before.before.requires.1.0).object, omega (arith, c.before.before.before.before.put-term2.ensures.fits (omega (arith, c.before.if2.false)), c.before.before.before.before.put-term2.auto.1.1.1.1.0)))
 
 -- src/lib.rt:74:9
 same-length-3 : tie.Need-same-length-3
@@ -44,7 +44,7 @@ same-length-3 c = search rules
 
 -- src/lib.rt:74:9
 returns-3 : tie.Need-returns-3
-returns-3 c = no-object (entries c.before.before.before.before.before.before.before.before.before.before.before.before.before.before.before.before.before.before.args.dictionary.now) c.before.before.before.before.before.before.before.before.before.before.before.before.before.before.before.before.before.before.args.t c.before.before.before.before.before.before.before.before.before.before.before.before.before.put-term.ensures (omega (arith, c.before.before.before.before.before.before.before.before.before.before.if1.false)) c.before.before.before.before.before.before.before.before.put-term2.ensures (omega (arith, c.before.before.before.before.before.if2.false)) c.before.before.before.put-term3.ensures (omega (arith, c.if3.true))
+returns-3 c = no_object (entries c.before.before.before.before.before.before.before.before.before.before.before.before.before.before.before.before.before.before.args.dictionary.now) c.before.before.before.before.before.before.before.before.before.before.before.before.before.before.before.before.before.before.args.t c.before.before.before.before.before.before.before.before.before.before.before.before.before.put-term.ensures (omega (arith, c.before.before.before.before.before.before.before.before.before.before.if1.false)) c.before.before.before.before.before.before.before.before.put-term2.ensures (omega (arith, c.before.before.before.before.before.if2.false)) c.before.before.before.put-term3.ensures (omega (arith, c.if3.true))
 
 -- src/lib.rt:76:5
 put-end-requires : tie.Need-put-end-requires

@@ -1,6 +1,6 @@
 use mathlib.Core.Path.{sym, ◌∙◌}
 use Rattle.spec_ntriples.specs.Dictionary.{entries}
-use Rattle.ntriples_copy.proofs.Vocabulary.{vocabulary-bounds, text-vocabulary, text-entry, has-entry}
+use Rattle.ntriples_copy.proofs.Vocabulary.{vocabulary_bounds, text_vocabulary, text-entry, has-entry}
 use borrow.Author.Rules.{rules}
 use Rattle.ntriples_rows.proofs.put_term.Statement.{statement}
 use Rattle.ntriples_rows.proofs.put_term.Tie as tie
@@ -17,7 +17,7 @@ is-vocabulary-requires c κs = search rules
 
 -- src/lib.rt:45:9
 put-vocabulary-requires : tie.Need-put-vocabulary-requires
-put-vocabulary-requires c κs = (vocabulary-bounds c.before.before.before.before.before.before.args.term (sym c.before.before.is-vocabulary.ensures ∙ c.before.if1.true), c.before.before.before.before.before.before.requires.1.1)
+put-vocabulary-requires c κs = (vocabulary_bounds c.before.before.before.before.before.before.args.term (sym c.before.before.is-vocabulary.ensures ∙ c.before.if1.true), c.before.before.before.before.before.before.requires.1.1)
 
 -- src/lib.rt:45:9
 same_length : tie.Need-same-length
@@ -25,7 +25,7 @@ same_length c = search rules
 
 -- src/lib.rt:45:9
 returns : tie.Need-returns
-returns c = rw (text-vocabulary (entries c.before.before.before.before.before.before.before.before.before.args.dictionary.now) c.before.before.before.before.before.before.before.before.before.args.term (sym c.before.before.before.before.before.is-vocabulary.ensures ∙ c.before.before.before.before.if1.true)) c.before.before.put-vocabulary.ensures
+returns c = rw (text_vocabulary (entries c.before.before.before.before.before.before.before.before.before.args.dictionary.now) c.before.before.before.before.before.before.before.before.before.args.term (sym c.before.before.before.before.before.is-vocabulary.ensures ∙ c.before.before.before.before.if1.true)) c.before.before.put-vocabulary.ensures
 
 -- src/lib.rt:47:27
 place-of-requires : tie.Need-place-of-requires

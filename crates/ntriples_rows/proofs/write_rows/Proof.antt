@@ -5,8 +5,8 @@ use mathlib.Core.Path.{◌∙◌}
 use lib.ListN.{drop}
 use Rattle.spec.specs.Tables.{rows}
 use Rattle.spec_ntriples.specs.Dictionary.{entries}
-use Rattle.spec_writing.specs.Writing.{rowsBytes}
-use Rattle.ntriples_rows.proofs.Lines.{Left, left-first, left-next, left-has, left-full, left-more, left-done, left_end, rows_none, given-none, given-all}
+use Rattle.spec_writing.specs.Writing.{rows_bytes}
+use Rattle.ntriples_rows.proofs.Lines.{Left, left_first, left-next, left_has, left-full, left_more, left_done, left_end, rows_none, given_none, given-all}
 use Rattle.ntriples_rows.proofs.write_rows.Statement.{statement}
 use Rattle.ntriples_rows.proofs.write_rows.Tie as tie
 use Rattle.ntriples_rows.proofs.write_rows.Reads as reads
@@ -31,7 +31,7 @@ cast-n c = search rules
 
 -- src/lib.rt:96:5
 loop-holds : tie.Need-loop-init invariant-loop decreases-loop
-loop-holds c = (omega arith, left-first (entries c.before.before.before.before.before.args.dictionary.now) (rows c.before.before.before.before.before.args.table.now) c.before.before.before.before.before.args.out.now c.before.before.before.before.before.requires.1.1)
+loop-holds c = (omega arith, left_first (entries c.before.before.before.before.before.args.dictionary.now) (rows c.before.before.before.before.before.args.table.now) c.before.before.before.before.before.args.out.now c.before.before.before.before.before.requires.1.1)
 
 -- src/lib.rt:97:27
 row-at-requires : tie.Need-row-at-requires invariant-loop decreases-loop
@@ -39,7 +39,7 @@ row-at-requires c κs = search rules
 
 -- src/lib.rt:97:13
 put-row-requires : tie.Need-put-row-requires invariant-loop decreases-loop
-put-row-requires c κs = (c.before.before.before.before.before.before.before.before.before.requires.1.0, (left-has c.before.row_at.result (left-next c.before.before.before.before.before.before.before.before.before.args.table.now c.before.before.before.loop.i c.before.row_at.result c.before.before.before.before.before.before.before.before.before.requires.0 c.before.before.loop-test.true c.before.row_at.ensures c.before.before.before.loop.invariant.1), c.before.before.before.loop.invariant.1.inside))
+put-row-requires c κs = (c.before.before.before.before.before.before.before.before.before.requires.1.0, (left_has c.before.row_at.result (left-next c.before.before.before.before.before.before.before.before.before.args.table.now c.before.before.before.loop.i c.before.row_at.result c.before.before.before.before.before.before.before.before.before.requires.0 c.before.before.loop-test.true c.before.row_at.ensures c.before.before.before.loop.invariant.1), c.before.before.before.loop.invariant.1.inside))
 
 -- src/lib.rt:99:13
 clear-from-requires : tie.Need-clear-from-requires invariant-loop decreases-loop
@@ -51,7 +51,7 @@ same_length c = search rules
 
 -- src/lib.rt:100:13
 returns : tie.Need-returns invariant-loop decreases-loop
-returns c = given-none (rowsBytes (entries c.before.before.before.before.before.before.before.before.before.before.before.before.before.before.before.before.before.args.dictionary.now) (rows c.before.before.before.before.before.before.before.before.before.before.before.before.before.before.before.before.before.args.table.now)) c.before.before.before.before.before.before.before.before.before.before.before.before.before.before.before.before.before.args.out.now c.before.before.before.before.before.before.before.put-row.new.1.1.1.1.0 _ (left-full c.before.before.before.before.before.before.before.before.before.row_at.result (left-next c.before.before.before.before.before.before.before.before.before.before.before.before.before.before.before.before.before.args.table.now c.before.before.before.before.before.before.before.before.before.before.before.loop.i c.before.before.before.before.before.before.before.before.before.row_at.result c.before.before.before.before.before.before.before.before.before.before.before.before.before.before.before.before.before.requires.0 c.before.before.before.before.before.before.before.before.before.before.loop-test.true c.before.before.before.before.before.before.before.before.before.row_at.ensures c.before.before.before.before.before.before.before.before.before.before.before.loop.invariant.1) c.before.before.before.before.before.before.before.put-row.ensures (omega (arith, c.before.before.before.before.if1.true))) (c.before.before.before.before.before.before.before.put-row.auto.1.1.1.1.0 ∙ c.before.before.before.before.before.before.before.before.before.before.before.loop.invariant.1.long) c.before.before.clear-from.ensures
+returns c = given_none (rows_bytes (entries c.before.before.before.before.before.before.before.before.before.before.before.before.before.before.before.before.before.args.dictionary.now) (rows c.before.before.before.before.before.before.before.before.before.before.before.before.before.before.before.before.before.args.table.now)) c.before.before.before.before.before.before.before.before.before.before.before.before.before.before.before.before.before.args.out.now c.before.before.before.before.before.before.before.put-row.new.1.1.1.1.0 _ (left-full c.before.before.before.before.before.before.before.before.before.row_at.result (left-next c.before.before.before.before.before.before.before.before.before.before.before.before.before.before.before.before.before.args.table.now c.before.before.before.before.before.before.before.before.before.before.before.loop.i c.before.before.before.before.before.before.before.before.before.row_at.result c.before.before.before.before.before.before.before.before.before.before.before.before.before.before.before.before.before.requires.0 c.before.before.before.before.before.before.before.before.before.before.loop-test.true c.before.before.before.before.before.before.before.before.before.row_at.ensures c.before.before.before.before.before.before.before.before.before.before.before.loop.invariant.1) c.before.before.before.before.before.before.before.put-row.ensures (omega (arith, c.before.before.before.before.if1.true))) (c.before.before.before.before.before.before.before.put-row.auto.1.1.1.1.0 ∙ c.before.before.before.before.before.before.before.before.before.before.before.loop.invariant.1.long) c.before.before.clear-from.ensures
 
 -- src/lib.rt:103:9
 add-i : tie.Need-overflow-add-i invariant-loop decreases-loop
@@ -63,7 +63,7 @@ loop-less c = search rules
 
 -- src/lib.rt:96:5
 loop-again : tie.Need-loop-preserved invariant-loop decreases-loop
-loop-again c = (omega arith, left-more c.before.before.before.before.before.row_at.result (left-next c.before.before.before.before.before.before.before.before.before.before.before.before.before.args.table.now c.before.before.before.before.before.before.before.loop.i c.before.before.before.before.before.row_at.result c.before.before.before.before.before.before.before.before.before.before.before.before.before.requires.0 c.before.before.before.before.before.before.loop-test.true c.before.before.before.before.before.row_at.ensures c.before.before.before.before.before.before.before.loop.invariant.1) c.before.before.before.put-row.ensures (omega (arith, c.if1.false)))
+loop-again c = (omega arith, left_more c.before.before.before.before.before.row_at.result (left-next c.before.before.before.before.before.before.before.before.before.before.before.before.before.args.table.now c.before.before.before.before.before.before.before.loop.i c.before.before.before.before.before.row_at.result c.before.before.before.before.before.before.before.before.before.before.before.before.before.requires.0 c.before.before.before.before.before.before.loop-test.true c.before.before.before.before.before.row_at.ensures c.before.before.before.before.before.before.before.loop.invariant.1) c.before.before.before.put-row.ensures (omega (arith, c.if1.false)))
 
 -- src/lib.rt:105:5
 clear-from-requires-2 : tie.Need-clear-from-requires-2 invariant-loop decreases-loop
@@ -75,7 +75,7 @@ same-length-2 c = search rules
 
 -- src/lib.rt:81:1
 returns-2 : tie.Need-returns-2 invariant-loop decreases-loop
-returns-2 c = given-all (rowsBytes (entries c.before.before.before.before.before.before.before.before.before.before.before.args.dictionary.now) (rows c.before.before.before.before.before.before.before.before.before.before.before.args.table.now)) c.before.before.before.before.before.before.before.before.before.before.before.args.out.now _ _ _ (left-done c.before.before.before.before.before.loop.invariant.1 (rows_none c.before.before.before.before.before.before.before.before.before.before.before.args.table.now c.before.before.before.before.before.loop.i c.before.before.before.before.before.before.before.before.before.before.before.requires.0 (omega arith))) (left_end c.before.before.before.before.before.loop.invariant.1 (rows_none c.before.before.before.before.before.before.before.before.before.before.before.args.table.now c.before.before.before.before.before.loop.i c.before.before.before.before.before.before.before.before.before.before.before.requires.0 (omega arith))) c.before.before.before.before.before.loop.invariant.1.inside c.before.before.clear-from2.ensures
+returns-2 c = given-all (rows_bytes (entries c.before.before.before.before.before.before.before.before.before.before.before.args.dictionary.now) (rows c.before.before.before.before.before.before.before.before.before.before.before.args.table.now)) c.before.before.before.before.before.before.before.before.before.before.before.args.out.now _ _ _ (left_done c.before.before.before.before.before.loop.invariant.1 (rows_none c.before.before.before.before.before.before.before.before.before.before.before.args.table.now c.before.before.before.before.before.loop.i c.before.before.before.before.before.before.before.before.before.before.before.requires.0 (omega arith))) (left_end c.before.before.before.before.before.loop.invariant.1 (rows_none c.before.before.before.before.before.before.before.before.before.before.before.args.table.now c.before.before.before.before.before.loop.i c.before.before.before.before.before.before.before.before.before.before.before.requires.0 (omega arith))) c.before.before.before.before.before.loop.invariant.1.inside c.before.before.clear-from2.ensures
 
 pub write-rows-spec : {M : Type 1} → statement M
 write-rows-spec =

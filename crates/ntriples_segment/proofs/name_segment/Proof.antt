@@ -1,5 +1,5 @@
 use native.Mathlib.Omega.{arith}
-use Rattle.ntriples_last.proofs.Steps.{index-leads, left-entries, here, here-index, here-some, here-within, looked-on, here-last}
+use Rattle.ntriples_last.proofs.Steps.{index_leads, left-entries, here, here-index, here-some, here-within, looked-on, here-last}
 use borrow.Author.Rules.{rules}
 use Rattle.ntriples_segment.proofs.name_segment.Statement.{statement}
 use Rattle.ntriples_segment.proofs.name_segment.Tie as tie
@@ -28,7 +28,7 @@ slice-aggregate-find-terms c = search rules
 
 -- src/lib.rt:77:9
 find-terms-requires : tie.Need-find-terms-requires
-find-terms-requires c κs = (index-leads c.before.before.before.before.before.before.before.index-segment.new.0 c.before.before.before.before.before.before.before.before.before.before.before.before.before.before.before.args.dictionary.now c.before.before.before.before.before.before.before.before.before.before.before.before.before.before.before.args.first (here c.before.before.before.before.before.before.before.before.before.before.before.before.before.before.before.requires.old c.before.before.before.before.before.before.before.before.before.before.before.before.before.before.before.requires.triples c.before.before.before.before.before.before.before.before.before.before.before.before.before.before.before.args.dictionary.now c.before.before.before.before.before.before.before.before.before.before.before.before.before.before.before.args.first c.before.before.before.before.before.before.before.before.before.before.before.before.before.before.before.args.f c.before.before.before.before.before.before.before.before.before.before.before.before.before.before.before.args.terms.now c.before.before.before.before.before.before.before.before.before.before.before.before.before.before.before.requires.looked c.before.before.before.before.before.before.before.index-segment.new.0 c.before.before.before.before.before.before.before.index-segment.result c.before.before.before.before.before.before.before.index-segment.ensures) (here-index c.before.before.before.before.before.before.before.before.before.before.before.before.before.before.before.requires.old c.before.before.before.before.before.before.before.before.before.before.before.before.before.before.before.requires.triples c.before.before.before.before.before.before.before.before.before.before.before.before.before.before.before.args.dictionary.now c.before.before.before.before.before.before.before.before.before.before.before.before.before.before.before.args.first c.before.before.before.before.before.before.before.before.before.before.before.before.before.before.before.args.f c.before.before.before.before.before.before.before.before.before.before.before.before.before.before.before.args.terms.now c.before.before.before.before.before.before.before.before.before.before.before.before.before.before.before.requires.looked c.before.before.before.before.before.before.before.index-segment.new.0 c.before.before.before.before.before.before.before.index-segment.result c.before.before.before.before.before.before.before.index-segment.ensures), record { triples = c.before.before.before.before.before.before.before.before.before.before.before.before.before.before.before.requires.triples; stand = c.before.before.before.before.before.before.before.before.before.before.before.before.before.before.before.requires.batch.stand; noted = c.before.before.before.before.before.before.before.before.before.before.before.before.before.before.before.requires.noted; room = c.before.before.before.before.before.before.before.before.before.before.before.before.before.before.before.requires.room })
+find-terms-requires c κs = (index_leads c.before.before.before.before.before.before.before.index-segment.new.0 c.before.before.before.before.before.before.before.before.before.before.before.before.before.before.before.args.dictionary.now c.before.before.before.before.before.before.before.before.before.before.before.before.before.before.before.args.first (here c.before.before.before.before.before.before.before.before.before.before.before.before.before.before.before.requires.old c.before.before.before.before.before.before.before.before.before.before.before.before.before.before.before.requires.triples c.before.before.before.before.before.before.before.before.before.before.before.before.before.before.before.args.dictionary.now c.before.before.before.before.before.before.before.before.before.before.before.before.before.before.before.args.first c.before.before.before.before.before.before.before.before.before.before.before.before.before.before.before.args.f c.before.before.before.before.before.before.before.before.before.before.before.before.before.before.before.args.terms.now c.before.before.before.before.before.before.before.before.before.before.before.before.before.before.before.requires.looked c.before.before.before.before.before.before.before.index-segment.new.0 c.before.before.before.before.before.before.before.index-segment.result c.before.before.before.before.before.before.before.index-segment.ensures) (here-index c.before.before.before.before.before.before.before.before.before.before.before.before.before.before.before.requires.old c.before.before.before.before.before.before.before.before.before.before.before.before.before.before.before.requires.triples c.before.before.before.before.before.before.before.before.before.before.before.before.before.before.before.args.dictionary.now c.before.before.before.before.before.before.before.before.before.before.before.before.before.before.before.args.first c.before.before.before.before.before.before.before.before.before.before.before.before.before.before.before.args.f c.before.before.before.before.before.before.before.before.before.before.before.before.before.before.before.args.terms.now c.before.before.before.before.before.before.before.before.before.before.before.before.before.before.before.requires.looked c.before.before.before.before.before.before.before.index-segment.new.0 c.before.before.before.before.before.before.before.index-segment.result c.before.before.before.before.before.before.before.index-segment.ensures), record { triples = c.before.before.before.before.before.before.before.before.before.before.before.before.before.before.before.requires.triples; stand = c.before.before.before.before.before.before.before.before.before.before.before.before.before.before.before.requires.batch.stand; noted = c.before.before.before.before.before.before.before.before.before.before.before.before.before.before.before.requires.noted; room = c.before.before.before.before.before.before.before.before.before.before.before.before.before.before.before.requires.room })
 
 -- src/lib.rt:78:9
 same_length : tie.Need-same-length

@@ -1,13 +1,13 @@
 use mathlib.Core.Path.{sym, ◌∙◌}
 use Prim.Native.Nat.{◌-◌}
-use Rattle.ntriples_terminals.proofs.Ending.{end_same, scheme-end, absolute-broken, absolute-cut, absolute-end, absolute-on, absolute-off}
+use Rattle.ntriples_terminals.proofs.Ending.{end_same, scheme_end, absolute_broken, absolute_cut, absolute_end, absolute-on, absolute-off}
 use borrow.Author.Rules.{rules}
 use Rattle.ntriples_terminals.proofs.absolute_end.Statement.{statement}
 use Rattle.ntriples_terminals.proofs.absolute_end.Tie as tie
 
 -- src/lib.rt:121:9
 returns : tie.Need-returns
-returns c = absolute-end c.before.before.args.line.now c.before.before.args.from c.if1.true
+returns c = absolute_end c.before.before.args.line.now c.before.before.args.from c.if1.true
 
 -- src/lib.rt:123:11
 piece-at-requires : tie.Need-piece-at-requires
@@ -35,15 +35,15 @@ scheme-end-requires c κs = (rw c.before.before.before.c.given.1 at c.before.bef
 
 -- src/lib.rt:116:1
 returns-2 : tie.Need-returns-2
-returns-2 c = absolute-broken c.before.before.before.before.before.args.line.now c.before.before.before.before.before.args.from (rw c.enum_told.given.1 at c.before.before.piece-at.ensures)
+returns-2 c = absolute_broken c.before.before.before.before.before.args.line.now c.before.before.before.before.before.args.from (rw c.enum_told.given.1 at c.before.before.piece-at.ensures)
 
 -- src/lib.rt:116:1
 returns-3 : tie.Need-returns-3
-returns-3 c = absolute-cut c.before.before.before.before.before.args.line.now c.before.before.before.before.before.args.from _ (rw c.enum-told2.given.1 at c.before.before.piece-at.ensures)
+returns-3 c = absolute_cut c.before.before.before.before.before.args.line.now c.before.before.before.before.before.args.from _ (rw c.enum-told2.given.1 at c.before.before.piece-at.ensures)
 
 -- src/lib.rt:116:1
 returns-4 : tie.Need-returns-4
-returns-4 c = end_same c.before.before.before.before.before.before.before.before.before.args.line.now _ _ c.scheme-end.result (absolute-on c.before.before.before.before.before.before.before.before.before.args.line.now c.before.before.before.before.before.before.before.before.before.args.from _ _ (rw c.before.before.before.before.c.given.1 at c.before.before.before.before.before.before.piece-at.ensures) (sym c.before.before.is-letter.ensures ∙ c.before.if2.true)) c.scheme-end.ensures
+returns-4 c = end_same c.before.before.before.before.before.before.before.before.before.args.line.now _ _ c.scheme_end.result (absolute-on c.before.before.before.before.before.before.before.before.before.args.line.now c.before.before.before.before.before.before.before.before.before.args.from _ _ (rw c.before.before.before.before.c.given.1 at c.before.before.before.before.before.before.piece-at.ensures) (sym c.before.before.is-letter.ensures ∙ c.before.if2.true)) c.scheme_end.ensures
 
 -- src/lib.rt:116:1
 returns-5 : tie.Need-returns-5

@@ -5,7 +5,7 @@ use Rattle.ntriples_bytes.specs.inside.Places.{Utf8From}
 use lib.ListN.{length}
 use Prim.Native.Nat.{◌-◌}
 use Rattle.ntriples_pieces.proofs.Reading.{plain-piece}
-use Rattle.ntriples_terminals.proofs.Ending.{closes, closes-broken, closes_here, closes-later, closes-end, end_same}
+use Rattle.ntriples_terminals.proofs.Ending.{closes, closes_broken, closes_here, closes_later, closes_end, end_same}
 use Rattle.ntriples_terminals.specs.declared.Found.TheVariants.{End}
 use Rattle.ntriples_terminals.proofs.closing_end.Statement.{statement}
 use Rattle.ntriples_terminals.proofs.closing_end.Tie as tie
@@ -38,7 +38,7 @@ loop-less c = search rules
 
 -- src/lib.rt:59:5
 loop-again : tie.Need-loop-preserved invariant-loop decreases-loop
-loop-again c = ((plain-piece c.before.before.before.before.before.before.args.iri c.before.before.before.before.before.before.args.line.now c.before.before.before.before.loop.at c.before.before.before.before.loop.invariant.0 c.before.before.before.loop-test.true (sym c.before.is_plain.ensures ∙ c.if1.true)).1.0, c.before.before.before.before.loop.invariant.1 ∙ closes-later c.before.before.before.before.before.before.args.iri c.before.before.before.before.before.before.args.line.now c.before.before.before.before.loop.at _ _ (plain-piece c.before.before.before.before.before.before.args.iri c.before.before.before.before.before.before.args.line.now c.before.before.before.before.loop.at c.before.before.before.before.loop.invariant.0 c.before.before.before.loop-test.true (sym c.before.is_plain.ensures ∙ c.if1.true)))
+loop-again c = ((plain-piece c.before.before.before.before.before.before.args.iri c.before.before.before.before.before.before.args.line.now c.before.before.before.before.loop.at c.before.before.before.before.loop.invariant.0 c.before.before.before.loop-test.true (sym c.before.is_plain.ensures ∙ c.if1.true)).1.0, c.before.before.before.before.loop.invariant.1 ∙ closes_later c.before.before.before.before.before.before.args.iri c.before.before.before.before.before.before.args.line.now c.before.before.before.before.loop.at _ _ (plain-piece c.before.before.before.before.before.before.args.iri c.before.before.before.before.before.before.args.line.now c.before.before.before.before.loop.at c.before.before.before.before.loop.invariant.0 c.before.before.before.loop-test.true (sym c.before.is_plain.ensures ∙ c.if1.true)))
 
 -- src/lib.rt:64:15
 piece-at-requires : tie.Need-piece-at-requires invariant-loop decreases-loop
@@ -50,7 +50,7 @@ enum_told c = search rules
 
 -- src/lib.rt:66:17
 returns : tie.Need-returns invariant-loop decreases-loop
-returns c = c.before.before.before.before.before.before.before.loop.invariant.1 ∙ closes-broken c.before.before.before.before.before.before.before.before.before.args.iri c.before.before.before.before.before.before.before.before.before.args.line.now c.before.before.before.before.before.before.before.loop.at (rw c.enum_told.given.1 at c.before.before.piece-at.ensures)
+returns c = c.before.before.before.before.before.before.before.loop.invariant.1 ∙ closes_broken c.before.before.before.before.before.before.before.before.before.args.iri c.before.before.before.before.before.before.before.before.before.args.line.now c.before.before.before.before.before.before.before.loop.at (rw c.enum_told.given.1 at c.before.before.piece-at.ensures)
 
 -- src/lib.rt:68:25
 enum-known-next : tie.Need-enum-known-next invariant-loop decreases-loop
@@ -70,11 +70,11 @@ loop-less-2 c = omega (arith, (rw c.before.next2.given.1 at c.before.before.befo
 
 -- src/lib.rt:59:5
 loop-again-2 : tie.Need-loop-preserved-2 invariant-loop decreases-loop
-loop-again-2 c = ((rw c.before.next2.given.1 at c.before.before.before.piece-at.ensures).1.0, c.before.before.before.before.before.before.before.before.loop.invariant.1 ∙ closes-later c.before.before.before.before.before.before.before.before.before.before.args.iri c.before.before.before.before.before.before.before.before.before.before.args.line.now c.before.before.before.before.before.before.before.before.loop.at _ _ (rw c.before.next2.given.1 at c.before.before.before.piece-at.ensures))
+loop-again-2 c = ((rw c.before.next2.given.1 at c.before.before.before.piece-at.ensures).1.0, c.before.before.before.before.before.before.before.before.loop.invariant.1 ∙ closes_later c.before.before.before.before.before.before.before.before.before.before.args.iri c.before.before.before.before.before.before.before.before.before.before.args.line.now c.before.before.before.before.before.before.before.before.loop.at _ _ (rw c.before.next2.given.1 at c.before.before.before.piece-at.ensures))
 
 -- src/lib.rt:54:1
 returns-3 : tie.Need-returns-3 invariant-loop decreases-loop
-returns-3 c = c.before.loop.invariant.1 ∙ closes-end c.before.before.before.args.iri c.before.before.before.args.line.now c.before.loop.at (search rules)
+returns-3 c = c.before.loop.invariant.1 ∙ closes_end c.before.before.before.args.iri c.before.before.before.args.line.now c.before.loop.at (search rules)
 
 pub closing-end-spec : {M : Type 1} → statement M
 closing-end-spec =

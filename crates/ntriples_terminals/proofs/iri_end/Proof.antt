@@ -1,13 +1,13 @@
 use Prim.Native.Nat.{◌-◌}
-use Rattle.ntriples_bytes.proofs.Decoding.{from-marked}
-use Rattle.ntriples_terminals.proofs.Ending.{end_same, iri-end, iri-none, iri-some}
+use Rattle.ntriples_bytes.proofs.Decoding.{from_marked}
+use Rattle.ntriples_terminals.proofs.Ending.{end_same, iri_end, iri-none, iri-some}
 use borrow.Author.Rules.{rules}
 use Rattle.ntriples_terminals.proofs.iri_end.Statement.{statement}
 use Rattle.ntriples_terminals.proofs.iri_end.Tie as tie
 
 -- src/lib.rt:142:9
 returns : tie.Need-returns
-returns c = iri-end c.before.before.args.line.now c.before.before.args.from c.if1.true
+returns c = iri_end c.before.before.args.line.now c.before.before.args.from c.if1.true
 
 -- src/lib.rt:144:9
 char-at-requires : tie.Need-char-at-requires
@@ -23,11 +23,11 @@ returns-2 c = iri-none c.before.before.before.before.before.args.line.now c.befo
 
 -- src/lib.rt:148:5
 absolute-end-requires : tie.Need-absolute-end-requires
-absolute-end-requires c κs = from-marked c.before.before.char-at.ensures
+absolute-end-requires c κs = from_marked c.before.before.char-at.ensures
 
 -- src/lib.rt:137:1
 returns-3 : tie.Need-returns-3
-returns-3 c = end_same c.before.before.before.before.before.before.args.line.now _ _ c.absolute-end.result (iri-some c.before.before.before.before.before.before.args.line.now c.before.before.before.before.before.before.args.from _ c.before.before.before.char-at.ensures c.before.if2.false) c.absolute-end.ensures
+returns-3 c = end_same c.before.before.before.before.before.before.args.line.now _ _ c.absolute_end.result (iri-some c.before.before.before.before.before.before.args.line.now c.before.before.before.before.before.before.args.from _ c.before.before.before.char-at.ensures c.before.if2.false) c.absolute_end.ensures
 
 pub iri-end-spec : {M : Type 1} → statement M
 iri-end-spec =

@@ -1,5 +1,5 @@
 use Prim.Native.Nat.{◌-◌}
-use Rattle.ntriples_terminals.proofs.Firsts.{behind-none, behind-some, behind-other}
+use Rattle.ntriples_terminals.proofs.Firsts.{behind_none, behind-some, behind-other}
 use lib.Dec.{eqb}
 use borrow.Author.Tests.{eq-eqb, ne_eqb}
 use borrow.Author.Rules.{rules}
@@ -8,7 +8,7 @@ use Rattle.ntriples_terminals.proofs.mark_end.Tie as tie
 
 -- src/lib.rt:60:9
 returns : tie.Need-returns
-returns c = behind-none (λ x. eqb x c.before.before.args.mark) c.before.before.args.line.now c.before.before.args.at c.if1.true
+returns c = behind_none (λ x. eqb x c.before.before.args.mark) c.before.before.args.line.now c.before.before.args.at c.if1.true
 
 -- src/lib.rt:62:9
 char-at-requires : tie.Need-char-at-requires

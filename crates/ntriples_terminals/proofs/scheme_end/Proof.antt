@@ -4,13 +4,13 @@ use mathlib.Core.Path.{◌≡◌, sym, ◌∙◌}
 use Rattle.ntriples_bytes.specs.inside.Places.{Utf8From}
 use lib.ListN.{length}
 use Prim.Native.Nat.{◌-◌}
-use Rattle.ntriples_terminals.proofs.Ending.{inScheme, end_same, scheme-broken, scheme-cut, scheme-end, scheme-colon, scheme-on, scheme-off}
+use Rattle.ntriples_terminals.proofs.Ending.{in_scheme, end_same, scheme_broken, scheme_cut, scheme_end, scheme-colon, scheme-on, scheme-off}
 use borrow.Author.Tests.{not-true, not-false}
 use Rattle.ntriples_terminals.proofs.scheme_end.Statement.{statement}
 use Rattle.ntriples_terminals.proofs.scheme_end.Tie as tie
 
 abbrev invariant-loop : tie.invariant-loop
-invariant-loop line from at₀ at = Utf8From line at × (inScheme line from ≡ inScheme line at)
+invariant-loop line from at₀ at = Utf8From line at × (in_scheme line from ≡ in_scheme line at)
 
 abbrev decreases-loop : tie.decreases-loop
 decreases-loop line from at₀ at = length line - at
@@ -29,7 +29,7 @@ enum_told c = search rules
 
 -- src/lib.rt:96:17
 returns : tie.Need-returns invariant-loop decreases-loop
-returns c = c.before.before.before.before.loop.invariant.1 ∙ scheme-broken c.before.before.before.before.before.before.args.line.now c.before.before.before.before.loop.at (rw c.enum_told.given.1 at c.before.before.piece-at.ensures)
+returns c = c.before.before.before.before.loop.invariant.1 ∙ scheme_broken c.before.before.before.before.before.before.args.line.now c.before.before.before.before.loop.at (rw c.enum_told.given.1 at c.before.before.piece-at.ensures)
 
 -- src/lib.rt:99:17
 enum-told-2 : tie.Need-enum-told-2 invariant-loop decreases-loop
@@ -37,7 +37,7 @@ enum-told-2 c = search rules
 
 -- src/lib.rt:99:17
 returns-2 : tie.Need-returns-2 invariant-loop decreases-loop
-returns-2 c = c.before.before.before.before.loop.invariant.1 ∙ scheme-cut c.before.before.before.before.before.before.args.line.now c.before.before.before.before.loop.at _ (rw c.enum-told2.given.1 at c.before.before.piece-at.ensures)
+returns-2 c = c.before.before.before.before.loop.invariant.1 ∙ scheme_cut c.before.before.before.before.before.before.args.line.now c.before.before.before.before.loop.at _ (rw c.enum-told2.given.1 at c.before.before.piece-at.ensures)
 
 -- src/lib.rt:101:26
 enum-known-c : tie.Need-enum-known-c invariant-loop decreases-loop
@@ -73,7 +73,7 @@ loop-again c = ((rw c.before.before.before.before.c.given.1 at c.before.before.b
 
 -- src/lib.rt:88:1
 returns-5 : tie.Need-returns-5 invariant-loop decreases-loop
-returns-5 c = c.before.loop.invariant.1 ∙ scheme-end c.before.before.before.args.line.now c.before.loop.at (search rules)
+returns-5 c = c.before.loop.invariant.1 ∙ scheme_end c.before.before.before.args.line.now c.before.loop.at (search rules)
 
 pub scheme-end-spec : {M : Type 1} → statement M
 scheme-end-spec =

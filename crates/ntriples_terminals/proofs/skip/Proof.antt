@@ -1,17 +1,17 @@
 use borrow.Author.Rules.{rules}
 use native.Mathlib.Omega.{arith}
 use mathlib.Core.Path.{◌≡◌, refl, ◌∙◌}
-use Rattle.ntriples_bytes.specs.inside.Places.{Utf8From, charsAt}
+use Rattle.ntriples_bytes.specs.inside.Places.{Utf8From, chars_at}
 use lib.ListN.{length}
 use Prim.Native.Nat.{◌-◌}
-use Rattle.ntriples_bytes.proofs.Decoding.{from-marked, chars-stand}
-use Rattle.ntriples_terminals.proofs.Ending.{skip-end, skip-none, skip-one}
+use Rattle.ntriples_bytes.proofs.Decoding.{from_marked, chars_stand}
+use Rattle.ntriples_terminals.proofs.Ending.{skip_end, skip-none, skip-one}
 use Rattle.spec_ntriples.specs.computed.Terminals.{skip}
 use Rattle.ntriples_terminals.proofs.skip.Statement.{statement}
 use Rattle.ntriples_terminals.proofs.skip.Tie as tie
 
 abbrev invariant-loop : tie.invariant-loop
-invariant-loop line from at₀ at = Utf8From line at × (skip (charsAt line from) ≡ skip (charsAt line at))
+invariant-loop line from at₀ at = Utf8From line at × (skip (chars_at line from) ≡ skip (chars_at line at))
 
 abbrev decreases-loop : tie.decreases-loop
 decreases-loop line from at₀ at = length line - at
@@ -34,7 +34,7 @@ cast-if1-2 c = search rules
 
 -- src/lib.rt:44:13
 returns : tie.Need-returns invariant-loop decreases-loop
-returns c = rw (c.before.before.before.before.before.loop.invariant.1 ∙ skip-none c.before.before.before.before.before.before.before.args.line.now c.before.before.before.before.before.loop.at _ c.before.before.before.char-at.ensures c.if1.true) (chars-stand c.before.before.before.before.before.loop.invariant.0)
+returns c = rw (c.before.before.before.before.before.loop.invariant.1 ∙ skip-none c.before.before.before.before.before.before.before.args.line.now c.before.before.before.before.before.loop.at _ c.before.before.before.char-at.ensures c.if1.true) (chars_stand c.before.before.before.before.before.loop.invariant.0)
 
 -- src/lib.rt:41:5
 loop-less : tie.Need-loop-smaller invariant-loop decreases-loop
@@ -42,11 +42,11 @@ loop-less c = omega (arith, c.before.before.before.before.loop-test.true, c.befo
 
 -- src/lib.rt:41:5
 loop-again : tie.Need-loop-preserved invariant-loop decreases-loop
-loop-again c = (from-marked c.before.before.before.char-at.ensures, c.before.before.before.before.before.loop.invariant.1 ∙ skip-one c.before.before.before.before.before.before.before.args.line.now c.before.before.before.before.before.loop.at _ c.before.before.before.char-at.ensures c.if1.false)
+loop-again c = (from_marked c.before.before.before.char-at.ensures, c.before.before.before.before.before.loop.invariant.1 ∙ skip-one c.before.before.before.before.before.before.before.args.line.now c.before.before.before.before.before.loop.at _ c.before.before.before.char-at.ensures c.if1.false)
 
 -- src/lib.rt:36:1
 returns-2 : tie.Need-returns-2 invariant-loop decreases-loop
-returns-2 c = rw (c.before.loop.invariant.1 ∙ skip-end c.before.before.before.args.line.now c.before.loop.at (search rules)) (chars-stand c.before.loop.invariant.0)
+returns-2 c = rw (c.before.loop.invariant.1 ∙ skip_end c.before.before.before.args.line.now c.before.loop.at (search rules)) (chars_stand c.before.loop.invariant.0)
 
 pub skip-spec : {M : Type 1} → statement M
 skip-spec =

@@ -2,7 +2,7 @@
 use Rattle.std.specs.Prelude.{ℕ, ◌≡◌, Bool, cond, List, [], ◌∷◌}
 use Rattle.spec_ntriples.specs.computed.Terminals.{Got, none, got}
 use Rattle.spec_ntriples.specs.computed.Lines.{Read, nothing, read}
-use Rattle.ntriples_bytes.specs.inside.Places.{Utf8From, charsAt}
+use Rattle.ntriples_bytes.specs.inside.Places.{Utf8From, chars_at}
 use Rattle.ntriples_terminals.specs.declared.Found.{Found}
 use Rattle.ntriples_terminals.specs.declared.Found.TheVariants.{Nothing, End}
 
@@ -12,28 +12,28 @@ pub data Behind : Type 0 where
   behind : List ℕ → Behind
 
 -- What is behind the first character, where that passes a test.
-unfoldable pub behindHead : (ℕ → Bool) → List ℕ → Behind
-behindHead test [] = nowhere
-behindHead test (c ∷ cs) = cond (test c) (behind cs) nowhere
+unfoldable pub behind_head : (ℕ → Bool) → List ℕ → Behind
+behind_head test [] = nowhere
+behind_head test (c ∷ cs) = cond (test c) (behind cs) nowhere
 
 -- What is behind a terminal whose characters pass a test.
-unfoldable pub behindWhere : (List ℕ → Bool) → Got → Behind
-behindWhere test none = nowhere
-behindWhere test (got cs rest) = cond (test cs) (behind rest) nowhere
+unfoldable pub behind_where : (List ℕ → Bool) → Got → Behind
+behind_where test none = nowhere
+behind_where test (got cs rest) = cond (test cs) (behind rest) nowhere
 
 -- What is behind a terminal.
-unfoldable pub behindGot : Got → Behind
-behindGot none = nowhere
-behindGot (got cs rest) = behind rest
+unfoldable pub behind_got : Got → Behind
+behind_got none = nowhere
+behind_got (got cs rest) = behind rest
 
 -- What is behind a term.
-unfoldable pub behindRead : Read → Behind
-behindRead nothing = nowhere
-behindRead (read t rest) = behind rest
+unfoldable pub behind_read : Read → Behind
+behind_read nothing = nowhere
+behind_read (read t rest) = behind rest
 
 -- Something was read up to an index, and the bytes are UTF-8 from there on.
 pub record Ended (bs : List ℕ) (b : Behind) (end : ℕ) : Type 0 where
-  pub same : b ≡ behind (charsAt bs end)
+  pub same : b ≡ behind (chars_at bs end)
   pub from : Utf8From bs end
 
 -- What is found is where something that was read ends; nothing, where nothing was.

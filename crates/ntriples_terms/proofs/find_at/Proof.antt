@@ -1,7 +1,7 @@
 use mathlib.Core.Path.{sym, ◌∙◌}
 use Prim.Native.Nat.{◌-◌}
-use Rattle.ntriples_batch.proofs.Gathering.{line-inside}
-use Rattle.ntriples_terms.proofs.Rows.{line-there}
+use Rattle.ntriples_batch.proofs.Gathering.{line_inside}
+use Rattle.ntriples_terms.proofs.Rows.{line_there}
 use Rattle.ntriples_terms.proofs.Found.{row_kept}
 use borrow.Author.Rules.{rules}
 use Rattle.ntriples_terms.proofs.find_at.Statement.{statement}
@@ -27,7 +27,7 @@ line-end-requires c κs = c.before.before.before.before.before.requires.1.line.w
 
 -- src/lib.rt:137:9
 tokens-at-requires : tie.Need-tokens-at-requires
-tokens-at-requires c κs = (line-there c.before.before.before.before.before.before.args.file.now c.before.before.before.before.before.before.args.begin c.line-end.result c.before.before.before.before.before.before.requires.1 c.line-end.ensures)
+tokens-at-requires c κs = (line_there c.before.before.before.before.before.before.args.file.now c.before.before.before.before.before.before.args.begin c.line_end.result c.before.before.before.before.before.before.requires.1 c.line_end.ensures)
 
 -- src/lib.rt:138:39
 sub-find-in : tie.Need-overflow-sub-find-in
@@ -39,7 +39,7 @@ part-find-in-start c = search rules
 
 -- src/lib.rt:138:39
 part-find-in-end : tie.Need-slice-bounds-find-in-end
-part-find-in-end c = line-inside c.before.before.before.before.before.before.before.args.file.now c.before.before.before.before.before.before.before.args.begin c.before.line-end.result (line-there c.before.before.before.before.before.before.before.args.file.now c.before.before.before.before.before.before.before.args.begin c.before.line-end.result c.before.before.before.before.before.before.before.requires.1 c.before.line-end.ensures)
+part-find-in-end c = line_inside c.before.before.before.before.before.before.before.args.file.now c.before.before.before.before.before.before.before.args.begin c.before.line_end.result (line_there c.before.before.before.before.before.before.before.args.file.now c.before.before.before.before.before.before.before.args.begin c.before.line_end.result c.before.before.before.before.before.before.before.requires.1 c.before.line_end.ensures)
 
 -- src/lib.rt:138:5
 find-in-requires : tie.Need-find-in-requires

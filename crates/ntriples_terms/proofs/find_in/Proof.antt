@@ -1,5 +1,5 @@
 use Prim.Native.Nat.{◌-◌}
-use Rattle.ntriples_terms.proofs.Rows.{subject-token, property-token, object-token}
+use Rattle.ntriples_terms.proofs.Rows.{subject_token, property_token, object_token}
 use Rattle.ntriples_terms.proofs.Found.{found-row}
 use Rattle.ntriples_terms.proofs.find_in.Statement.{statement}
 use Rattle.ntriples_terms.proofs.find_in.Tie as tie
@@ -9,15 +9,15 @@ use Rattle.ntriples_terms.proofs.find_word.Reads as find-word-reads
 
 -- src/lib.rt:114:18
 find-word-requires : tie.Need-find-word-requires
-find-word-requires c κs = (c.before.before.before.before.before.before.requires.0, subject-token c.before.before.before.before.before.before.args.line.now c.before.before.before.before.before.before.args.k c.before.before.before.before.before.before.requires.1)
+find-word-requires c κs = (c.before.before.before.before.before.before.requires.0, subject_token c.before.before.before.before.before.before.args.line.now c.before.before.before.before.before.before.args.k c.before.before.before.before.before.before.requires.1)
 
 -- src/lib.rt:115:19
 find-word-requires-2 : tie.Need-find-word-requires-2
-find-word-requires-2 c κs = (c.before.before.before.before.before.before.before.requires.0, property-token c.before.before.before.before.before.before.before.args.line.now c.before.before.before.before.before.before.before.args.k c.before.before.before.before.before.before.before.requires.1)
+find-word-requires-2 c κs = (c.before.before.before.before.before.before.before.requires.0, property_token c.before.before.before.before.before.before.before.args.line.now c.before.before.before.before.before.before.before.args.k c.before.before.before.before.before.before.before.requires.1)
 
 -- src/lib.rt:116:17
 find-word-requires-3 : tie.Need-find-word-requires-3
-find-word-requires-3 c κs = (c.before.before.before.before.before.before.before.before.requires.0, object-token c.before.before.before.before.before.before.before.before.args.line.now c.before.before.before.before.before.before.before.before.args.k c.before.before.before.before.before.before.before.before.requires.1)
+find-word-requires-3 c κs = (c.before.before.before.before.before.before.before.before.requires.0, object_token c.before.before.before.before.before.before.before.before.args.line.now c.before.before.before.before.before.before.before.before.args.k c.before.before.before.before.before.before.before.before.requires.1)
 
 -- src/lib.rt:98:1
 returns : tie.Need-returns

@@ -6,10 +6,10 @@ use Prim.Native.Nat.{◌-◌, ◌≤◌}
 use lib.ListN.{length, get_or}
 use Rattle.spec_ntriples.specs.Texts.{TextTriple}
 use Rattle.spec_ntriples.specs.Dictionary.{Entry}
-use Rattle.ntriples_batch.specs.inside.Batches.{noTriple}
+use Rattle.ntriples_batch.specs.inside.Batches.{no_triple}
 use Rattle.dictionary_search.specs.inside.IndexOf.{IndexOf}
-use Rattle.ntriples_terms.specs.inside.Words.{foundRow, LinesAt}
-use Rattle.ntriples_terms.proofs.Rows.{Written, written_none, written-more, written_all}
+use Rattle.ntriples_terms.specs.inside.Words.{found_row, LinesAt}
+use Rattle.ntriples_terms.proofs.Rows.{Written, written_none, written_more, written_all}
 use Rattle.ntriples_terms.proofs.find_terms.Statement.{statement}
 use Rattle.ntriples_terms.proofs.find_terms.Tie as tie
 use Rattle.ntriples_terms.proofs.find_terms.Reads as reads
@@ -19,14 +19,14 @@ use Rattle.ntriples_words.proofs.put_row.Reads as put-row-reads
 use Rattle.table.proofs.row_from.Reads as row-from-reads
 
 abbrev invariant-loop : tie.invariant-loop
-invariant-loop slots dictionary first file lines n terms₀ i₀ terms i = (i ≤ n) × (length terms ≡ length terms₀) × ((es : List Entry) (ts : List TextTriple) → IndexOf slots dictionary first es → LinesAt file lines n ts → Written (foundRow es) ts i terms₀ terms)
+invariant-loop slots dictionary first file lines n terms₀ i₀ terms i = (i ≤ n) × (length terms ≡ length terms₀) × ((es : List Entry) (ts : List TextTriple) → IndexOf slots dictionary first es → LinesAt file lines n ts → Written (found_row es) ts i terms₀ terms)
 
 abbrev decreases-loop : tie.decreases-loop
 decreases-loop slots dictionary first file lines n terms₀ i₀ terms i = n - i
 
 -- src/lib.rt:156:5
 loop-holds : tie.Need-loop-init invariant-loop decreases-loop
-loop-holds c = (omega arith, refl, λ es ts X A. written_none (foundRow es) ts c.before.before.before.before.before.args.terms.now)
+loop-holds c = (omega arith, refl, λ es ts X A. written_none (found_row es) ts c.before.before.before.before.before.args.terms.now)
 
 -- src/lib.rt:157:59
 mul-find-at : tie.Need-overflow-mul-find-at invariant-loop decreases-loop
@@ -42,7 +42,7 @@ row-from-requires c κs = search rules
 
 -- src/lib.rt:157:13
 find-at-requires : tie.Need-find-at-requires invariant-loop decreases-loop
-find-at-requires c κs = (c.before.before.before.before.before.before.before.before.before.before.requires.0, record { triple = get_or c.before.before.before.before.before.before.before.before.before.before.requires.1.triples c.before.before.before.before.loop.i noTriple; line = c.before.before.before.before.before.before.before.before.before.before.requires.1.stand c.before.before.before.before.loop.i c.before.before.before.loop-test.true })
+find-at-requires c κs = (c.before.before.before.before.before.before.before.before.before.before.requires.0, record { triple = get_or c.before.before.before.before.before.before.before.before.before.before.requires.1.triples c.before.before.before.before.loop.i no_triple; line = c.before.before.before.before.before.before.before.before.before.before.requires.1.stand c.before.before.before.before.loop.i c.before.before.before.loop-test.true })
 
 -- src/lib.rt:158:9
 put-row-requires : tie.Need-put-row-requires invariant-loop decreases-loop
@@ -58,7 +58,7 @@ loop-less c = search rules
 
 -- src/lib.rt:156:5
 loop-again : tie.Need-loop-preserved invariant-loop decreases-loop
-loop-again c = (omega arith, c.before.before.put-row.auto.0 ∙ c.before.before.before.before.before.before.before.before.before.loop.invariant.1, λ es ts X A. written-more (foundRow es) ts c.before.before.before.before.before.before.before.before.before.loop.i c.before.before.before.before.before.before.before.before.before.before.before.before.before.before.before.args.terms.now c.before.before.before.before.before.before.before.before.before.loop.terms (c.before.before.before.before.before.before.before.before.before.loop.invariant.2 es ts X A) c.before.before.before.before.find_at.result c.before.before.put-row.new.0 (omega (arith, c.before.before.before.before.before.before.before.before.before.before.before.before.before.before.before.requires.1.room, c.before.before.before.before.before.before.before.before.before.loop.invariant.1)) (c.before.before.before.before.find_at.ensures es (get_or ts c.before.before.before.before.before.before.before.before.before.loop.i noTriple) X (A c.before.before.before.before.before.before.before.before.before.loop.i c.before.before.before.before.before.before.before.before.loop-test.true) ∙ ap (foundRow es (get_or ts c.before.before.before.before.before.before.before.before.before.loop.i noTriple)) c.before.before.before.before.before.row_from.ensures) c.before.before.put-row.ensures)
+loop-again c = (omega arith, c.before.before.put-row.auto.0 ∙ c.before.before.before.before.before.before.before.before.before.loop.invariant.1, λ es ts X A. written_more (found_row es) ts c.before.before.before.before.before.before.before.before.before.loop.i c.before.before.before.before.before.before.before.before.before.before.before.before.before.before.before.args.terms.now c.before.before.before.before.before.before.before.before.before.loop.terms (c.before.before.before.before.before.before.before.before.before.loop.invariant.2 es ts X A) c.before.before.before.before.find_at.result c.before.before.put-row.new.0 (omega (arith, c.before.before.before.before.before.before.before.before.before.before.before.before.before.before.before.requires.1.room, c.before.before.before.before.before.before.before.before.before.loop.invariant.1)) (c.before.before.before.before.find_at.ensures es (get_or ts c.before.before.before.before.before.before.before.before.before.loop.i no_triple) X (A c.before.before.before.before.before.before.before.before.before.loop.i c.before.before.before.before.before.before.before.before.loop-test.true) ∙ ap (found_row es (get_or ts c.before.before.before.before.before.before.before.before.before.loop.i no_triple)) c.before.before.before.before.before.row_from.ensures) c.before.before.put-row.ensures)
 
 -- src/lib.rt:142:1
 same_length : tie.Need-same-length invariant-loop decreases-loop
@@ -66,7 +66,7 @@ same_length c = search rules
 
 -- src/lib.rt:142:1
 returns : tie.Need-returns invariant-loop decreases-loop
-returns c = λ es ts X A. written_all (foundRow es) ts c.before.loop.i c.before.before.before.before.before.before.before.args.terms.now c.before.loop.terms (c.before.loop.invariant.2 es ts X A) c.before.before.before.before.before.before.before.args.n (omega arith)
+returns c = λ es ts X A. written_all (found_row es) ts c.before.loop.i c.before.before.before.before.before.before.before.args.terms.now c.before.loop.terms (c.before.loop.invariant.2 es ts X A) c.before.before.before.before.before.before.before.args.n (omega arith)
 
 pub find-terms-spec : {M : Type 1} → statement M
 find-terms-spec =

@@ -1,6 +1,6 @@
 use Prim.Native.Nat.{◌-◌}
-use Rattle.ntriples_batch.proofs.Gathering.{line-inside}
-use Rattle.ntriples_terms.proofs.Rows.{line-there}
+use Rattle.ntriples_batch.proofs.Gathering.{line_inside}
+use Rattle.ntriples_terms.proofs.Rows.{line_there}
 use borrow.Author.Rules.{rules}
 use Rattle.ntriples_terms.proofs.vocabulary_at.Statement.{statement}
 use Rattle.ntriples_terms.proofs.vocabulary_at.Tie as tie
@@ -16,7 +16,7 @@ line-end-requires c κs = c.before.requires.line.within
 
 -- src/lib.rt:61:9
 tokens-at-requires : tie.Need-tokens-at-requires
-tokens-at-requires c κs = (line-there c.before.before.args.file.now c.before.before.args.begin c.line-end.result c.before.before.requires c.line-end.ensures)
+tokens-at-requires c κs = (line_there c.before.before.args.file.now c.before.before.args.begin c.line_end.result c.before.before.requires c.line_end.ensures)
 
 -- src/lib.rt:62:19
 sub-vocabulary-in : tie.Need-overflow-sub-vocabulary-in
@@ -28,7 +28,7 @@ part-vocabulary-in-start c = search rules
 
 -- src/lib.rt:62:19
 part-vocabulary-in-end : tie.Need-slice-bounds-vocabulary-in-end
-part-vocabulary-in-end c = line-inside c.before.before.before.args.file.now c.before.before.before.args.begin c.before.line-end.result (line-there c.before.before.before.args.file.now c.before.before.before.args.begin c.before.line-end.result c.before.before.before.requires c.before.line-end.ensures)
+part-vocabulary-in-end c = line_inside c.before.before.before.args.file.now c.before.before.before.args.begin c.before.line_end.result (line_there c.before.before.before.args.file.now c.before.before.before.args.begin c.before.line_end.result c.before.before.before.requires c.before.line_end.ensures)
 
 -- src/lib.rt:62:5
 vocabulary-in-requires : tie.Need-vocabulary-in-requires

@@ -2,29 +2,29 @@
 use Rattle.std.specs.Prelude.{ℕ, ◌*◌, ◌≤◌, ◌<◌, ◌≡◌, cond, List, length, get_or, eqb}
 use Rattle.spec.specs.declared.Triple.{Triple}
 use Rattle.spec.specs.Terms.{triple}
-use Rattle.spec.specs.Tables.{tripleFrom}
+use Rattle.spec.specs.Tables.{triple_from}
 use Rattle.spec_ntriples.specs.Texts.{TextTriple}
-use Rattle.spec_ntriples.specs.Dictionary.{Entry, termIn}
+use Rattle.spec_ntriples.specs.Dictionary.{Entry, term_in}
 use Rattle.ntriples_lines.specs.declared.Tokens.{Tokens}
-use Rattle.ntriples_batch.specs.inside.Batches.{LineAt, noTriple, HaveTexts}
+use Rattle.ntriples_batch.specs.inside.Batches.{LineAt, no_triple, HaveTexts}
 
 -- ---- words
 
 -- The row of a line whose texts have the words that a function gives.
-unfoldable pub tripleBy : (List ℕ → ℕ) → TextTriple → Triple
-tripleBy f t = triple (f t.subject.bytes) (f t.property.bytes) (f t.object.bytes)
+unfoldable pub triple_by : (List ℕ → ℕ) → TextTriple → Triple
+triple_by f t = triple (f t.subject.bytes) (f t.property.bytes) (f t.object.bytes)
 
 -- A text's word: as it is; or where it is 0, the term of the text among some entries, 0 where none has it.
-unfoldable pub foundWord : List Entry → List ℕ → ℕ → ℕ
-foundWord es t w = cond (eqb w 0) (termIn es t) w
+unfoldable pub found_word : List Entry → List ℕ → ℕ → ℕ
+found_word es t w = cond (eqb w 0) (term_in es t) w
 
 -- The same for the three words of a line.
-unfoldable pub foundRow : List Entry → TextTriple → Triple → Triple
-foundRow es t r =
+unfoldable pub found_row : List Entry → TextTriple → Triple → Triple
+found_row es t r =
     triple
-    (foundWord es t.subject.bytes r.subject)
-    (foundWord es t.property.bytes r.property)
-    (foundWord es t.object.bytes r.object)
+    (found_word es t.subject.bytes r.subject)
+    (found_word es t.property.bytes r.property)
+    (found_word es t.object.bytes r.object)
 
 -- ---- lines
 
@@ -40,7 +40,7 @@ pub record AreTokens (line : List ℕ) (k : Tokens) : Type 0 where
 
 -- The first n lines that are noted are those of some triples.
 abbrev pub LinesAt : List ℕ → List ℕ → ℕ → List TextTriple → Type 0
-LinesAt file lines n ts = (i : ℕ) → i < n → LineAt file (get_or lines i 0) (get_or ts i noTriple)
+LinesAt file lines n ts = (i : ℕ) → i < n → LineAt file (get_or lines i 0) (get_or ts i no_triple)
 
 -- They are, and there are three words for each.
 pub record CanBeNamed (file lines : List ℕ) (n : ℕ) (terms : List ℕ) : Type 0 where
@@ -51,4 +51,4 @@ pub record CanBeNamed (file lines : List ℕ) (n : ℕ) (terms : List ℕ) : Typ
 
 -- Each of the first n rows is what a function gives for its line and the row before.
 abbrev pub RowsBy : (TextTriple → Triple → Triple) → List TextTriple → ℕ → List ℕ → List ℕ → Type 0
-RowsBy g ts n ws vs = (i : ℕ) → i < n → tripleFrom vs (i * 3) ≡ g (get_or ts i noTriple) (tripleFrom ws (i * 3))
+RowsBy g ts n ws vs = (i : ℕ) → i < n → triple_from vs (i * 3) ≡ g (get_or ts i no_triple) (triple_from ws (i * 3))

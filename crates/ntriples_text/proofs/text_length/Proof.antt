@@ -6,7 +6,7 @@ use lib.ListN.{length}
 use Rattle.spec_ntriples.specs.Texts.{Text}
 use Rattle.ntriples_bytes.specs.inside.Places.{HasText}
 use Rattle.ntriples_text.specs.inside.Tokens.{Left}
-use Rattle.ntriples_text.proofs.Passing.{left-first, left-some, left-within, left-none, left-more, left-own, length_more}
+use Rattle.ntriples_text.proofs.Passing.{left_first, left-some, left-within, left_none, left_more, left-own, length_more}
 use Rattle.ntriples_text.proofs.text_length.Statement.{statement}
 use Rattle.ntriples_text.proofs.text_length.Tie as tie
 
@@ -18,7 +18,7 @@ decreases-loop line from end c₀ n₀ c n = end - c.place
 
 -- src/lib.rt:36:5
 loop-holds : tie.Need-loop-init invariant-loop decreases-loop
-loop-holds c = (omega arith, λ t H. left-first c.before.args.line.now c.before.args.from c.before.args.end t (λ l. 0 + length l ≡ length t.bytes) H (omega arith))
+loop-holds c = (omega arith, λ t H. left_first c.before.args.line.now c.before.args.from c.before.args.end t (λ l. 0 + length l ≡ length t.bytes) H (omega arith))
 
 -- src/lib.rt:39:25
 shared-slice-read-is-own : tie.Need-shared-slice-read-is-own invariant-loop decreases-loop
@@ -50,7 +50,7 @@ next-piece-requires c κs = (left-some c.before.before.before.before.before.befo
 
 -- src/lib.rt:48:9
 add-n-2 : tie.Need-overflow-add-n-2 invariant-loop decreases-loop
-add-n-2 c = omega (arith, (c.before.next-piece.ensures (c.before.before.before.before.before.before.before.loop.invariant.1 c.before.before.before.before.before.before.before.before.before.requires.text c.before.before.before.before.before.before.before.before.before.requires.has).left (c.before.before.before.before.before.before.before.loop.invariant.1 c.before.before.before.before.before.before.before.before.before.requires.text c.before.before.before.before.before.before.before.before.before.requires.has).coming).splits.room, left-within c.before.before.before.before.before.before.before.before.before.args.line.now c.before.before.before.before.before.before.before.before.before.args.end c.before.next-piece.result.next _ (left-more c.before.before.before.before.before.before.before.before.before.args.line.now c.before.before.before.before.before.before.before.before.before.args.end c.before.before.before.before.before.before.before.loop.c _ (c.before.before.before.before.before.before.before.loop.invariant.1 c.before.before.before.before.before.before.before.before.before.requires.text c.before.before.before.before.before.before.before.before.before.requires.has) c.before.next-piece.result (c.before.next-piece.ensures (c.before.before.before.before.before.before.before.loop.invariant.1 c.before.before.before.before.before.before.before.before.before.requires.text c.before.before.before.before.before.before.before.before.before.requires.has).left (c.before.before.before.before.before.before.before.loop.invariant.1 c.before.before.before.before.before.before.before.before.before.requires.text c.before.before.before.before.before.before.before.before.before.requires.has).coming) (λ l. Unit {0}) (λ e. tt)))
+add-n-2 c = omega (arith, (c.before.next-piece.ensures (c.before.before.before.before.before.before.before.loop.invariant.1 c.before.before.before.before.before.before.before.before.before.requires.text c.before.before.before.before.before.before.before.before.before.requires.has).left (c.before.before.before.before.before.before.before.loop.invariant.1 c.before.before.before.before.before.before.before.before.before.requires.text c.before.before.before.before.before.before.before.before.before.requires.has).coming).splits.room, left-within c.before.before.before.before.before.before.before.before.before.args.line.now c.before.before.before.before.before.before.before.before.before.args.end c.before.next-piece.result.next _ (left_more c.before.before.before.before.before.before.before.before.before.args.line.now c.before.before.before.before.before.before.before.before.before.args.end c.before.before.before.before.before.before.before.loop.c _ (c.before.before.before.before.before.before.before.loop.invariant.1 c.before.before.before.before.before.before.before.before.before.requires.text c.before.before.before.before.before.before.before.before.before.requires.has) c.before.next-piece.result (c.before.next-piece.ensures (c.before.before.before.before.before.before.before.loop.invariant.1 c.before.before.before.before.before.before.before.before.before.requires.text c.before.before.before.before.before.before.before.before.before.requires.has).left (c.before.before.before.before.before.before.before.loop.invariant.1 c.before.before.before.before.before.before.before.before.before.requires.text c.before.before.before.before.before.before.before.before.before.requires.has).coming) (λ l. Unit {0}) (λ e. tt)))
 
 -- src/lib.rt:36:5
 loop-less-2 : tie.Need-loop-smaller-2 invariant-loop decreases-loop
@@ -58,11 +58,11 @@ loop-less-2 c = omega (arith, (c.before.before.next-piece.ensures (c.before.befo
 
 -- src/lib.rt:36:5
 loop-again-2 : tie.Need-loop-preserved-2 invariant-loop decreases-loop
-loop-again-2 c = (omega (arith, (c.before.before.next-piece.ensures (c.before.before.before.before.before.before.before.before.loop.invariant.1 c.before.before.before.before.before.before.before.before.before.before.requires.text c.before.before.before.before.before.before.before.before.before.before.requires.has).left (c.before.before.before.before.before.before.before.before.loop.invariant.1 c.before.before.before.before.before.before.before.before.before.before.requires.text c.before.before.before.before.before.before.before.before.before.before.requires.has).coming).splits.room), λ t H. left-more c.before.before.before.before.before.before.before.before.before.before.args.line.now c.before.before.before.before.before.before.before.before.before.before.args.end c.before.before.before.before.before.before.before.before.loop.c (λ l. c.before.before.before.before.before.before.before.before.loop.n + length l ≡ length t.bytes) (c.before.before.before.before.before.before.before.before.loop.invariant.1 t H) c.before.before.next-piece.result (c.before.before.next-piece.ensures (c.before.before.before.before.before.before.before.before.loop.invariant.1 t H).left (c.before.before.before.before.before.before.before.before.loop.invariant.1 t H).coming) (λ l. c.before.before.before.before.before.before.before.before.loop.n + c.before.before.next-piece.result.len + length l ≡ length t.bytes) (length_more c.before.before.before.before.before.before.before.before.loop.n c.before.before.next-piece.result.len (length t.bytes) c.before.before.next-piece.result.bytes (c.before.before.next-piece.ensures (c.before.before.before.before.before.before.before.before.loop.invariant.1 t H).left (c.before.before.before.before.before.before.before.before.loop.invariant.1 t H).coming).later (omega (arith, (c.before.before.next-piece.ensures (c.before.before.before.before.before.before.before.before.loop.invariant.1 t H).left (c.before.before.before.before.before.before.before.before.loop.invariant.1 t H).coming).splits.few, (c.before.before.next-piece.ensures (c.before.before.before.before.before.before.before.before.loop.invariant.1 t H).left (c.before.before.before.before.before.before.before.before.loop.invariant.1 t H).coming).splits.four))))
+loop-again-2 c = (omega (arith, (c.before.before.next-piece.ensures (c.before.before.before.before.before.before.before.before.loop.invariant.1 c.before.before.before.before.before.before.before.before.before.before.requires.text c.before.before.before.before.before.before.before.before.before.before.requires.has).left (c.before.before.before.before.before.before.before.before.loop.invariant.1 c.before.before.before.before.before.before.before.before.before.before.requires.text c.before.before.before.before.before.before.before.before.before.before.requires.has).coming).splits.room), λ t H. left_more c.before.before.before.before.before.before.before.before.before.before.args.line.now c.before.before.before.before.before.before.before.before.before.before.args.end c.before.before.before.before.before.before.before.before.loop.c (λ l. c.before.before.before.before.before.before.before.before.loop.n + length l ≡ length t.bytes) (c.before.before.before.before.before.before.before.before.loop.invariant.1 t H) c.before.before.next-piece.result (c.before.before.next-piece.ensures (c.before.before.before.before.before.before.before.before.loop.invariant.1 t H).left (c.before.before.before.before.before.before.before.before.loop.invariant.1 t H).coming) (λ l. c.before.before.before.before.before.before.before.before.loop.n + c.before.before.next-piece.result.len + length l ≡ length t.bytes) (length_more c.before.before.before.before.before.before.before.before.loop.n c.before.before.next-piece.result.len (length t.bytes) c.before.before.next-piece.result.bytes (c.before.before.next-piece.ensures (c.before.before.before.before.before.before.before.before.loop.invariant.1 t H).left (c.before.before.before.before.before.before.before.before.loop.invariant.1 t H).coming).later (omega (arith, (c.before.before.next-piece.ensures (c.before.before.before.before.before.before.before.before.loop.invariant.1 t H).left (c.before.before.before.before.before.before.before.before.loop.invariant.1 t H).coming).splits.few, (c.before.before.next-piece.ensures (c.before.before.before.before.before.before.before.before.loop.invariant.1 t H).left (c.before.before.before.before.before.before.before.before.loop.invariant.1 t H).coming).splits.four))))
 
 -- src/lib.rt:26:1
 returns : tie.Need-returns invariant-loop decreases-loop
-returns c = ((λ t H. let e : c.before.before.loop.n + 0 ≡ length t.bytes = left-none c.before.before.before.before.args.line.now c.before.before.before.before.args.end c.before.before.loop.c (λ l. c.before.before.loop.n + length l ≡ length t.bytes) (c.before.before.loop.invariant.1 t H) (search rules) in omega arith), omega (arith, left-within c.before.before.before.before.args.line.now c.before.before.before.before.args.end c.before.before.loop.c _ (c.before.before.loop.invariant.1 c.before.before.before.before.requires.text c.before.before.before.before.requires.has)))
+returns c = ((λ t H. let e : c.before.before.loop.n + 0 ≡ length t.bytes = left_none c.before.before.before.before.args.line.now c.before.before.before.before.args.end c.before.before.loop.c (λ l. c.before.before.loop.n + length l ≡ length t.bytes) (c.before.before.loop.invariant.1 t H) (search rules) in omega arith), omega (arith, left-within c.before.before.before.before.args.line.now c.before.before.before.before.args.end c.before.before.loop.c _ (c.before.before.loop.invariant.1 c.before.before.before.before.requires.text c.before.before.before.before.requires.has)))
 
 pub text-length-spec : {M : Type 1} → statement M
 text-length-spec =

@@ -2,12 +2,12 @@ use Prim.Native.Nat.{ℕ}
 use mathlib.Core.Path.{◌≡◌}
 use native.Mathlib.Omega.{arith}
 use borrow.Author.Rules.{rules}
-use Rattle.ntriples_text_same.proofs.Comparing.{byte_more, byte-none}
+use Rattle.ntriples_text_same.proofs.Comparing.{byte_more, byte_none}
 use Rattle.ntriples_text_same.proofs.is_byte.Statement.{statement}
 use Rattle.ntriples_text_same.proofs.is_byte.Tie as tie
 
 returns : tie.Need-returns
-returns c = ((λ e. let z : ◌≡◌ {A = ℕ} 0 1 = cc in absurd (omega arith)), λ later. byte-none c.before.args.b c.before.args.text.now later c.before.args.at c.before.args.left (omega arith))
+returns c = ((λ e. let z : ◌≡◌ {A = ℕ} 0 1 = cc in absurd (omega arith)), λ later. byte_none c.before.args.b c.before.args.text.now later c.before.args.at c.before.args.left (omega arith))
 
 shared-slice-read-result : tie.Need-shared-slice-read-result
 shared-slice-read-result c = search rules

@@ -1,6 +1,6 @@
 use mathlib.Core.Path.{sym, ◌∙◌}
-use Rattle.spec.proofs.TableFormed.{isTable-wellFormed}
-use Rattle.spec_writing.specs.Writing.{writeFacts}
+use Rattle.spec.proofs.TableFormed.{is_table_well_formed}
+use Rattle.spec_writing.specs.Writing.{write_facts}
 use borrow.Author.Rules.{rules}
 use Rattle.ntriples_write.proofs.write_facts.Statement.{statement}
 use Rattle.ntriples_write.proofs.write_facts.Tie as tie
@@ -15,7 +15,7 @@ is-fact-table-requires c κs = search rules
 
 -- src/lib.rt:67:5
 write-table-requires : tie.Need-write-table-requires
-write-table-requires c κs = λ e. (isTable-wellFormed _ _ _ (sym c.before.is-fact-table.ensures ∙ e)).laid
+write-table-requires c κs = λ e. (is_table_well_formed _ _ _ (sym c.before.is-fact-table.ensures ∙ e)).laid
 
 -- src/lib.rt:64:1
 same_length : tie.Need-same-length
@@ -23,7 +23,7 @@ same_length c = search rules
 
 -- src/lib.rt:64:1
 returns : tie.Need-returns
-unfolding writeFacts
+unfolding write_facts
 returns c = rw c.before.before.before.before.is-fact-table.ensures at c.before.before.write-table.ensures
 
 pub write-facts-spec : {M : Type 1} → statement M

@@ -1,7 +1,7 @@
 use borrow.Author.Tests.{not-true, not-false}
 use mathlib.Core.Path.{sym, ◌∙◌}
 use lib.ListN.{length}
-use Rattle.ntriples_write.proofs.Outcomes.{no_text, with-texts}
+use Rattle.ntriples_write.proofs.Outcomes.{no_text_lem, with-texts}
 use borrow.Author.Rules.{rules}
 use Rattle.ntriples_write.proofs.write_lines.Statement.{statement}
 use Rattle.ntriples_write.proofs.write_lines.Tie as tie
@@ -27,7 +27,7 @@ same_length c = search rules
 
 -- src/lib.rt:38:9
 returns : tie.Need-returns
-returns c = no_text c.before.before.before.before.before.before.before.before.before.args.table.now c.before.before.before.before.before.before.before.before.before.args.dictionary.now (length c.before.before.before.before.before.before.before.before.before.args.out.now) _ c.before.before.before.before.before.before.before.before.before.requires.1.0 (sym (c.before.before.before.before.before.have-texts.ensures c.before.before.before.before.before.before.before.before.before.args.dictionary.now c.before.before.before.before.before.before.before.before.before.requires.1.0 c.before.before.before.before.before.before.before.before.before.requires.1.1) ∙ not-true _ c.before.before.before.before.if1.true) c.before.before.refuse.ensures
+returns c = no_text_lem c.before.before.before.before.before.before.before.before.before.args.table.now c.before.before.before.before.before.before.before.before.before.args.dictionary.now (length c.before.before.before.before.before.before.before.before.before.args.out.now) _ c.before.before.before.before.before.before.before.before.before.requires.1.0 (sym (c.before.before.before.before.before.have-texts.ensures c.before.before.before.before.before.before.before.before.before.args.dictionary.now c.before.before.before.before.before.before.before.before.before.requires.1.0 c.before.before.before.before.before.before.before.before.before.requires.1.1) ∙ not-true _ c.before.before.before.before.if1.true) c.before.before.refuse.ensures
 
 -- src/lib.rt:40:22
 no-places-requires : tie.Need-no-places-requires

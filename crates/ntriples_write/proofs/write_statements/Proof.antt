@@ -1,6 +1,6 @@
 use mathlib.Core.Path.{sym, ◌∙◌}
-use Rattle.spec.proofs.TableFormed.{isTable-wellFormed}
-use Rattle.spec_writing.specs.Writing.{writeStatements}
+use Rattle.spec.proofs.TableFormed.{is_table_well_formed}
+use Rattle.spec_writing.specs.Writing.{write_statements}
 use borrow.Author.Rules.{rules}
 use Rattle.ntriples_write.proofs.write_statements.Statement.{statement}
 use Rattle.ntriples_write.proofs.write_statements.Tie as tie
@@ -15,7 +15,7 @@ is-statement-table-requires c κs = search rules
 
 -- src/lib.rt:60:5
 write-table-requires : tie.Need-write-table-requires
-write-table-requires c κs = λ e. (isTable-wellFormed _ _ _ (sym c.before.is-statement-table.ensures ∙ e)).laid
+write-table-requires c κs = λ e. (is_table_well_formed _ _ _ (sym c.before.is-statement-table.ensures ∙ e)).laid
 
 -- src/lib.rt:57:1
 same_length : tie.Need-same-length
@@ -23,7 +23,7 @@ same_length c = search rules
 
 -- src/lib.rt:57:1
 returns : tie.Need-returns
-unfolding writeStatements
+unfolding write_statements
 returns c = rw c.before.before.before.before.is-statement-table.ensures at c.before.before.write-table.ensures
 
 pub write-statements-spec : {M : Type 1} → statement M

@@ -1,6 +1,6 @@
 use borrow.Author.Tests.{not-true, not-false}
 use lib.ListN.{length}
-use Rattle.ntriples_write.proofs.Outcomes.{no_table, no-dictionary, formed-written}
+use Rattle.ntriples_write.proofs.Outcomes.{no_table, no_dictionary, formed-written}
 use borrow.Author.Rules.{rules}
 use Rattle.ntriples_write.proofs.write_table.Statement.{statement}
 use Rattle.ntriples_write.proofs.write_table.Tie as tie
@@ -48,7 +48,7 @@ same-length-2 c = search rules
 
 -- src/lib.rt:46:1
 returns-2 : tie.Need-returns-2
-returns-2 c = no-dictionary c.before.before.before.before.before.before.before.before.before.before.before.args.table.now c.before.before.before.before.before.before.before.before.before.before.before.args.dictionary.now (length c.before.before.before.before.before.before.before.before.before.before.before.args.out.now) _ c.before.before.before.before.before.before.before.before.before.before.before.args.formed (not-false _ c.before.before.before.before.before.before.before.if1.false) (rw c.before.before.before.before.enum_told.given.1 at c.before.before.before.before.before.before.check-dictionary.ensures) c.before.before.refuse2.ensures
+returns-2 c = no_dictionary c.before.before.before.before.before.before.before.before.before.before.before.args.table.now c.before.before.before.before.before.before.before.before.before.before.before.args.dictionary.now (length c.before.before.before.before.before.before.before.before.before.before.before.args.out.now) _ c.before.before.before.before.before.before.before.before.before.before.before.args.formed (not-false _ c.before.before.before.before.before.before.before.if1.false) (rw c.before.before.before.before.enum_told.given.1 at c.before.before.before.before.before.before.check-dictionary.ensures) c.before.before.refuse2.ensures
 
 -- src/lib.rt:46:1
 same-length-3 : tie.Need-same-length-3

@@ -4,8 +4,8 @@ use mathlib.Core.Path.{◌≡◌, refl}
 use Prim.Native.Nat.{◌-◌, ◌≤◌}
 use lib.ListN.{length, length-set}
 use Rattle.rows_zero.specs.inside.Effects.{WordsZeroed}
-use Rattle.rows_zero.proofs.ZeroLoop.{zero-none, zero_more}
-use Rattle.output.proofs.Filled.{all-zero}
+use Rattle.rows_zero.proofs.ZeroLoop.{zero_none, zero_more}
+use Rattle.output.proofs.Filled.{all_zero}
 use Rattle.ntriples_zero.proofs.clear.Statement.{statement}
 use Rattle.ntriples_zero.proofs.clear.Tie as tie
 use Rattle.ntriples_zero.proofs.clear.Reads as reads
@@ -19,7 +19,7 @@ decreases-loop out₀ i₀ out i = length out - i
 
 -- src/lib.rt:31:5
 loop-holds : tie.Need-loop-init invariant-loop decreases-loop
-loop-holds c = (omega arith, refl, zero-none _ _)
+loop-holds c = (omega arith, refl, zero_none _ _)
 
 -- src/lib.rt:32:9
 slice-write-out : tie.Need-slice-write-out invariant-loop decreases-loop
@@ -43,7 +43,7 @@ same_length c = search rules
 
 -- src/lib.rt:27:1
 returns : tie.Need-returns invariant-loop decreases-loop
-returns c = all-zero _ _ _ c.before.loop.invariant.2 c.before.loop.invariant.1 (omega arith)
+returns c = all_zero _ _ _ c.before.loop.invariant.2 c.before.loop.invariant.1 (omega arith)
 
 pub clear_spec : {M : Type 1} → statement M
 clear_spec =

@@ -7,8 +7,8 @@ use lib.ListN.{length}
 use Rattle.spec.specs.declared.Reply.TheVariants.{Refused}
 use Rattle.spec.specs.Outputs.{replied}
 use Rattle.output.proofs.Filled.{cleared}
-use Rattle.query_alternatives.specs.inside.Putting.{giveAlternatives}
-use Rattle.query_alternatives.proofs.GatherLaws.{refused-1, refused-6, passed}
+use Rattle.query_alternatives.specs.inside.Putting.{give_alternatives}
+use Rattle.query_alternatives.proofs.GatherLaws.{refused_1, refused_6, passed}
 use borrow.Author.Rules.{rules}
 use Rattle.query_alternatives.proofs.alternatives.Statement.{statement}
 use Rattle.query_alternatives.proofs.alternatives.Tie as tie
@@ -25,7 +25,7 @@ same_length c = search rules
 returns : tie.Need-returns
 returns c =
     let a = c.before.before.before.before.before.before.before.before.args in
-    ap (λ (ws : List ℕ). replied (Refused 1) ws) c.before.before.before.before.clear.ensures ∙ refused-1 a.statements.now a.atom (length a.out.now) (sym c.before.is-statement-table.ensures ∙ not-true _ c.if1.true)
+    ap (λ (ws : List ℕ). replied (Refused 1) ws) c.before.before.before.before.clear.ensures ∙ refused_1 a.statements.now a.atom (length a.out.now) (sym c.before.is-statement-table.ensures ∙ not-true _ c.if1.true)
 
 is-atom-requires : tie.Need-is-atom-requires
 is-atom-requires c κs = search rules
@@ -36,7 +36,7 @@ same-length-2 c = search rules
 returns-2 : tie.Need-returns-2
 returns-2 c =
     let a = c.before.before.before.before.before.before.before.before.before.before.args in
-    ap (λ (ws : List ℕ). replied (Refused 6) ws) c.before.before.before.before.before.before.clear.ensures ∙ refused-6 a.statements.now a.atom (length a.out.now) (sym c.before.before.before.is-statement-table.ensures ∙ not-false _ c.before.before.if1.false) (sym c.before.is-atom.ensures ∙ not-true _ c.if2.true)
+    ap (λ (ws : List ℕ). replied (Refused 6) ws) c.before.before.before.before.before.before.clear.ensures ∙ refused_6 a.statements.now a.atom (length a.out.now) (sym c.before.before.before.is-statement-table.ensures ∙ not-false _ c.before.before.if1.false) (sym c.before.is-atom.ensures ∙ not-true _ c.if2.true)
 
 gather-requires : tie.Need-gather-requires
 gather-requires c κs =
@@ -49,7 +49,7 @@ same-length-3 c = search rules
 returns-3 : tie.Need-returns-3
 returns-3 c =
     let a = c.before.before.before.before.before.before.before.before.before.before.before.before.before.before.args in
-    c.before.before.gather.ensures ∙ ap (giveAlternatives a.statements.now a.atom) c.before.before.before.before.before.before.before.before.before.before.clear.auto.0 ∙ passed a.statements.now a.atom (length a.out.now) (sym c.before.before.before.before.before.before.before.is-statement-table.ensures ∙ not-false _ c.before.before.before.before.before.before.if1.false) (sym c.before.before.before.before.before.is-atom.ensures ∙ not-false _ c.before.before.before.before.if2.false)
+    c.before.before.gather.ensures ∙ ap (give_alternatives a.statements.now a.atom) c.before.before.before.before.before.before.before.before.before.before.clear.auto.0 ∙ passed a.statements.now a.atom (length a.out.now) (sym c.before.before.before.before.before.before.before.is-statement-table.ensures ∙ not-false _ c.before.before.before.before.before.before.if1.false) (sym c.before.before.before.before.before.is-atom.ensures ∙ not-false _ c.before.before.before.before.if2.false)
 
 pub alternatives-spec : {M : Type 1} → statement M
 alternatives-spec =

@@ -4,7 +4,7 @@ use mathlib.Core.List.{[], ◌++◌, map}
 use lib.ListN.{length}
 use Rattle.spec.specs.Rows.{words}
 use Rattle.rows_distinct.specs.inside.Collected.{gathered}
-use Rattle.query_alternatives.proofs.GatherLaws.{allPut, none-put, all-put, all-given}
+use Rattle.query_alternatives.proofs.GatherLaws.{all_put, none-put, all-put, all-given}
 use borrow.Author.Rules.{rules}
 use Rattle.query_alternatives.proofs.gather.Statement.{statement}
 use Rattle.query_alternatives.proofs.gather.Tie as tie
@@ -32,8 +32,8 @@ returns c =
     let S = a.statements.now in
     let first = c.before.before.before.before.before.before.before.before.before.before.put-alternative in
     let all = c.before.before.before.before.before.before.put-statements in
-    c.before.before.finish.ensures (map words (allPut S a.atom) ++ []) (all-put S a.atom a.out.now c.before.before.before.before.before.before.before.before.before.before.before.before.before.before.before.requires.1 c.before.before.before.before.before.before.before.before.before.before.before.start.ensures first.ensures all.ensures)
-    ∙ ap (gathered 3 (map words (allPut S a.atom) ++ [])) (all.auto.0 ∙ first.auto.0)
+    c.before.before.finish.ensures (map words (all_put S a.atom) ++ []) (all-put S a.atom a.out.now c.before.before.before.before.before.before.before.before.before.before.before.before.before.before.before.requires.1 c.before.before.before.before.before.before.before.before.before.before.before.start.ensures first.ensures all.ensures)
+    ∙ ap (gathered 3 (map words (all_put S a.atom) ++ [])) (all.auto.0 ∙ first.auto.0)
     ∙ all-given S a.atom (length a.out.now)
 
 pub gather-spec : {M : Type 1} → statement M

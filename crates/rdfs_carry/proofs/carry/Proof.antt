@@ -3,7 +3,7 @@ use mathlib.Core.Path.{refl, ap, ◌∙◌}
 use native.Mathlib.Omega.{arith}
 use Prim.Native.Nat.{ℕ}
 use lib.ListN.{length, length-replicate}
-use Rattle.rdfs_reach.proofs.MarkLaws.{table-statements}
+use Rattle.rdfs_reach.proofs.MarkLaws.{table_statements}
 use Rattle.rdfs_derive.proofs.PartLaws.{few-rows}
 use Rattle.rdfs_carry.proofs.WrittenLaws.{carried-words}
 use borrow.Author.Rules.{rules}
@@ -11,7 +11,7 @@ use Rattle.rdfs_carry.proofs.carry.Statement.{statement}
 use Rattle.rdfs_carry.proofs.carry.Tie as tie
 
 shared-slice-read-m : tie.Need-shared-slice-read-m
-shared-slice-read-m c = let s = c.before.before.before in omega (arith, (table-statements s.args.statements.now _ s.requires.0 refl).size)
+shared-slice-read-m c = let s = c.before.before.before in omega (arith, (table_statements s.args.statements.now _ s.requires.0 refl).size)
 
 cast-m : tie.Need-overflow-cast-m
 cast-m c = omega (arith, c.shared-slice-known2.given 0)
@@ -25,7 +25,7 @@ slice-aggregate-find-terms c = search rules
 find-terms-requires : tie.Need-find-terms-requires
 find-terms-requires c κs =
     let s = c.before.before.before.before.before in
-    let t = c.before.no-terms in (table-statements s.args.statements.now _ s.requires.0 refl, omega (arith, ap length t.ensures ∙ length-replicate {A = ℕ} 1026 0))
+    let t = c.before.no_terms in (table_statements s.args.statements.now _ s.requires.0 refl, omega (arith, ap length t.ensures ∙ length-replicate {A = ℕ} 1026 0))
 
 slice-aggregate-write-conclusions : tie.Need-slice-aggregate-write-conclusions
 slice-aggregate-write-conclusions c = search rules
@@ -33,7 +33,7 @@ slice-aggregate-write-conclusions c = search rules
 write-conclusions-requires : tie.Need-write-conclusions-requires
 write-conclusions-requires c κs =
     let s = c.before.before.before.before.before.before.before.before.before in
-    let t = c.before.before.before.before.before.no-terms in
+    let t = c.before.before.before.before.before.no_terms in
     let f = c.before.before.before.find-terms in
     let n = few-rows s.args.statements.now _ s.args.fact f.new.1.1.1.0 _ _ _ s.requires.0 refl f.ensures in
     (omega (arith, n, f.auto.1.1.1.0, ap length t.ensures ∙ length-replicate {A = ℕ} 1026 0), omega (arith, n, s.requires.1))

@@ -4,7 +4,7 @@ use mathlib.Core.Path.{◌≡◌, refl, ◌∙◌}
 use Prim.Native.Nat.{◌≤◌, ◌-◌}
 use native.Mathlib.Omega.{arith}
 use lib.ListN.{length, length-set}
-use Rattle.rdfs_carry.proofs.WrittenLaws.{Written, written-more, length-put}
+use Rattle.rdfs_carry.proofs.WrittenLaws.{Written, written_more, length-put}
 use Rattle.rdfs_carry.proofs.write_conclusions.Statement.{statement}
 use Rattle.rdfs_carry.proofs.write_conclusions.Tie as tie
 
@@ -70,7 +70,7 @@ loop-again c =
     let k = c.conclusion in (
       length-put l.out _ k.result ∙ l.invariant.0,
       search rules,
-      written-more s.args.fact _ _ s.args.found.now l.out _ k.result (omega (arith, l.invariant.0, s.requires.1, c.before.before.loop-test.true)) k.ensures
+      written_more s.args.fact _ _ s.args.found.now l.out _ k.result (omega (arith, l.invariant.0, s.requires.1, c.before.before.loop-test.true)) k.ensures
           l.invariant.2,
     )
 

@@ -4,5 +4,5 @@ use Rattle.spec.specs.declared.Triple.{Triple}
 use Rattle.spec.specs.Terms.{type, triple}
 
 -- The conclusion from f by the term x that is found at place i.
-unfoldable pub conclusionAt : Triple → ℕ → ℕ → ℕ → ℕ → Triple
-conclusionAt f a b x i = cond (ltb i a) (triple f.subject x f.object) (cond (ltb i b) (triple f.subject type x) (triple f.object type x))
+unfoldable pub conclusion_at : Triple → ℕ → ℕ → ℕ → ℕ → Triple
+conclusion_at f a b x i = cond (ltb i a) (triple f.subject x f.object) (cond (ltb i b) (triple f.subject type x) (triple f.object type x))

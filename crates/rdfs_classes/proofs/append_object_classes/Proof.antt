@@ -1,8 +1,8 @@
 -- The ranges are listed and closed.
 use mathlib.Core.Path.{sym, ◌∙◌}
 use native.Mathlib.Omega.{arith}
-use Rattle.rdfs_reach.proofs.WorkLaws.{room-on, unused-on}
-use Rattle.rdfs_classes.proofs.ConclusionLaws.{listed-object, listed-literal}
+use Rattle.rdfs_reach.proofs.WorkLaws.{room_on, unused_on}
+use Rattle.rdfs_classes.proofs.ConclusionLaws.{listed_object, listed_literal}
 use borrow.Author.Rules.{rules}
 use Rattle.rdfs_classes.proofs.append_object_classes.Statement.{statement}
 use Rattle.rdfs_classes.proofs.append_object_classes.Tie as tie
@@ -13,7 +13,7 @@ is-literal-requires c κs = search rules
 returns : tie.Need-returns
 returns c =
     let s = c.before.before.before.before.before in
-    (listed-literal s.args.st.now _ s.args.fact s.args.found.now _ (sym c.before.is-literal.ensures ∙ c.if1.true), search rules)
+    (listed_literal s.args.st.now _ s.args.fact s.args.found.now _ (sym c.before.is-literal.ensures ∙ c.if1.true), search rules)
 
 append-all-requires : tie.Need-append-all-requires
 append-all-requires c κs = let s = c.before.before.before.before.before.before.before in (s.requires.0, (s.requires.1.0.0, (s.requires.1.1.0.0, (omega arith, s.requires.1.0.1))))
@@ -24,8 +24,8 @@ close-requires c κs =
     let a = c.before.before.before.before.before.before.append-all in (
       s.requires.0,
       (
-        room-on s.requires.1.0.0 a.ensures.0 a.auto.1.1.1.0 a.auto.1.1.1.1.0,
-        (unused-on _ (λ q. omega arith) a.ensures.0 s.requires.1.1.0.1, a.ensures.0.grows),
+        room_on s.requires.1.0.0 a.ensures.0 a.auto.1.1.1.0 a.auto.1.1.1.1.0,
+        (unused_on _ (λ q. omega arith) a.ensures.0 s.requires.1.1.0.1, a.ensures.0.grows),
       ),
     )
 
@@ -40,7 +40,7 @@ returns-2 c =
     let s = c.before.before.before.before.before.before.before.before.before.before.before.before.before.before.before.before.before.before.before in
     let a = c.before.before.before.before.before.before.before.before.before.before.before.append-all in
     let k = c.before.before.before.before.close in (
-      listed-object s.args.st.now _ s.args.fact s.args.used.now s.args.found.now a.new.1.1.1.1.0 k.new.1.1.1.1.0 a.new.1.1.1.0
+      listed_object s.args.st.now _ s.args.fact s.args.used.now s.args.found.now a.new.1.1.1.1.0 k.new.1.1.1.1.0 a.new.1.1.1.0
           k.new.1.1.1.0 _ _ _ _ s.requires.1.0.1 s.requires.1.1.1 (sym
           c.before.before.before.before.before.before.before.before.before.before.before.before.before.before.before.is-literal.ensures ∙ c.before.before.before.before.before.before.before.before.before.before.before.before.before.before.if1.false) a.ensures.0 a.ensures.1 k.ensures.0 k.ensures.1,
       omega (arith, a.ensures.0.cost, k.ensures.0.cost),

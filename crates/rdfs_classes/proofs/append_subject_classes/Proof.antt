@@ -1,6 +1,6 @@
 -- The type and the domains are listed one after the other, and closed.
 use native.Mathlib.Omega.{arith}
-use Rattle.rdfs_reach.proofs.WorkLaws.{room_for, room-on, unused-on}
+use Rattle.rdfs_reach.proofs.WorkLaws.{room_for, room_on, unused_on}
 use Rattle.rdfs_classes.proofs.ConclusionLaws.{listed-subject}
 use borrow.Author.Rules.{rules}
 use Rattle.rdfs_classes.proofs.append_subject_classes.Statement.{statement}
@@ -22,8 +22,8 @@ close-requires c κs =
     let a = c.before.before.before.before.before.before.append-all in (
       s.requires.0,
       (
-        room-on (room_for s.requires.1.0 t.ensures.1 t.auto.1.0) a.ensures.0 a.auto.1.1.1.0 a.auto.1.1.1.1.0,
-        (unused-on _ (λ q. omega arith) a.ensures.0 s.requires.1.1.0.1, omega (arith, t.ensures.0.grows, a.ensures.0.grows)),
+        room_on (room_for s.requires.1.0 t.ensures.1 t.auto.1.0) a.ensures.0 a.auto.1.1.1.0 a.auto.1.1.1.1.0,
+        (unused_on _ (λ q. omega arith) a.ensures.0 s.requires.1.1.0.1, omega (arith, t.ensures.0.grows, a.ensures.0.grows)),
       ),
     )
 

@@ -1,5 +1,5 @@
 -- The object is there just where the property is the type.
-use Rattle.rdfs_classes.proofs.ConclusionLaws.{listed-type, listed-untyped}
+use Rattle.rdfs_classes.proofs.ConclusionLaws.{listed-type, listed_untyped}
 use borrow.Author.Rules.{rules}
 use Rattle.rdfs_classes.proofs.append_type.Statement.{statement}
 use Rattle.rdfs_classes.proofs.append_type.Tie as tie
@@ -20,7 +20,7 @@ returns : tie.Need-returns
 returns c = let s = c.before.before in (listed-type s.args.fact s.args.found.now _ s.requires c.if1.true, search rules)
 
 returns-2 : tie.Need-returns-2
-returns-2 c = let s = c.before.before in (listed-untyped s.args.fact s.args.found.now _ c.if1.false, search rules)
+returns-2 c = let s = c.before.before in (listed_untyped s.args.fact s.args.found.now _ c.if1.false, search rules)
 
 pub append-type-spec : {M : Type 1} → statement M
 append-type-spec =

@@ -1,8 +1,8 @@
 -- Each part finds the marks and the room that it asks for.
 use native.Mathlib.Omega.{arith}
-use Rattle.rdfs_reach.proofs.MarkLaws.{zeros-room, zeros-unused}
-use Rattle.rdfs_derive.proofs.PartLaws.{room_after, unused-after, room-again, few-terms, all-concluded}
-use Rattle.rdfs_classes.proofs.ConclusionLaws.{both, kept-iff}
+use Rattle.rdfs_reach.proofs.MarkLaws.{zeros_room, zeros-unused}
+use Rattle.rdfs_derive.proofs.PartLaws.{room_after, unused_after, room_again, few_terms, all_concluded}
+use Rattle.rdfs_classes.proofs.ConclusionLaws.{both, kept_iff}
 use borrow.Author.Rules.{rules}
 use Rattle.rdfs_derive.proofs.find_terms.Statement.{statement}
 use Rattle.rdfs_derive.proofs.find_terms.Tie as tie
@@ -22,7 +22,7 @@ append-properties-requires c κs =
     let u = c.before.before.before.no-marks in (
       s.requires.0,
       (
-        zeros-room s.args.st.now _ u.result s.args.found.now 1 s.requires.0 u.ensures (omega (arith, s.requires.0.few, s.requires.1)),
+        zeros_room s.args.st.now _ u.result s.args.found.now 1 s.requires.0 u.ensures (omega (arith, s.requires.0.few, s.requires.1)),
         zeros-unused s.args.st.now _ _ u.result u.ensures,
       ),
     )
@@ -40,7 +40,7 @@ append-subject-classes-requires c κs =
         room_after s.args.st.now _ u.result p.new.1.1.1.0 _ u.ensures p.ensures.1.0 p.new.1.1.1.1.0 s.requires.0 p.auto.1.1.1.0
             p.ensures.1.1.1 (omega (arith, s.requires.1, p.auto.1.1.1.1.0)),
         (
-          (unused-after s.args.st.now _ u.result p.new.1.1.1.0 _ u.ensures p.ensures.1.0 _ (λ z. omega arith) p.ensures.1.1.0, unused-after s.args.st.now _ u.result p.new.1.1.1.0 _ u.ensures p.ensures.1.0 _ (λ z. omega arith) p.ensures.1.1.0),
+          (unused_after s.args.st.now _ u.result p.new.1.1.1.0 _ u.ensures p.ensures.1.0 _ (λ z. omega arith) p.ensures.1.1.0, unused_after s.args.st.now _ u.result p.new.1.1.1.0 _ u.ensures p.ensures.1.0 _ (λ z. omega arith) p.ensures.1.1.0),
           p.ensures.0.exact,
         ),
       ),
@@ -58,11 +58,11 @@ append-object-classes-requires c κs =
     let q = c.before.before.before.before.before.append-subject-classes in (
       s.requires.0,
       (
-        (room-again s.args.st.now _ u.result p.new.1.1.1.0 _ u.ensures p.ensures.1.0 q.new.1.1.1.1.0 v.result _ s.requires.0 v.ensures q.ensures.1 (omega (arith, s.requires.1, p.auto.1.1.1.1.0, q.auto.1.1.1.1.0)), q.ensures.0.grows),
+        (room_again s.args.st.now _ u.result p.new.1.1.1.0 _ u.ensures p.ensures.1.0 q.new.1.1.1.1.0 v.result _ s.requires.0 v.ensures q.ensures.1 (omega (arith, s.requires.1, p.auto.1.1.1.1.0, q.auto.1.1.1.1.0)), q.ensures.0.grows),
         (
           (zeros-unused s.args.st.now _ _ v.result v.ensures, zeros-unused s.args.st.now _ _ v.result v.ensures),
           λ x. both
-              (kept-iff _ q.ensures.0.kept (omega arith)) (p.ensures.0.exact x),
+              (kept_iff _ q.ensures.0.kept (omega arith)) (p.ensures.0.exact x),
         ),
       ),
     )
@@ -78,8 +78,8 @@ returns c =
     let p = c.before.before.before.before.before.before.before.before.before.before.before.before.before.before.before.append-properties in
     let q = c.before.before.before.before.before.before.before.before.before.append-subject-classes in
     let o = c.before.before.before.append-object-classes in
-    all-concluded _ _ s.args.fact s.args.found.now p.new.1.1.1.1.0 q.new.1.1.1.1.0 o.new.1.1.1.1.0 _ _ _ p.ensures.0 q.ensures.0
-    o.ensures.0 (few-terms s.args.st.now _ u.result p.new.1.1.1.0 _ u.ensures p.ensures.1.0 v.result _ _ v.ensures q.ensures.1
+    all_concluded _ _ s.args.fact s.args.found.now p.new.1.1.1.1.0 q.new.1.1.1.1.0 o.new.1.1.1.1.0 _ _ _ p.ensures.0 q.ensures.0
+    o.ensures.0 (few_terms s.args.st.now _ u.result p.new.1.1.1.0 _ u.ensures p.ensures.1.0 v.result _ _ v.ensures q.ensures.1
     o.ensures.1)
 
 pub find-terms-spec : {M : Type 1} → statement M

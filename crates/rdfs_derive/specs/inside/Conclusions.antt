@@ -2,7 +2,7 @@
 use mathlib.Core.List.{List, Memᴰ}
 use Rattle.std.specs.Prelude.{◌↔◌, ℕ, ◌+◌, ◌*◌, ◌≤◌}
 use Rattle.spec.specs.declared.Triple.{Triple}
-use Rattle.spec.specs.computed.Carried.{properties, subjectClasses, objectClasses}
+use Rattle.spec.specs.computed.Carried.{properties, subject_classes, object_classes}
 use Rattle.rdfs_reach.specs.inside.Marks.{Within}
 
 -- Of the terms found, those below a are the properties of f, those from a on, below b, are the classes of its subject, and those from
@@ -11,6 +11,6 @@ pub record Concluded (S : List Triple) (m : ℕ) (f : Triple) (found : List ℕ)
   pub low : a ≤ b
   pub high : b ≤ e
   pub few : e ≤ 2 + 2 * m
-  pub as-property : (q : ℕ) → Within found 0 a q ↔ Memᴰ q (properties S f)
-  pub as-subject : (c : ℕ) → Within found a b c ↔ Memᴰ c (subjectClasses S f)
-  pub as-object : (c : ℕ) → Within found b e c ↔ Memᴰ c (objectClasses S f)
+  pub as_property : (q : ℕ) → Within found 0 a q ↔ Memᴰ q (properties S f)
+  pub as_subject : (c : ℕ) → Within found a b c ↔ Memᴰ c (subject_classes S f)
+  pub as_object : (c : ℕ) → Within found b e c ↔ Memᴰ c (object_classes S f)

@@ -3,7 +3,7 @@ use borrow.Author.Rules.{rules}
 use Prim.Native.Nat.{◌≤◌, ◌-◌}
 use mathlib.Core.Path.{refl, ◌≡◌}
 use native.Mathlib.Omega.{arith}
-use Rattle.rdfs_reach.proofs.WorkLaws.{Turn, turn-begin, turn-room, turn_more, all_end}
+use Rattle.rdfs_reach.proofs.WorkLaws.{Turn, turn_begin, turn_room, turn_more, all_end}
 use Rattle.rdfs_reach.proofs.append_all.Statement.{statement}
 use Rattle.rdfs_reach.proofs.append_all.Tie as tie
 
@@ -14,7 +14,7 @@ abbrev decreases-loop : tie.decreases-loop
 decreases-loop st m k used₀ found₀ from to n e₀ i₀ used found e i = to - i
 
 loop-holds : tie.Need-loop-init invariant-loop decreases-loop
-loop-holds c = let s = c.before.before.before in (search rules, turn-begin s.args.st.now _ _ _ s.args.used.now s.args.found.now _ s.requires.1.0)
+loop-holds c = let s = c.before.before.before in (search rules, turn_begin s.args.st.now _ _ _ s.args.used.now s.args.found.now _ s.requires.1.0)
 
 mul-x : tie.Need-overflow-mul-x invariant-loop decreases-loop
 mul-x c = search rules
@@ -25,7 +25,7 @@ slice-read-x c = search rules
 append-objects-requires : tie.Need-append-objects-requires invariant-loop decreases-loop
 append-objects-requires c κs =
     let s = c.before.before.before.before.before.before.before.before in
-    let l = c.before.before.before.before.loop in (s.requires.0, turn-room l.invariant.1 s.requires.1.0)
+    let l = c.before.before.before.before.loop in (s.requires.0, turn_room l.invariant.1 s.requires.1.0)
 
 add-i : tie.Need-overflow-add-i invariant-loop decreases-loop
 add-i c = search rules

@@ -3,8 +3,8 @@ use borrow.Author.Rules.{rules}
 use Prim.Native.Nat.{◌-◌}
 use native.Mathlib.Omega.{arith}
 use borrow.Author.Tests.{not-true, not-false}
-use Rattle.spec.specs.Tables.{rowAt}
-use Rattle.rdfs_reach.proofs.MarkLaws.{Block, block-place, block_more, block-end, block-stops}
+use Rattle.spec.specs.Tables.{row_at}
+use Rattle.rdfs_reach.proofs.MarkLaws.{Block, block-place, block_more, block-end, block_stops}
 use Rattle.rdfs_reach.proofs.append_block.Statement.{statement}
 use Rattle.rdfs_reach.proofs.append_block.Tie as tie
 
@@ -31,8 +31,8 @@ returns c =
     let s = c.before.before.before.before.before.before.before in
     let l = c.before.before.before in
     block-end s.args.st.now _ _ _ _ s.args.used.now s.args.found.now _ l.loop.used l.loop.found _ _ l.loop.invariant s.requires.1.1.0 s.requires.1.0
-    (block-stops s.args.st.now _ _ _ _ _ s.requires.0 s.requires.1.0 l.loop.invariant.low c.before.before.loop-test.true
-    (c.before.has-subject.ensures.if-false (not-true _ c.if1.true)))
+    (block_stops s.args.st.now _ _ _ _ _ s.requires.0 s.requires.1.0 l.loop.invariant.low c.before.before.loop-test.true
+    (c.before.has-subject.ensures.if_false (not-true _ c.if1.true)))
 
 mul_at : tie.Need-overflow-mul-at invariant-loop decreases-loop
 mul_at c = search rules
@@ -61,7 +61,7 @@ slice-write-found c =
     let l = c.before.before.before.before in
     let p =
     block-place s.args.st.now _ _ _ _ s.args.used.now s.args.found.now _ l.loop.used l.loop.found _ _ l.loop.invariant s.requires.1.1.0
-    c.before.before.before.loop-test.true (c.before.before.has-subject.ensures.if-true (not-false _ c.before.if1.false)) s.requires.1.1.1 in
+    c.before.before.before.loop-test.true (c.before.before.has-subject.ensures.if_true (not-false _ c.before.if1.false)) s.requires.1.1.1 in
     omega (arith, p, l.loop.invariant.count, l.loop.invariant.low)
 
 add-e : tie.Need-overflow-add-e invariant-loop decreases-loop
@@ -74,12 +74,12 @@ loop-less : tie.Need-loop-smaller invariant-loop decreases-loop
 loop-less c = search rules
 
 loop-again : tie.Need-loop-preserved invariant-loop decreases-loop
-unfolding rowAt
+unfolding row_at
 loop-again c =
     let s = c.before.before.before.before.before.before.before.before in
     let l = c.before.before.before.before in
     block_more s.args.st.now _ _ _ _ s.args.used.now s.args.found.now _ l.loop.used l.loop.found _ _ l.loop.invariant s.requires.1.1.0
-    c.before.before.before.loop-test.true (c.before.before.has-subject.ensures.if-true (not-false _ c.before.if1.false)) s.requires.1.1.1
+    c.before.before.before.loop-test.true (c.before.before.has-subject.ensures.if_true (not-false _ c.before.if1.false)) s.requires.1.1.1
 
 same-length-3 : tie.Need-same-length-3 invariant-loop decreases-loop
 same-length-3 c = search rules

@@ -4,7 +4,7 @@ use Prim.Native.Nat.{◌≤◌, ◌<◌, ◌+◌, ◌-◌}
 use mathlib.Core.Path.{refl, ◌≡◌}
 use native.Mathlib.Omega.{arith}
 use Rattle.rdfs_reach.specs.inside.Marks.{unused}
-use Rattle.rdfs_reach.proofs.WorkLaws.{Turn, turn-begin, turn-room, turn_more, Reached, reached-begin, reached-more, close-end}
+use Rattle.rdfs_reach.proofs.WorkLaws.{Turn, turn_begin, turn_room, turn_more, Reached, reached_begin, reached_more, close_end}
 use Rattle.rdfs_reach.proofs.close.Statement.{statement}
 use Rattle.rdfs_reach.proofs.close.Tie as tie
 
@@ -17,7 +17,7 @@ decreases-loop st m k used₀ found₀ from n e₀ i₀ used found e i = e + unu
 loop-holds : tie.Need-loop-init invariant-loop decreases-loop
 loop-holds c =
     let s = c.before.before.before in
-    (search rules, turn-begin s.args.st.now _ _ _ s.args.used.now s.args.found.now _ s.requires.1.0, reached-begin s.args.st.now _ _ _ s.args.found.now _)
+    (search rules, turn_begin s.args.st.now _ _ _ s.args.used.now s.args.found.now _ s.requires.1.0, reached_begin s.args.st.now _ _ _ s.args.found.now _)
 
 mul-x : tie.Need-overflow-mul-x invariant-loop decreases-loop
 mul-x c = search rules
@@ -28,7 +28,7 @@ slice-read-x c = search rules
 append-objects-requires : tie.Need-append-objects-requires invariant-loop decreases-loop
 append-objects-requires c κs =
     let s = c.before.before.before.before.before.before.before.before in
-    let l = c.before.before.before.before.loop in (s.requires.0, turn-room l.invariant.1 s.requires.1.0)
+    let l = c.before.before.before.before.loop in (s.requires.0, turn_room l.invariant.1 s.requires.1.0)
 
 add-i : tie.Need-overflow-add-i invariant-loop decreases-loop
 add-i c = search rules
@@ -47,7 +47,7 @@ loop-again c =
     let h : l.i < l.e = omega (arith, c.before.before.before.before.before.before.before.before.loop-test.true, l.invariant.1.done.grown.grows) in (
       omega (arith, a.ensures.grown.grows),
       turn_more l.invariant.1 _ refl h a.ensures a.auto.1.1.1.1.0 a.auto.1.1.1.1.1.0,
-      reached-more _ refl l.invariant.1.low h l.invariant.2 a.ensures,
+      reached_more _ refl l.invariant.1.low h l.invariant.2 a.ensures,
     )
 
 same_length : tie.Need-same-length invariant-loop decreases-loop
@@ -59,7 +59,7 @@ same-length-2 c = search rules
 returns : tie.Need-returns invariant-loop decreases-loop
 returns c =
     let s = c.before.before.before.before.before in
-    let l = c.before.loop in let q : l.i ≡ l.e = omega arith in let t = rw q at l.invariant.1 in (t.done.grown, close-end s.requires.1.1.1 s.requires.1.1.0 t l.invariant.2)
+    let l = c.before.loop in let q : l.i ≡ l.e = omega arith in let t = rw q at l.invariant.1 in (t.done.grown, close_end s.requires.1.1.1 s.requires.1.1.0 t l.invariant.2)
 
 pub close_spec : {M : Type 1} → statement M
 close_spec =

@@ -1,5 +1,5 @@
 -- The two tests together tell.
-use Rattle.rdfs_reach.proofs.MarkLaws.{has-tells}
+use Rattle.rdfs_reach.proofs.MarkLaws.{has_tells}
 use borrow.Author.Rules.{rules}
 use Rattle.rdfs_reach.proofs.has_subject.Statement.{statement}
 use Rattle.rdfs_reach.proofs.has_subject.Tie as tie
@@ -26,7 +26,7 @@ shared-slice-read-result-2 : tie.Need-shared-slice-read-result-2
 shared-slice-read-result-2 c = search rules
 
 returns : tie.Need-returns
-returns c = has-tells c.before.before.args.st.now _ _ _
+returns c = has_tells c.before.before.args.st.now _ _ _
 
 pub has-subject-spec : {M : Type 1} → statement M
 has-subject-spec =

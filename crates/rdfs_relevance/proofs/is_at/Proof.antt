@@ -1,5 +1,5 @@
 -- Each word is compared. Assumes nothing.
-use Rattle.rdfs_relevance.proofs.MemoryLaws.{same-question}
+use Rattle.rdfs_relevance.proofs.MemoryLaws.{same_question}
 use borrow.Author.Rules.{rules}
 use Rattle.rdfs_relevance.proofs.is_at.Statement.{statement}
 use Rattle.rdfs_relevance.proofs.is_at.Tie as tie
@@ -32,7 +32,7 @@ shared-slice-read-result-3 : tie.Need-shared-slice-read-result-3
 shared-slice-read-result-3 c = search rules
 
 returns : tie.Need-returns
-returns c = same-question _ _ _ _ _ _
+returns c = same_question _ _ _ _ _ _
 
 pub is-at-spec : {M : Type 1} → statement M
 is-at-spec =

@@ -2,7 +2,7 @@
 use mathlib.Core.Logic.{⊎_elim}
 use native.Mathlib.Omega.{arith}
 use lib.ListN.{length-set}
-use Rattle.rdfs_relevance.proofs.MemoryLaws.{remembers-stored, answer-one, answer-zero}
+use Rattle.rdfs_relevance.proofs.MemoryLaws.{remembers_stored, answer_one, answer_zero}
 use borrow.Author.Rules.{rules}
 use Rattle.rdfs_relevance.proofs.remember.Statement.{statement}
 use Rattle.rdfs_relevance.proofs.remember.Tie as tie
@@ -49,8 +49,8 @@ same_length c = search rules
 returns : tie.Need-returns
 returns c =
     let s = c.before in
-    remembers-stored s.args.memory.now _ _ _ _ _ s.args.answer s.requires.0 s.requires.1
-    (⊎_elim (λ w. answer-one _ _ w.1 w.0.taken) (λ w. answer-zero _ _ w.1 w.0.left) c.if1.branch)
+    remembers_stored s.args.memory.now _ _ _ _ _ s.args.answer s.requires.0 s.requires.1
+    (⊎_elim (λ w. answer_one _ _ w.1 w.0.taken) (λ w. answer_zero _ _ w.1 w.0.left) c.if1.branch)
 
 pub remember-spec : {M : Type 1} → statement M
 remember-spec =

@@ -3,7 +3,7 @@ use Rattle.std.specs.Prelude.{ℕ, ◌+◌, ◌*◌, ◌<◌, ◌≡◌, cond, l
 use mathlib.Core.List.{List, [], ◌∷◌, Memᴰ}
 use Rattle.spec.specs.declared.Triple.{Triple}
 use Rattle.spec.specs.Terms.{type, triple}
-use Rattle.spec.specs.computed.Carried.{properties, subjectClasses, objectClasses}
+use Rattle.spec.specs.computed.Carried.{properties, subject_classes, object_classes}
 use Rattle.table.specs.inside.Bounds.{Tells}
 
 -- What can be asked of a word: 1, to which properties it leads as a property; 2, which classes a fact gives its subject that has it as its
@@ -18,14 +18,14 @@ some [] = []
 some (x ∷ xs) = 0 ∷ []
 
 -- The targets to which a word leads.
-unfoldable pub ledTo : List Triple → ℕ → ℕ → List ℕ
-ledTo S asked w =
+unfoldable pub led_to : List Triple → ℕ → ℕ → List ℕ
+led_to S asked w =
     cond (eqb asked 1) (properties S (example asked w))
-    (cond (eqb asked 4) (objectClasses S (example asked w)) (cond (eqb asked 5) (some (objectClasses S (example asked w))) (subjectClasses S (example asked w))))
+    (cond (eqb asked 4) (object_classes S (example asked w)) (cond (eqb asked 5) (some (object_classes S (example asked w))) (subject_classes S (example asked w))))
 
 -- A word leads to a target.
 abbrev pub Led : List Triple → ℕ → ℕ → ℕ → Type 0
-Led S asked w target = Memᴰ target (ledTo S asked w)
+Led S asked w target = Memᴰ target (led_to S asked w)
 
 -- A memory of answers: 4,096 places of four words, which are a word, what is asked, a target and the answer, 1 for yes. A place where
 -- nothing is asked is empty; each other has a true answer.

@@ -1,7 +1,7 @@
 -- A delivery to an empty store leaves well-formed tables, which have room for their lines. Assumes nothing.
 use native.Mathlib.Omega.{arith}
-use Rattle.report_text.specs.Text.{refusalText}
-use Rattle.report.proofs.Responding.{FromEmpty, from-zeros, few-rows, printable, refused-response, report-response}
+use Rattle.report_text.specs.Text.{refusal_text}
+use Rattle.report.proofs.Responding.{FromEmpty, from_zeros, few-rows, printable, refused_response, report_response}
 use borrow.Author.Rules.{rules}
 use Rattle.report.proofs.respond.Statement.{statement}
 use Rattle.report.proofs.respond.Tie as tie
@@ -10,8 +10,8 @@ use Rattle.report.proofs.respond.Tie as tie
 from_empty : (c : tie.After-deliver)
     → FromEmpty c.before.before.before.before.before.before.before.before.before.before.before.args.input.now c.deliver.result c.deliver.new.0 c.deliver.new.1.0 c.deliver.new.1.1.0 c.deliver.new.1.1.1.0
 from_empty c =
-    from-zeros c.before.before.before.before.before.before.before.before.before.before.before.args.input.now c.deliver.result c.deliver.new.0 c.deliver.new.1.0 c.deliver.new.1.1.0 c.deliver.new.1.1.1.0
-    c.before.before.before.before.before.before.before.before.no-statements.ensures c.before.before.before.before.before.before.before.no-facts.ensures c.before.before.before.before.before.before.no-kept.ensures c.before.before.before.before.before.no-supports.ensures
+    from_zeros c.before.before.before.before.before.before.before.before.before.before.before.args.input.now c.deliver.result c.deliver.new.0 c.deliver.new.1.0 c.deliver.new.1.1.0 c.deliver.new.1.1.1.0
+    c.before.before.before.before.before.before.before.before.no-statements.ensures c.before.before.before.before.before.before.before.no_facts.ensures c.before.before.before.before.before.before.no-kept.ensures c.before.before.before.before.before.no-supports.ensures
     c.deliver.ensures c.deliver.auto.1.1.1.0
 
 no-statements-requires : tie.Need-no-statements-requires
@@ -51,8 +51,8 @@ same_length : tie.Need-same-length
 same_length c = search rules
 
 returns : tie.Need-returns
-unfolding refusalText
-returns c = let A = refused-response (from_empty c.before.before.before.before.before.before.before.before.before.before.before) c.before.before.before.before.before.if1.true c.before.before.write-labelled.ensures.0 in (A.start-and-text, (A.rest, omega (arith, c.before.before.write-labelled.ensures.1)))
+unfolding refusal_text
+returns c = let A = refused_response (from_empty c.before.before.before.before.before.before.before.before.before.before.before) c.before.before.before.before.before.if1.true c.before.before.write-labelled.ensures.0 in (A.start_and_text, (A.rest, omega (arith, c.before.before.write-labelled.ensures.1)))
 
 slice-aggregate-write-report : tie.Need-slice-aggregate-write-report
 slice-aggregate-write-report c = search rules
@@ -67,7 +67,7 @@ same-length-2 : tie.Need-same-length-2
 same-length-2 c = search rules
 
 returns-2 : tie.Need-returns-2
-returns-2 c = let A = report-response (from_empty c.before.before.before.before.before.before.before.before.before.before.before.before) c.before.before.before.before.before.before.if1.false c.before.before.write-report.ensures.0 in (A.start-and-text, (A.rest, omega (arith, few-rows (from_empty c.before.before.before.before.before.before.before.before.before.before.before.before), c.before.before.write-report.ensures.1)))
+returns-2 c = let A = report_response (from_empty c.before.before.before.before.before.before.before.before.before.before.before.before) c.before.before.before.before.before.before.if1.false c.before.before.write-report.ensures.0 in (A.start_and_text, (A.rest, omega (arith, few-rows (from_empty c.before.before.before.before.before.before.before.before.before.before.before.before), c.before.before.write-report.ensures.1)))
 
 pub respond-spec : {M : Type 1} → statement M
 respond-spec =

@@ -1,7 +1,7 @@
 -- The four numbers with their words, one behind the other. Assumes nothing.
 use native.Mathlib.Omega.{arith}
-use Rattle.report_text.specs.Text.{resultLine}
-use Rattle.report_text.proofs.Appending.{both-appended}
+use Rattle.report_text.specs.Text.{result_line}
+use Rattle.report_text.proofs.Appending.{both_appended}
 use borrow.Author.Rules.{rules}
 use Rattle.report.proofs.write_result.Statement.{statement}
 use Rattle.report.proofs.write_result.Tie as tie
@@ -34,8 +34,8 @@ same_length : tie.Need-same-length
 same_length c = search rules
 
 returns : tie.Need-returns
-unfolding resultLine
-returns c = (both-appended c.before.before.before.before.before.before.before.before.before.before.before.before.before.before.before.before.before.write-labelled.ensures.0 (both-appended c.before.before.before.before.before.before.before.before.before.before.before.before.write-labelled2.ensures.0 (both-appended c.before.before.before.before.before.before.before.write-labelled3.ensures.0 c.before.before.write-labelled4.ensures.0)), omega (arith, c.before.before.before.before.before.before.before.before.before.before.before.before.before.before.before.before.before.write-labelled.ensures.1, c.before.before.before.before.before.before.before.before.before.before.before.before.write-labelled2.ensures.1, c.before.before.before.before.before.before.before.write-labelled3.ensures.1, c.before.before.write-labelled4.ensures.1))
+unfolding result_line
+returns c = (both_appended c.before.before.before.before.before.before.before.before.before.before.before.before.before.before.before.before.before.write-labelled.ensures.0 (both_appended c.before.before.before.before.before.before.before.before.before.before.before.before.write-labelled2.ensures.0 (both_appended c.before.before.before.before.before.before.before.write-labelled3.ensures.0 c.before.before.write-labelled4.ensures.0)), omega (arith, c.before.before.before.before.before.before.before.before.before.before.before.before.before.before.before.before.before.write-labelled.ensures.1, c.before.before.before.before.before.before.before.before.before.before.before.before.write-labelled2.ensures.1, c.before.before.before.before.before.before.before.write-labelled3.ensures.1, c.before.before.write-labelled4.ensures.1))
 
 pub write-result-spec : {M : Type 1} → statement M
 write-result-spec =

@@ -2,5 +2,5 @@
 use Rattle.std.specs.Prelude.{ℕ}
 
 -- The most bytes of what is printed for a file that is too long.
-abbrev pub tooLongRoom : ℕ
-tooLongRoom = 41
+abbrev pub too_long_room : ℕ
+too_long_room = 41

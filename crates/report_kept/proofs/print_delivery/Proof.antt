@@ -1,6 +1,6 @@
 -- A refusal, or what is written of the kept facts. Assumes nothing.
 use native.Mathlib.Omega.{arith}
-use Rattle.report_kept.proofs.Responding.{delivery-refused, delivery-printed}
+use Rattle.report_kept.proofs.Responding.{delivery_refused, delivery-printed}
 use borrow.Author.Rules.{rules}
 use Rattle.report_kept.proofs.print_delivery.Statement.{statement}
 use Rattle.report_kept.proofs.print_delivery.Tie as tie
@@ -39,7 +39,7 @@ same_length : tie.Need-same-length
 same_length c = search rules
 
 returns : tie.Need-returns
-returns c = (delivery-refused c.before.before.before.before.before.before.before.before.before.before.before.before.before.before.before.before.before.before.before.before.before.before.before.args.delivery.now c.before.before.before.before.before.before.before.before.before.before.before.before.before.before.before.before.before.before.before.before.before.before.before.args.dictionary.now c.before.before.before.before.before.before.before.before.before.before.deliver.result c.before.before.before.before.before.before.before.before.before.before.deliver.new.0 c.before.before.before.before.before.before.before.before.before.before.deliver.new.1.0 c.before.before.before.before.before.before.before.before.before.before.deliver.new.1.1.0 c.before.before.before.before.before.before.before.before.before.before.deliver.new.1.1.1.0 c.before.before.before.before.before.before.before.before.before.before.before.before.before.before.before.before.before.before.no-statements.ensures c.before.before.before.before.before.before.before.before.before.before.before.before.before.before.before.before.before.no-facts.ensures c.before.before.before.before.before.before.before.before.before.before.before.before.before.before.before.before.no-kept.ensures c.before.before.before.before.before.before.before.before.before.before.before.before.before.before.before.no-supports.ensures c.before.before.before.before.before.before.before.before.before.before.deliver.ensures c.before.before.before.before.before.before.before.before.before.before.before.before.before.before.before.before.before.before.before.before.before.before.before.args.out.now c.before.before.before.before.if1.true c.before.before.refuse.ensures.0 c.before.before.refuse.ensures.1.0, (omega (arith, c.before.before.refuse.ensures.0), c.before.before.refuse.ensures.1.1))
+returns c = (delivery_refused c.before.before.before.before.before.before.before.before.before.before.before.before.before.before.before.before.before.before.before.before.before.before.before.args.delivery.now c.before.before.before.before.before.before.before.before.before.before.before.before.before.before.before.before.before.before.before.before.before.before.before.args.dictionary.now c.before.before.before.before.before.before.before.before.before.before.deliver.result c.before.before.before.before.before.before.before.before.before.before.deliver.new.0 c.before.before.before.before.before.before.before.before.before.before.deliver.new.1.0 c.before.before.before.before.before.before.before.before.before.before.deliver.new.1.1.0 c.before.before.before.before.before.before.before.before.before.before.deliver.new.1.1.1.0 c.before.before.before.before.before.before.before.before.before.before.before.before.before.before.before.before.before.before.no-statements.ensures c.before.before.before.before.before.before.before.before.before.before.before.before.before.before.before.before.before.no_facts.ensures c.before.before.before.before.before.before.before.before.before.before.before.before.before.before.before.before.no-kept.ensures c.before.before.before.before.before.before.before.before.before.before.before.before.before.before.before.no-supports.ensures c.before.before.before.before.before.before.before.before.before.before.deliver.ensures c.before.before.before.before.before.before.before.before.before.before.before.before.before.before.before.before.before.before.before.before.before.before.before.args.out.now c.before.before.before.before.if1.true c.before.before.refuse.ensures.0 c.before.before.refuse.ensures.1.0, (omega (arith, c.before.before.refuse.ensures.0), c.before.before.refuse.ensures.1.1))
 
 slice-aggregate-write-delivered : tie.Need-slice-aggregate-write-delivered
 slice-aggregate-write-delivered c = search rules
@@ -54,7 +54,7 @@ same-length-3 : tie.Need-same-length-3
 same-length-3 c = search rules
 
 returns-2 : tie.Need-returns-2
-returns-2 c = (delivery-printed c.before.before.before.before.before.before.before.before.before.before.before.before.before.before.before.before.before.before.before.before.before.before.before.before.before.before.before.args.delivery.now c.before.before.before.before.before.before.before.before.before.before.before.before.before.before.before.before.before.before.before.before.before.before.before.before.before.before.before.args.dictionary.now c.before.before.before.before.before.before.before.before.before.before.before.before.before.before.deliver.result c.before.before.before.before.before.before.before.before.before.before.before.before.before.before.deliver.new.0 c.before.before.before.before.before.before.before.before.before.before.before.before.before.before.deliver.new.1.0 c.before.before.before.before.before.before.before.before.before.before.before.before.before.before.deliver.new.1.1.0 c.before.before.before.before.before.before.before.before.before.before.before.before.before.before.deliver.new.1.1.1.0 c.before.before.before.before.before.before.before.before.before.before.before.before.before.before.before.before.before.before.before.before.before.before.no-statements.ensures c.before.before.before.before.before.before.before.before.before.before.before.before.before.before.before.before.before.before.before.before.before.no-facts.ensures c.before.before.before.before.before.before.before.before.before.before.before.before.before.before.before.before.before.before.before.before.no-kept.ensures c.before.before.before.before.before.before.before.before.before.before.before.before.before.before.before.before.before.before.before.no-supports.ensures c.before.before.before.before.before.before.before.before.before.before.before.before.before.before.deliver.ensures c.before.before.before.before.before.before.before.before.if1.false c.before.before.before.before.write-delivered.ensures.0, c.before.before.before.before.write-delivered.ensures.1)
+returns-2 c = (delivery-printed c.before.before.before.before.before.before.before.before.before.before.before.before.before.before.before.before.before.before.before.before.before.before.before.before.before.before.before.args.delivery.now c.before.before.before.before.before.before.before.before.before.before.before.before.before.before.before.before.before.before.before.before.before.before.before.before.before.before.before.args.dictionary.now c.before.before.before.before.before.before.before.before.before.before.before.before.before.before.deliver.result c.before.before.before.before.before.before.before.before.before.before.before.before.before.before.deliver.new.0 c.before.before.before.before.before.before.before.before.before.before.before.before.before.before.deliver.new.1.0 c.before.before.before.before.before.before.before.before.before.before.before.before.before.before.deliver.new.1.1.0 c.before.before.before.before.before.before.before.before.before.before.before.before.before.before.deliver.new.1.1.1.0 c.before.before.before.before.before.before.before.before.before.before.before.before.before.before.before.before.before.before.before.before.before.before.no-statements.ensures c.before.before.before.before.before.before.before.before.before.before.before.before.before.before.before.before.before.before.before.before.before.no_facts.ensures c.before.before.before.before.before.before.before.before.before.before.before.before.before.before.before.before.before.before.before.before.no-kept.ensures c.before.before.before.before.before.before.before.before.before.before.before.before.before.before.before.before.before.before.before.no-supports.ensures c.before.before.before.before.before.before.before.before.before.before.before.before.before.before.deliver.ensures c.before.before.before.before.before.before.before.before.if1.false c.before.before.before.before.write-delivered.ensures.0, c.before.before.before.before.write-delivered.ensures.1)
 
 pub print-delivery-spec : {M : Type 1} → statement M
 print-delivery-spec =

@@ -2,8 +2,8 @@
 use mathlib.Core.Path.{sym}
 use native.Mathlib.Omega.{arith}
 use lib.Seq.{length-take-le}
-use Rattle.report_reading.proofs.Responding.{delivery-room}
-use Rattle.report_kept.proofs.Responding.{too-long-printed, read-printed, read-refused}
+use Rattle.report_reading.proofs.Responding.{delivery_room}
+use Rattle.report_kept.proofs.Responding.{too_long-printed, read-printed, read_refused}
 use borrow.Author.Rules.{rules}
 use Rattle.report_kept.proofs.respond.Statement.{statement}
 use Rattle.report_kept.proofs.respond.Tie as tie
@@ -15,7 +15,7 @@ same_length : tie.Need-same-length
 same_length c = search rules
 
 returns : tie.Need-returns
-returns c = (too-long-printed c.before.before.before.before.before.before.before.before.args.file.now c.before.before.before.before.before.before.before.before.args.out.now c.before.before.before.before.if1.true c.before.before.write-too-long.ensures.0, (omega arith, omega (arith, c.before.before.write-too-long.ensures.1)))
+returns c = (too_long-printed c.before.before.before.before.before.before.before.before.args.file.now c.before.before.before.before.before.before.before.before.args.out.now c.before.before.before.before.if1.true c.before.before.write-too-long.ensures.0, (omega arith, omega (arith, c.before.before.write-too-long.ensures.1)))
 
 empty-dictionary-requires : tie.Need-empty-dictionary-requires
 empty-dictionary-requires c κs = search rules
@@ -39,10 +39,10 @@ slice-aggregate-print-delivery : tie.Need-slice-aggregate-print-delivery
 slice-aggregate-print-delivery c = search rules
 
 array-share-prefix-delivery : tie.Need-array-share-prefix-delivery
-array-share-prefix-delivery c = omega (arith, delivery-room c.before.before.before.before.before.before.before.before.before.before.before.before.before.before.before.args.file.now c.before.before.before.before.before.before.read-ntriples.result (omega (arith, c.before.before.before.before.before.before.before.before.before.before.before.if1.false)) c.before.before.before.before.before.before.before.before.before.before.empty-dictionary.ensures (sym c.before.before.before.before.before.before.before.before.before.delivery-buffer.ensures) c.before.before.before.before.before.before.read-ntriples.ensures _ c.before.before.n.given.1, c.before.before.before.before.before.before.read-ntriples.auto.1.1.0, c.before.before.before.before.before.before.before.before.before.delivery-buffer.ensures)
+array-share-prefix-delivery c = omega (arith, delivery_room c.before.before.before.before.before.before.before.before.before.before.before.before.before.before.before.args.file.now c.before.before.before.before.before.before.read-ntriples.result (omega (arith, c.before.before.before.before.before.before.before.before.before.before.before.if1.false)) c.before.before.before.before.before.before.before.before.before.before.empty-dictionary.ensures (sym c.before.before.before.before.before.before.before.before.before.delivery-buffer.ensures) c.before.before.before.before.before.before.read-ntriples.ensures _ c.before.before.n.given.1, c.before.before.before.before.before.before.read-ntriples.auto.1.1.0, c.before.before.before.before.before.before.before.before.before.delivery-buffer.ensures)
 
 slice-aggregate-print-delivery-2 : tie.Need-slice-aggregate-print-delivery-2
-slice-aggregate-print-delivery-2 c = sym (length-take-le _ c.before.before.before.before.before.before.before.read-ntriples.new.1.1.0 (omega (arith, delivery-room c.before.before.before.before.before.before.before.before.before.before.before.before.before.before.before.before.args.file.now c.before.before.before.before.before.before.before.read-ntriples.result (omega (arith, c.before.before.before.before.before.before.before.before.before.before.before.before.if1.false)) c.before.before.before.before.before.before.before.before.before.before.before.empty-dictionary.ensures (sym c.before.before.before.before.before.before.before.before.before.before.delivery-buffer.ensures) c.before.before.before.before.before.before.before.read-ntriples.ensures _ c.before.before.before.n.given.1, c.before.before.before.before.before.before.before.read-ntriples.auto.1.1.0, c.before.before.before.before.before.before.before.before.before.before.delivery-buffer.ensures)))
+slice-aggregate-print-delivery-2 c = sym (length-take-le _ c.before.before.before.before.before.before.before.read-ntriples.new.1.1.0 (omega (arith, delivery_room c.before.before.before.before.before.before.before.before.before.before.before.before.before.before.before.before.args.file.now c.before.before.before.before.before.before.before.read-ntriples.result (omega (arith, c.before.before.before.before.before.before.before.before.before.before.before.before.if1.false)) c.before.before.before.before.before.before.before.before.before.before.before.empty-dictionary.ensures (sym c.before.before.before.before.before.before.before.before.before.before.delivery-buffer.ensures) c.before.before.before.before.before.before.before.read-ntriples.ensures _ c.before.before.before.n.given.1, c.before.before.before.before.before.before.before.read-ntriples.auto.1.1.0, c.before.before.before.before.before.before.before.before.before.before.delivery-buffer.ensures)))
 
 print-delivery-requires : tie.Need-print-delivery-requires
 print-delivery-requires c κs = search rules
@@ -66,7 +66,7 @@ same-length-4 : tie.Need-same-length-4
 same-length-4 c = search rules
 
 returns-3 : tie.Need-returns-3
-returns-3 c = (read-refused c.before.before.before.before.before.before.before.before.before.before.before.before.before.before.before.before.before.before.args.file.now c.before.before.before.before.before.before.before.before.before.read-ntriples.result (omega (arith, c.before.before.before.before.before.before.before.before.before.before.before.before.before.before.if1.false)) c.before.before.before.before.before.before.before.before.before.before.before.before.before.empty-dictionary.ensures (sym c.before.before.before.before.before.before.before.before.before.before.before.before.delivery-buffer.ensures) c.before.before.before.before.before.before.before.before.before.read-ntriples.ensures c.before.before.before.before.before.before.before.before.before.before.before.before.before.before.before.before.before.before.args.out.now _ c.before.before.before.before.before.n2.given.1 c.before.before.refuse.ensures.0 c.before.before.refuse.ensures.1.0, (omega (arith, c.before.before.refuse.ensures.0), c.before.before.refuse.ensures.1.1))
+returns-3 c = (read_refused c.before.before.before.before.before.before.before.before.before.before.before.before.before.before.before.before.before.before.args.file.now c.before.before.before.before.before.before.before.before.before.read-ntriples.result (omega (arith, c.before.before.before.before.before.before.before.before.before.before.before.before.before.before.if1.false)) c.before.before.before.before.before.before.before.before.before.before.before.before.before.empty-dictionary.ensures (sym c.before.before.before.before.before.before.before.before.before.before.before.before.delivery-buffer.ensures) c.before.before.before.before.before.before.before.before.before.read-ntriples.ensures c.before.before.before.before.before.before.before.before.before.before.before.before.before.before.before.before.before.before.args.out.now _ c.before.before.before.before.before.n2.given.1 c.before.before.refuse.ensures.0 c.before.before.refuse.ensures.1.0, (omega (arith, c.before.before.refuse.ensures.0), c.before.before.refuse.ensures.1.1))
 
 pub respond-spec : {M : Type 1} → statement M
 respond-spec =

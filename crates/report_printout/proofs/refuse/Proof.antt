@@ -1,7 +1,7 @@
 -- The word and the number. Assumes nothing.
 use mathlib.Core.Path.{refl}
 use native.Mathlib.Omega.{arith}
-use Rattle.report_text.specs.Text.{refusalText}
+use Rattle.report_text.specs.Text.{refusal_text}
 use borrow.Author.Rules.{rules}
 use Rattle.report_printout.proofs.refuse.Statement.{statement}
 use Rattle.report_printout.proofs.refuse.Tie as tie
@@ -16,7 +16,7 @@ same_length : tie.Need-same-length
 same_length c = search rules
 
 returns : tie.Need-returns
-unfolding refusalText
+unfolding refusal_text
 returns c = (refl, (c.before.before.write-labelled.ensures.0, omega (arith, c.before.before.write-labelled.ensures.1)))
 
 pub refuse-spec : {M : Type 1} → statement M

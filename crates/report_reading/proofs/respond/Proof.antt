@@ -1,7 +1,7 @@
 -- What is printed for a file that is too long, for one that is read, and for one that is refused. Assumes nothing.
 use native.Mathlib.Omega.{arith}
-use Rattle.report_text.specs.Text.{refusalText}
-use Rattle.report_reading.proofs.Responding.{too-long-printed, delivery-printed, delivery-room, refusal-printed}
+use Rattle.report_text.specs.Text.{refusal_text}
+use Rattle.report_reading.proofs.Responding.{too_long-printed, delivery-printed, delivery_room, refusal-printed}
 use borrow.Author.Rules.{rules}
 use Rattle.report_reading.proofs.respond.Statement.{statement}
 use Rattle.report_reading.proofs.respond.Tie as tie
@@ -13,7 +13,7 @@ same_length : tie.Need-same-length
 same_length c = search rules
 
 returns : tie.Need-returns
-returns c = (too-long-printed c.before.before.before.before.before.before.before.args.file.now c.before.before.before.before.if1.true c.before.before.write-too-long.ensures.0, omega (arith, c.before.before.write-too-long.ensures.1))
+returns c = (too_long-printed c.before.before.before.before.before.before.before.args.file.now c.before.before.before.before.if1.true c.before.before.write-too-long.ensures.0, omega (arith, c.before.before.write-too-long.ensures.1))
 
 empty-dictionary-requires : tie.Need-empty-dictionary-requires
 empty-dictionary-requires c κs = search rules
@@ -40,13 +40,13 @@ same-length-2 : tie.Need-same-length-2
 same-length-2 c = search rules
 
 returns-2 : tie.Need-returns-2
-returns-2 c = (delivery-printed c.before.before.before.before.before.before.before.before.before.before.before.before.before.args.file.now c.before.before.before.before.before.before.read-ntriples.result (omega (arith, c.before.before.before.before.before.before.before.before.before.before.if1.false)) c.before.before.before.before.before.before.before.before.before.empty-dictionary.ensures c.before.before.before.before.before.before.before.before.before.before.before.before.before.requires c.before.before.before.before.before.before.read-ntriples.ensures _ c.before.n.given.1, delivery-room c.before.before.before.before.before.before.before.before.before.before.before.before.before.args.file.now c.before.before.before.before.before.before.read-ntriples.result (omega (arith, c.before.before.before.before.before.before.before.before.before.before.if1.false)) c.before.before.before.before.before.before.before.before.before.empty-dictionary.ensures c.before.before.before.before.before.before.before.before.before.before.before.before.before.requires c.before.before.before.before.before.before.read-ntriples.ensures _ c.before.n.given.1)
+returns-2 c = (delivery-printed c.before.before.before.before.before.before.before.before.before.before.before.before.before.args.file.now c.before.before.before.before.before.before.read-ntriples.result (omega (arith, c.before.before.before.before.before.before.before.before.before.before.if1.false)) c.before.before.before.before.before.before.before.before.before.empty-dictionary.ensures c.before.before.before.before.before.before.before.before.before.before.before.before.before.requires c.before.before.before.before.before.before.read-ntriples.ensures _ c.before.n.given.1, delivery_room c.before.before.before.before.before.before.before.before.before.before.before.before.before.args.file.now c.before.before.before.before.before.before.read-ntriples.result (omega (arith, c.before.before.before.before.before.before.before.before.before.before.if1.false)) c.before.before.before.before.before.before.before.before.before.empty-dictionary.ensures c.before.before.before.before.before.before.before.before.before.before.before.before.before.requires c.before.before.before.before.before.before.read-ntriples.ensures _ c.before.n.given.1)
 
 same-length-3 : tie.Need-same-length-3
 same-length-3 c = search rules
 
 returns-3 : tie.Need-returns-3
-unfolding refusalText
+unfolding refusal_text
 returns-3 c = (refusal-printed c.before.before.before.before.before.before.before.before.before.before.before.before.before.before.before.before.before.before.args.file.now c.before.before.before.before.before.before.before.before.before.before.before.read-ntriples.result (omega (arith, c.before.before.before.before.before.before.before.before.before.before.before.before.before.before.before.if1.false)) c.before.before.before.before.before.before.before.before.before.before.before.before.before.before.empty-dictionary.ensures c.before.before.before.before.before.before.before.before.before.before.before.before.before.before.before.before.before.before.requires c.before.before.before.before.before.before.before.before.before.before.before.read-ntriples.ensures _ c.before.before.before.before.before.before.n2.given.1 c.before.before.write-labelled.ensures.0, omega (arith, c.before.before.write-labelled.ensures.1))
 
 pub respond-spec : {M : Type 1} → statement M

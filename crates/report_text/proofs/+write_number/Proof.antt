@@ -1,8 +1,8 @@
 -- The number without its last digit is less, and its digits come first. Assumes nothing.
 use mathlib.Core.Path.{sym, ◌∙◌}
 use native.Mathlib.Omega.{arith}
-use Rattle.report_text.proofs.Decimal.{decimal-small, decimal-large}
-use Rattle.report_text.proofs.Appending.{both-appended, text-appended, small-room, large-room, last-room}
+use Rattle.report_text.proofs.Decimal.{decimal_small, decimal_large}
+use Rattle.report_text.proofs.Appending.{both_appended, text_appended, small_room, large_room, last_room}
 use Prim.Native.Nat.{ℕ, ◌<◌}
 use borrow.Fn.Kinds.{In}
 use borrow.Fn.PlainCycle.{Measures, is, falls, and}
@@ -50,7 +50,7 @@ write-number-write-byte-requires : (t : ℕ) → write-number-lts.Need-write-byt
   write-number-below t,
   write-number.Post,
 ) (write-number-at t) write-number.Post
-write-number-write-byte-requires t c κs = small-room c.before.before.before.args.n c.before.before.before.args.at c.before.before.before.args.out.now c.before.if1.true c.before.before.before.requires.1
+write-number-write-byte-requires t c κs = small_room c.before.before.before.args.n c.before.before.before.args.at c.before.before.before.args.out.now c.before.if1.true c.before.before.before.requires.1
 
 write-number-same-length : (t : ℕ) → write-number-lts.Need-same-length (
   write-byte-reads.Asked,
@@ -66,7 +66,7 @@ write-number-returns : (t : ℕ) → write-number-lts.Need-returns (
   write-number-below t,
   write-number.Post,
 ) (write-number-at t) write-number.Post
-write-number-returns t c = text-appended (sym (decimal-small c.before.before.before.before.before.before.args.n c.before.before.before.before.if1.true)) c.before.before.write_byte.ensures
+write-number-returns t c = text_appended (sym (decimal_small c.before.before.before.before.before.before.args.n c.before.before.before.before.if1.true)) c.before.before.write_byte.ensures
 
 write-number-write-number-requires : (t : ℕ) → write-number-lts.Need-write-number-requires (
   write-byte-reads.Asked,
@@ -74,7 +74,7 @@ write-number-write-number-requires : (t : ℕ) → write-number-lts.Need-write-n
   write-number-below t,
   write-number.Post,
 ) (write-number-at t) write-number.Post
-write-number-write-number-requires t c κs = (omega (arith, c.before.before.before.requires.0), large-room c.before.before.before.args.n c.before.before.before.args.at c.before.before.before.args.out.now c.before.if1.false c.before.before.before.requires.1)
+write-number-write-number-requires t c κs = (omega (arith, c.before.before.before.requires.0), large_room c.before.before.before.args.n c.before.before.before.args.at c.before.before.before.args.out.now c.before.if1.false c.before.before.before.requires.1)
 
 write-number-cast-write-byte-2 : (t : ℕ) → write-number-lts.Need-overflow-cast-write-byte-2 (
   write-byte-reads.Asked,
@@ -98,7 +98,7 @@ write-number-write-byte-requires-2 : (t : ℕ) → write-number-lts.Need-write-b
   write-number-below t,
   write-number.Post,
 ) (write-number-at t) write-number.Post
-write-number-write-byte-requires-2 t c κs = last-room c.before.before.before.before.before.before.before.args.n c.before.before.before.before.before.before.before.args.at c.before.before.before.before.before.before.before.args.out.now c.before.before.before.write-number.new.1.0 _ c.before.before.before.before.before.if1.false c.before.before.before.before.before.before.before.requires.1 c.before.before.before.write-number.ensures.ends c.before.before.before.write-number.auto.1.0
+write-number-write-byte-requires-2 t c κs = last_room c.before.before.before.before.before.before.before.args.n c.before.before.before.before.before.before.before.args.at c.before.before.before.before.before.before.before.args.out.now c.before.before.before.write-number.new.1.0 _ c.before.before.before.before.before.if1.false c.before.before.before.before.before.before.before.requires.1 c.before.before.before.write-number.ensures.ends c.before.before.before.write-number.auto.1.0
 
 write-number-same-length-2 : (t : ℕ) → write-number-lts.Need-same-length-2 (
   write-byte-reads.Asked,
@@ -114,7 +114,7 @@ write-number-returns-2 : (t : ℕ) → write-number-lts.Need-returns-2 (
   write-number-below t,
   write-number.Post,
 ) (write-number-at t) write-number.Post
-write-number-returns-2 t c = text-appended (sym (decimal-large c.before.before.before.before.before.before.before.before.before.before.args.n c.before.before.before.before.before.before.before.before.if1.false)) (both-appended c.before.before.before.before.before.before.write-number.ensures c.before.before.write-byte2.ensures)
+write-number-returns-2 t c = text_appended (sym (decimal_large c.before.before.before.before.before.before.before.before.before.before.args.n c.before.before.before.before.before.before.before.before.if1.false)) (both_appended c.before.before.before.before.before.before.write-number.ensures c.before.before.write-byte2.ensures)
 
 pub +write-number-spec : {M : Type 1} → statement M
 +write-number-spec = close μ-write-number λ t. write-number-lts.spec (

@@ -1,5 +1,5 @@
 -- The byte stands at its place. Assumes nothing.
-use Rattle.report_text.proofs.Appending.{byte-appended}
+use Rattle.report_text.proofs.Appending.{byte_appended}
 use borrow.Author.Rules.{rules}
 use Rattle.report_text.proofs.write_byte.Statement.{statement}
 use Rattle.report_text.proofs.write_byte.Tie as tie
@@ -14,7 +14,7 @@ same_length : tie.Need-same-length
 same_length c = search rules
 
 returns : tie.Need-returns
-returns c = byte-appended c.args.byte c.args.out.now c.args.at c.requires
+returns c = byte_appended c.args.byte c.args.out.now c.args.at c.requires
 
 pub write-byte-spec : {M : Type 1} → statement M
 write-byte-spec = tie.close (tie.spec slice-write-out add-result same_length returns)

@@ -1,7 +1,7 @@
 -- The digits, then the byte; ten digits at most. Assumes nothing.
 use native.Mathlib.Omega.{arith}
 use Rattle.report_text.proofs.Decimal.{decimal-length}
-use Rattle.report_text.proofs.Appending.{both-appended}
+use Rattle.report_text.proofs.Appending.{both_appended}
 use borrow.Author.Rules.{rules}
 use Rattle.report_text.proofs.write_field.Statement.{statement}
 use Rattle.report_text.proofs.write_field.Tie as tie
@@ -16,7 +16,7 @@ same_length : tie.Need-same-length
 same_length c = search rules
 
 returns : tie.Need-returns
-returns c = (both-appended c.before.before.before.before.before.before.write-number.ensures c.before.before.write_byte.ensures, omega (arith, decimal-length c.before.before.before.before.before.before.before.before.before.args.n c.before.before.before.before.before.before.before.before.before.ranges.n.fits, c.before.before.before.before.before.before.write-number.ensures.ends, c.before.before.write_byte.ensures.ends))
+returns c = (both_appended c.before.before.before.before.before.before.write-number.ensures c.before.before.write_byte.ensures, omega (arith, decimal-length c.before.before.before.before.before.before.before.before.before.args.n c.before.before.before.before.before.before.before.before.before.ranges.n.fits, c.before.before.before.before.before.before.write-number.ensures.ends, c.before.before.write_byte.ensures.ends))
 
 pub write-field-spec : {M : Type 1} → statement M
 write-field-spec =

@@ -1,6 +1,6 @@
 -- The word, then the number. Assumes nothing.
 use native.Mathlib.Omega.{arith}
-use Rattle.report_text.proofs.Appending.{both-appended}
+use Rattle.report_text.proofs.Appending.{both_appended}
 use borrow.Author.Rules.{rules}
 use Rattle.report_text.proofs.write_labelled.Statement.{statement}
 use Rattle.report_text.proofs.write_labelled.Tie as tie
@@ -15,7 +15,7 @@ same_length : tie.Need-same-length
 same_length c = search rules
 
 returns : tie.Need-returns
-returns c = (both-appended c.before.before.before.before.before.before.write_word.ensures c.before.before.write-field.ensures.0, omega (arith, c.before.before.before.before.before.before.write_word.ensures.ends, c.before.before.write-field.ensures.1))
+returns c = (both_appended c.before.before.before.before.before.before.write_word.ensures c.before.before.write-field.ensures.0, omega (arith, c.before.before.before.before.before.before.write_word.ensures.ends, c.before.before.write-field.ensures.1))
 
 pub write-labelled-spec : {M : Type 1} → statement M
 write-labelled-spec =

@@ -1,7 +1,7 @@
 -- The four numbers, one behind the other. Assumes nothing.
 use native.Mathlib.Omega.{arith}
 use Rattle.report_text.specs.Text.{row_line}
-use Rattle.report_text.proofs.Appending.{both-appended}
+use Rattle.report_text.proofs.Appending.{both_appended}
 use borrow.Author.Rules.{rules}
 use Rattle.report_text.proofs.write_row.Statement.{statement}
 use Rattle.report_text.proofs.write_row.Tie as tie
@@ -23,7 +23,7 @@ same_length c = search rules
 
 returns : tie.Need-returns
 unfolding row_line
-returns c = (both-appended c.before.before.before.before.before.before.before.before.before.before.before.before.before.before.write-field.ensures.0 (both-appended c.before.before.before.before.before.before.before.before.before.before.write-field2.ensures.0 (both-appended c.before.before.before.before.before.before.write-field3.ensures.0 c.before.before.write-field4.ensures.0)), omega (arith, c.before.before.before.before.before.before.before.before.before.before.before.before.before.before.write-field.ensures.1, c.before.before.before.before.before.before.before.before.before.before.write-field2.ensures.1, c.before.before.before.before.before.before.write-field3.ensures.1, c.before.before.write-field4.ensures.1))
+returns c = (both_appended c.before.before.before.before.before.before.before.before.before.before.before.before.before.before.write-field.ensures.0 (both_appended c.before.before.before.before.before.before.before.before.before.before.write-field2.ensures.0 (both_appended c.before.before.before.before.before.before.write-field3.ensures.0 c.before.before.write-field4.ensures.0)), omega (arith, c.before.before.before.before.before.before.before.before.before.before.before.before.before.before.write-field.ensures.1, c.before.before.before.before.before.before.before.before.before.before.write-field2.ensures.1, c.before.before.before.before.before.before.write-field3.ensures.1, c.before.before.write-field4.ensures.1))
 
 pub write-row-spec : {M : Type 1} → statement M
 write-row-spec =

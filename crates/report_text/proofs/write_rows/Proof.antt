@@ -4,16 +4,16 @@ use Prim.Native.Nat.{◌+◌, ◌≤◌, ◌-◌, ◌*◌, zero-le}
 use mathlib.Core.Path.{◌≡◌, refl, ◌∙◌}
 use lib.ListN.{length, take}
 use native.Mathlib.Omega.{arith}
-use Rattle.spec.specs.Tables.{keptOf}
+use Rattle.spec.specs.Tables.{kept_of}
 use Rattle.report_text.specs.Text.{row_lines}
-use Rattle.report_text.specs.inside.Appended.{Appended, rowRoom}
-use Rattle.report_text.proofs.Appending.{none-appended, text-appended}
+use Rattle.report_text.specs.inside.Appended.{Appended, row_room}
+use Rattle.report_text.proofs.Appending.{none_appended, text_appended}
 use Rattle.report_text.proofs.Lines.{rows_none, rows_more, rows_whole}
 use Rattle.report_text.proofs.write_rows.Statement.{statement}
 use Rattle.report_text.proofs.write_rows.Tie as tie
 
 abbrev invariant-loop : tie.invariant-loop
-invariant-loop kept supports out₀ at n i₀ to₀ out i to = (i ≤ n) × Appended (row_lines (take i (keptOf kept supports))) at out₀ out to × (length out ≡ length out₀) × (to ≤ at + i * rowRoom)
+invariant-loop kept supports out₀ at n i₀ to₀ out i to = (i ≤ n) × Appended (row_lines (take i (kept_of kept supports))) at out₀ out to × (length out ≡ length out₀) × (to ≤ at + i * row_room)
 
 abbrev decreases-loop : tie.decreases-loop
 decreases-loop kept supports out₀ at n i₀ to₀ out i to = n - i
@@ -25,7 +25,7 @@ cast-n : tie.Need-overflow-cast-n invariant-loop decreases-loop
 cast-n c = omega (arith, c.shared-slice-known3.given 0)
 
 loop-holds : tie.Need-loop-init invariant-loop decreases-loop
-loop-holds c = (zero-le, text-appended (rows_none (keptOf c.before.before.before.before.args.kept.now c.before.before.before.before.args.supports.now)) (none-appended c.before.before.before.before.args.out.now c.before.before.before.before.args.at), refl, omega (arith, c.before.before.before.before.requires.room))
+loop-holds c = (zero-le, text_appended (rows_none (kept_of c.before.before.before.before.args.kept.now c.before.before.before.before.args.supports.now)) (none_appended c.before.before.before.before.args.out.now c.before.before.before.before.args.at), refl, omega (arith, c.before.before.before.before.requires.room))
 
 mul-word : tie.Need-overflow-mul-word invariant-loop decreases-loop
 mul-word c = search rules

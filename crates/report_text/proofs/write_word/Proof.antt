@@ -5,7 +5,7 @@ use mathlib.Core.Path.{◌≡◌, refl, ◌∙◌}
 use lib.ListN.{length, take}
 use native.Mathlib.Omega.{arith}
 use Rattle.report_text.specs.inside.Appended.{Appended}
-use Rattle.report_text.proofs.Appending.{none-appended, word_more, word-whole, word-place}
+use Rattle.report_text.proofs.Appending.{none_appended, word_more, word_whole, word-place}
 use Rattle.report_text.proofs.write_word.Statement.{statement}
 use Rattle.report_text.proofs.write_word.Tie as tie
 
@@ -16,7 +16,7 @@ abbrev decreases-loop : tie.decreases-loop
 decreases-loop word out₀ at i₀ to₀ out i to = length word - i
 
 loop-holds : tie.Need-loop-init invariant-loop decreases-loop
-loop-holds c = (zero-le, none-appended c.before.before.args.out.now c.before.before.args.at, refl)
+loop-holds c = (zero-le, none_appended c.before.before.args.out.now c.before.before.args.at, refl)
 
 shared-slice-read-write-byte : tie.Need-shared-slice-read-write-byte invariant-loop decreases-loop
 shared-slice-read-write-byte c = search rules
@@ -37,7 +37,7 @@ same_length : tie.Need-same-length invariant-loop decreases-loop
 same_length c = search rules
 
 returns : tie.Need-returns invariant-loop decreases-loop
-returns c = word-whole c.before.before.before.before.args.word.now c.before.loop.i c.loop-test.false c.before.loop.invariant.1
+returns c = word_whole c.before.before.before.before.args.word.now c.before.loop.i c.loop-test.false c.before.loop.invariant.1
 
 pub write-word-spec : {M : Type 1} → statement M
 write-word-spec =

@@ -7,8 +7,8 @@ row zero p t = []
 row (suc m) p t = get_or t p 0 ∷ row m (p + 1) t
 
 -- Row i of t, where each row has m words.
-abbrev pub rowAt : ℕ → List ℕ → ℕ → List ℕ
-rowAt m t i = row m (i * m) t
+abbrev pub row_at : ℕ → List ℕ → ℕ → List ℕ
+row_at m t i = row m (i * m) t
 
 -- The n rows f s, f (s + 1), and so on.
 unfoldable pub tabulate : (ℕ → List ℕ) → ℕ → ℕ → List (List ℕ)
@@ -17,4 +17,4 @@ tabulate f s (suc n) = f s ∷ tabulate f (s + 1) n
 
 -- The n rows of t from row s on, where each row has m words.
 abbrev pub rows : ℕ → List ℕ → ℕ → ℕ → List (List ℕ)
-rows m t s n = tabulate (rowAt m t) s n
+rows m t s n = tabulate (row_at m t) s n

@@ -1,6 +1,6 @@
 -- `finish` refuses a known excess, and gives settled rows.
 use mathlib.Core.Path.{◌∙◌}
-use Rattle.rows_distinct.proofs.Gathering.{gathers-refused, gathers-rows}
+use Rattle.rows_distinct.proofs.Gathering.{gathers_refused, gathers-rows}
 use borrow.Author.Rules.{rules}
 use Rattle.rows_finish.proofs.finish.Statement.{statement}
 use Rattle.rows_finish.proofs.finish.Tie as tie
@@ -12,7 +12,7 @@ same_length : tie.Need-same-length
 same_length c = search rules
 
 returns : tie.Need-returns
-returns c = λ R C. gathers-refused _ R _ _ _ c.before.before.before.before.if1.true c.before.before.clear.ensures C
+returns c = λ R C. gathers_refused _ R _ _ _ c.before.before.before.before.if1.true c.before.before.clear.ensures C
 
 settle-requires : tie.Need-settle-requires
 settle-requires c κs = search rules

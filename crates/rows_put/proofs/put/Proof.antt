@@ -1,11 +1,11 @@
 -- `put` keeps what is collected, one row more: by the law of each way through it.
-use Rattle.rows_distinct.proofs.Collecting.{collects-exceeded, collects-there, collects-found}
+use Rattle.rows_distinct.proofs.Collecting.{collects_exceeded, collects_there, collects_found}
 use borrow.Author.Rules.{rules}
 use Rattle.rows_put.proofs.put.Statement.{statement}
 use Rattle.rows_put.proofs.put.Tie as tie
 
 returns : tie.Need-returns
-returns c = (c.before.before.before.requires.2, λ R C. collects-exceeded _ R _ _ _ c.if1.true C)
+returns c = (c.before.before.before.requires.2, λ R C. collects_exceeded _ R _ _ _ c.if1.true C)
 
 is-last-requires : tie.Need-is-last-requires
 is-last-requires c κs = search rules
@@ -14,7 +14,7 @@ same_length : tie.Need-same-length
 same_length c = search rules
 
 returns-2 : tie.Need-returns-2
-returns-2 c = (c.before.before.before.before.before.before.requires.2, λ R C. collects-there _ R _ _ _ (c.before.is_last.ensures c.if2.true) c.before.before.before.if1.false C)
+returns-2 c = (c.before.before.before.before.before.before.requires.2, λ R C. collects_there _ R _ _ _ (c.before.is_last.ensures c.if2.true) c.before.before.before.if1.false C)
 
 is-among-requires : tie.Need-is-among-requires
 is-among-requires c κs = search rules
@@ -23,7 +23,7 @@ same-length-2 : tie.Need-same-length-2
 same-length-2 c = search rules
 
 returns-3 : tie.Need-returns-3
-returns-3 c = (c.before.before.before.before.before.before.before.before.before.requires.2, λ R C. collects-found _ R _ _ _ _ c.before.is_among.ensures c.if3.true c.before.before.before.before.before.before.if1.false C)
+returns-3 c = (c.before.before.before.before.before.before.before.before.before.requires.2, λ R C. collects_found _ R _ _ _ _ c.before.is_among.ensures c.if3.true c.before.before.before.before.before.before.if1.false C)
 
 put-new-requires : tie.Need-put-new-requires
 put-new-requires c κs = search rules

@@ -4,7 +4,7 @@ use Prim.Native.Nat.{◌+◌}
 use native.Mathlib.Nat.{le-mul_of_pos_right, le-div_iff_mul-le}
 use native.Mathlib.Omega.{arith}
 use lib.ListN.{length}
-use Rattle.rows_distinct.proofs.Collecting.{room-for-one}
+use Rattle.rows_distinct.proofs.Collecting.{room_for_one}
 use borrow.Author.Rules.{rules}
 use Rattle.rows_put.proofs.put_new.Statement.{statement}
 use Rattle.rows_put.proofs.put_new.Tie as tie
@@ -29,7 +29,7 @@ add-requires c κs =
     let start = c.before.before.before.before.before.before in
     let x = start.args in
     let spare = c.before.before.is-spare.ensures c.before.if1.true in
-    (start.requires.0.0, start.requires.0.1, room-for-one x.m (x.c.sorted + x.c.added) (length x.out.now) start.requires.0.0 (omega (arith, spare)))
+    (start.requires.0.0, start.requires.0.1, room_for_one x.m (x.c.sorted + x.c.added) (length x.out.now) start.requires.0.0 (omega (arith, spare)))
 
 same_length : tie.Need-same-length
 same_length c = search rules

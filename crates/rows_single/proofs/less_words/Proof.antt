@@ -6,7 +6,7 @@ use native.Mathlib.Nat.{add-zero, sub-zero}
 use native.Mathlib.Omega.{arith}
 use Rattle.spec.specs.Rows.{less}
 use Rattle.rows.specs.inside.Rows.{row}
-use Rattle.rows.proofs.RowWords.{less-between-more, less-between-stop, less-between-none}
+use Rattle.rows.proofs.RowWords.{less-between_more, less-between_stop, less-between_none}
 use Rattle.rows_single.proofs.less_words.Statement.{statement}
 use Rattle.rows_single.proofs.less_words.Tie as tie
 
@@ -38,7 +38,7 @@ shared-slice-read-y : tie.Need-shared-slice-read-y invariant-loop decreases-loop
 shared-slice-read-y c = search rules
 
 returns : tie.Need-returns invariant-loop decreases-loop
-returns c = sym (less-between-stop _ _ _ _ _ _ (omega arith) c.if1.true) ∙ c.before.before.before.before.loop.invariant.1
+returns c = sym (less-between_stop _ _ _ _ _ _ (omega arith) c.if1.true) ∙ c.before.before.before.before.loop.invariant.1
 
 add-k : tie.Need-overflow-add-k invariant-loop decreases-loop
 add-k c = search rules
@@ -47,10 +47,10 @@ loop-less : tie.Need-loop-smaller invariant-loop decreases-loop
 loop-less c = search rules
 
 loop-again : tie.Need-loop-preserved invariant-loop decreases-loop
-loop-again c = (omega arith, less-between-more _ _ _ _ _ _ (omega arith) c.if1.false ∙ c.before.before.before.before.loop.invariant.1)
+loop-again c = (omega arith, less-between_more _ _ _ _ _ _ (omega arith) c.if1.false ∙ c.before.before.before.before.loop.invariant.1)
 
 returns-2 : tie.Need-returns-2 invariant-loop decreases-loop
-returns-2 c = sym (less-between-none _ _ _ _ _ (omega arith)) ∙ c.before.loop.invariant.1
+returns-2 c = sym (less-between_none _ _ _ _ _ (omega arith)) ∙ c.before.loop.invariant.1
 
 pub less-words-spec : {M : Type 1} → statement M
 less-words-spec =

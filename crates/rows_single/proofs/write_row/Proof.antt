@@ -4,7 +4,7 @@ use mathlib.Core.Path.{◌≡◌, refl}
 use Prim.Native.Nat.{◌-◌, ◌*◌, ◌≤◌}
 use native.Mathlib.Omega.{arith}
 use lib.ListN.{length, length-set}
-use Rattle.rows_single.proofs.Writing.{WriteLoop, write-none, write-more, write-all}
+use Rattle.rows_single.proofs.Writing.{WriteLoop, write_none, write_more, write-all}
 use Rattle.rows_single.proofs.write_row.Statement.{statement}
 use Rattle.rows_single.proofs.write_row.Tie as tie
 
@@ -18,7 +18,7 @@ mul_at : tie.Need-overflow-mul-at invariant-loop decreases-loop
 mul_at c = search rules
 
 loop-holds : tie.Need-loop-init invariant-loop decreases-loop
-loop-holds c = (refl, omega arith, refl, write-none _ _ _)
+loop-holds c = (refl, omega arith, refl, write_none _ _ _)
 
 mul-out : tie.Need-overflow-mul-out invariant-loop decreases-loop
 mul-out c = search rules
@@ -42,7 +42,7 @@ loop-less : tie.Need-loop-smaller invariant-loop decreases-loop
 loop-less c = search rules
 
 loop-again : tie.Need-loop-preserved invariant-loop decreases-loop
-loop-again c = let turn = c.before.before.loop.invariant in (refl, omega arith, simp length-set turn.2, write-more _ _ _ _ _ turn.3 (omega arith))
+loop-again c = let turn = c.before.before.loop.invariant in (refl, omega arith, simp length-set turn.2, write_more _ _ _ _ _ turn.3 (omega arith))
 
 same_length : tie.Need-same-length invariant-loop decreases-loop
 same_length c = search rules

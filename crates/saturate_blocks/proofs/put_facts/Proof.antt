@@ -6,7 +6,7 @@ use native.Mathlib.Omega.{arith}
 use lib.ListN.{length}
 use Rattle.saturate_merge.specs.inside.Output.{output, put_all}
 use Rattle.saturate_blocks.specs.inside.Plain.{ones}
-use Rattle.saturate_blocks.proofs.Plain.{ones-put, ones-done}
+use Rattle.saturate_blocks.proofs.Plain.{ones-put, ones_done}
 use Rattle.saturate_blocks.proofs.put_facts.Statement.{statement}
 use Rattle.saturate_blocks.proofs.put_facts.Tie as tie
 
@@ -41,7 +41,7 @@ same-length-2 : tie.Need-same-length-2 invariant-loop decreases-loop
 same-length-2 c = search rules
 
 returns : tie.Need-returns invariant-loop decreases-loop
-returns c = sym (ones-done c.before.before.before.before.before.args.f.now _ _ _ _ (omega arith)) ∙ c.before.loop.invariant.2
+returns c = sym (ones_done c.before.before.before.before.before.args.f.now _ _ _ _ (omega arith)) ∙ c.before.loop.invariant.2
 
 pub put-facts-spec : {M : Type 1} → statement M
 put-facts-spec =

@@ -2,6 +2,6 @@
 use Rattle.std.specs.Prelude.{ℕ, zero, suc, ◌+◌}
 
 -- The sum of h over n numbers, from a on.
-unfoldable pub sumFrom : (ℕ → ℕ) → ℕ → ℕ → ℕ
-sumFrom h a zero = 0
-sumFrom h a (suc n) = h a + sumFrom h (a + 1) n
+unfoldable pub sum_from : (ℕ → ℕ) → ℕ → ℕ → ℕ
+sum_from h a zero = 0
+sum_from h a (suc n) = h a + sum_from h (a + 1) n

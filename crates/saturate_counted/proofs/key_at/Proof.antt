@@ -4,7 +4,7 @@ use mathlib.Core.Path.{sym, ◌∙◌}
 use Prim.Native.Nat.{◌-◌}
 use borrow.Author.Tests.{le-ltb}
 use Rattle.saturate_counted.specs.inside.Counted.{key_at}
-use Rattle.saturate_counted.proofs.Counting.{keyAt-at}
+use Rattle.saturate_counted.proofs.Counting.{key_at-at}
 use Rattle.saturate_counted.proofs.key_at.Statement.{statement}
 use Rattle.saturate_counted.proofs.key_at.Tie as tie
 
@@ -18,7 +18,7 @@ wide-requires : tie.Need-wide-requires
 wide-requires c κs = search rules
 
 returns : tie.Need-returns
-returns c = c.wide.ensures.0 ∙ sym (keyAt-at _ _ _ c.before.before.if1.true)
+returns c = c.wide.ensures.0 ∙ sym (key_at-at _ _ _ c.before.before.if1.true)
 
 returns-2 : tie.Need-returns-2
 unfolding key_at

@@ -10,13 +10,13 @@ abbrev pub Counted : Type 0
 Counted = List (ℕ × ℕ)
 
 -- n keys with their counts, from key r on.
-unfoldable pub keysWithCounts : List ℕ → List ℕ → ℕ → ℕ → Counted
-keysWithCounts keys counts r zero = []
-keysWithCounts keys counts r (suc n) = (get_or keys r 0, get_or counts r 0) ∷ keysWithCounts keys counts (r + 1) n
+unfoldable pub keys_with_counts : List ℕ → List ℕ → ℕ → ℕ → Counted
+keys_with_counts keys counts r zero = []
+keys_with_counts keys counts r (suc n) = (get_or keys r 0, get_or counts r 0) ∷ keys_with_counts keys counts (r + 1) n
 
 -- The keys r .. end with their counts.
 abbrev pub counted : List ℕ → List ℕ → ℕ → ℕ → Counted
-counted keys counts r end = keysWithCounts keys counts r (end - r)
+counted keys counts r end = keys_with_counts keys counts r (end - r)
 
 -- The count of the key o.
 unfoldable pub count_of : ℕ → Counted → ℕ
@@ -24,9 +24,9 @@ count_of o [] = 0
 count_of o (w ∷ ws) = cond (eqb w.0 o) w.1 0 + count_of o ws
 
 -- The first key, 2 ^ 32 where there is none.
-unfoldable pub firstKey : Counted → ℕ
-firstKey [] = 2 ^ 32
-firstKey (w ∷ ws) = w.0
+unfoldable pub first_key : Counted → ℕ
+first_key [] = 2 ^ 32
+first_key (w ∷ ws) = w.0
 
 -- The keys are strictly ascending words, above a.
 abbrev pub KeysOver : ℕ → Counted → Type 0

@@ -49,7 +49,7 @@ wide-requires : tie.Need-wide-requires invariant-loop decreases-loop
 wide-requires c κs = search rules
 
 add-counts : tie.Need-overflow-add-counts invariant-loop decreases-loop
-add-counts c = let l = c.before.before.before.before.before.before.loop in omega (arith, c.before.before.before.before.before.before.before.before.before.before.requires.1 l.c c.before.before.before.before.before.loop-test.true, l.invariant.1.above l.c (omega arith), c.wide.ensures, c.before.either-bit.ensures)
+add-counts c = let l = c.before.before.before.before.before.before.loop in omega (arith, c.before.before.before.before.before.before.before.before.before.before.requires.1 l.c c.before.before.before.before.before.loop-test.true, l.invariant.1.above l.c (omega arith), c.wide.ensures, c.before.either_bit.ensures)
 
 mul-counts-2 : tie.Need-overflow-mul-counts-2 invariant-loop decreases-loop
 mul-counts-2 c = search rules
@@ -64,7 +64,7 @@ loop-less : tie.Need-loop-smaller invariant-loop decreases-loop
 loop-less c = search rules
 
 loop-again : tie.Need-loop-preserved invariant-loop decreases-loop
-loop-again c = let l = c.before.before.before.before.before.before.loop in (omega arith, added_more _ _ _ _ _ l.invariant.1 (omega arith) (c.wide.ensures ∙ c.before.either-bit.ensures))
+loop-again c = let l = c.before.before.before.before.before.before.loop in (omega arith, added_more _ _ _ _ _ l.invariant.1 (omega arith) (c.wide.ensures ∙ c.before.either_bit.ensures))
 
 same_length : tie.Need-same-length invariant-loop decreases-loop
 same_length c = c.before.loop.invariant.1.same

@@ -3,7 +3,7 @@ use mathlib.Core.Path.{sym, ◌∙◌}
 use Prim.Native.Nat.{◌-◌}
 use native.Mathlib.Omega.{arith}
 use Rattle.saturate_schema.specs.inside.Squares.{at}
-use Rattle.saturate_counts.proofs.Adding.{range-row, range_none, range-own}
+use Rattle.saturate_counts.proofs.Adding.{range-row, range_none, range_own}
 use borrow.Author.Rules.{rules}
 use Rattle.saturate_counts.proofs.count_other.Statement.{statement}
 use Rattle.saturate_counts.proofs.count_other.Tie as tie
@@ -12,7 +12,7 @@ subject-at-requires : tie.Need-subject-at-requires
 subject-at-requires c κs = search rules
 
 returns : tie.Need-returns
-returns c = range-own c.before.before.before.before.before.before.args.statements.now c.before.before.before.before.before.before.args.sizes.statements c.before.before.before.before.before.before.args.sizes.classes c.before.before.before.before.before.before.args.sizes.columns c.before.before.before.before.before.before.args.ranges.now c.before.before.before.before.before.before.args.ranges.now c.before.before.before.before.before.before.args.f.now c.before.before.before.before.before.before.args.x c.before.before.before.before.before.before.args.y c.before.before.before.before.before.before.pre.1.0 c.before.before.before.before.before.before.pre.1.0 _ (sym c.before.subject-at.ensures ∙ c.if1.taken)
+returns c = range_own c.before.before.before.before.before.before.args.statements.now c.before.before.before.before.before.before.args.sizes.statements c.before.before.before.before.before.before.args.sizes.classes c.before.before.before.before.before.before.args.sizes.columns c.before.before.before.before.before.before.args.ranges.now c.before.before.before.before.before.before.args.ranges.now c.before.before.before.before.before.before.args.f.now c.before.before.before.before.before.before.args.x c.before.before.before.before.before.before.args.y c.before.before.before.before.before.before.pre.1.0 c.before.before.before.before.before.before.pre.1.0 _ (sym c.before.subject-at.ensures ∙ c.if1.taken)
 
 property-at-requires : tie.Need-property-at-requires
 property-at-requires c κs = search rules

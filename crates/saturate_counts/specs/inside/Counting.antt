@@ -1,9 +1,9 @@
 -- What the facts about a thing add to the counts of the columns. Definitions only.
 use Rattle.std.specs.Prelude.{◌≡◌, cond, List, ℕ, ◌+◌, ◌≤◌, ◌<◌, length, get_or, eqb, ltb}
-use Rattle.saturate_schema.specs.inside.Nodes.{propertyNode}
+use Rattle.saturate_schema.specs.inside.Nodes.{property_node}
 use Rattle.saturate_schema.specs.inside.Squares.{at}
 use Rattle.saturate_schema.specs.inside.Sums.{sum_to}
-use Rattle.saturate_schema.specs.inside.Compiled.{subjectAt, propertyAt, nodeBit, either}
+use Rattle.saturate_schema.specs.inside.Compiled.{subject_at, property_at, node_bit, either}
 
 -- To the counts of the columns below end the bits were added; the others are as before.
 pub record Added (counts₀ counts : List ℕ) (bit : ℕ → ℕ) (end : ℕ) : Type 0 where
@@ -16,8 +16,8 @@ abbrev pub either_at : List ℕ → List ℕ → ℕ → ℕ → ℕ → ℕ
 either_at d r nc g c = cond (ltb c nc) (either (at d g c) (at r g c)) (at d g c)
 
 -- What fact y, of another subject than x, adds to column c by range; 0 where its subject is x.
-unfoldable pub otherBit : List ℕ → ℕ → List ℕ → List ℕ → ℕ → ℕ → ℕ → ℕ
-otherBit st m r f x c y = cond (eqb (subjectAt f y) x) 0 (nodeBit st m r (propertyNode (propertyAt f y)) c)
+unfoldable pub other_bit : List ℕ → ℕ → List ℕ → List ℕ → ℕ → ℕ → ℕ → ℕ
+other_bit st m r f x c y = cond (eqb (subject_at f y) x) 0 (node_bit st m r (property_node (property_at f y)) c)
 
 -- To the counts of the columns below end the sums of h c over the places a .. b were added; the others are as before.
 pub record Summed (counts₀ counts : List ℕ) (h : ℕ → ℕ → ℕ) (end a b : ℕ) : Type 0 where

@@ -2,7 +2,7 @@
 use mathlib.Core.Path.{ap}
 use Prim.Native.Nat.{ℕ, ◌+◌, ◌^◌}
 use native.Mathlib.Omega.{arith}
-use Rattle.saturate_groups.proofs.Groups.{property-starts}
+use Rattle.saturate_groups.proofs.Groups.{property_starts}
 use borrow.Author.Rules.{rules}
 use Rattle.saturate_groups.proofs.property_group.Statement.{statement}
 use Rattle.saturate_groups.proofs.property_group.Tie as tie
@@ -14,7 +14,7 @@ add-x : tie.Need-overflow-add-x
 add-x c = search rules
 
 first-of-group-requires : tie.Need-first-of-group-requires
-first-of-group-requires c κs = (c.before.before.requires, rw c.wide.ensures.0 (property-starts c.before.before.args.statements.now _ c.before.before.requires _ (omega arith)))
+first-of-group-requires c κs = (c.before.before.requires, rw c.wide.ensures.0 (property_starts c.before.before.args.statements.now _ c.before.before.requires _ (omega arith)))
 
 returns : tie.Need-returns
 returns c = rw c.before.wide.ensures.0 at c.first-of-group.ensures

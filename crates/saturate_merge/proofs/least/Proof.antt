@@ -3,19 +3,19 @@ use borrow.Author.Rules.{rules}
 use mathlib.Core.Path.{◌≡◌, sym, ap₂, ◌∙◌}
 use Prim.Native.Nat.{ℕ, ◌≤◌, ◌-◌}
 use native.Mathlib.Omega.{arith}
-use Rattle.saturate_merge.specs.inside.Streams.{streams, leastOf, lesserOf}
-use Rattle.saturate_merge.proofs.Streams.{least_more, least-none}
+use Rattle.saturate_merge.specs.inside.Streams.{streams, least_of, lesser_of}
+use Rattle.saturate_merge.proofs.Streams.{least_more, least_none}
 use Rattle.saturate_merge.proofs.least.Statement.{statement}
 use Rattle.saturate_merge.proofs.least.Tie as tie
 
 abbrev invariant-loop : tie.invariant-loop
-invariant-loop f ends k best₀ y₀ best y = (y ≤ k) × (best ≡ leastOf (streams f ends y))
+invariant-loop f ends k best₀ y₀ best y = (y ≤ k) × (best ≡ least_of (streams f ends y))
 
 abbrev decreases-loop : tie.decreases-loop
 decreases-loop f ends k best₀ y₀ best y = k - y
 
 loop-holds : tie.Need-loop-init invariant-loop decreases-loop
-loop-holds c = (search rules, sym (least-none _ _))
+loop-holds c = (search rules, sym (least_none _ _))
 
 mul-front : tie.Need-overflow-mul-front invariant-loop decreases-loop
 mul-front c = search rules
@@ -51,7 +51,7 @@ loop-less : tie.Need-loop-smaller invariant-loop decreases-loop
 loop-less c = search rules
 
 loop-again : tie.Need-loop-preserved invariant-loop decreases-loop
-loop-again c = (search rules, c.lesser.ensures ∙ ap₂ (λ (a b : ℕ). lesserOf a b) c.before.front.ensures c.before.before.before.before.before.loop.invariant.1 ∙ sym (least_more _ _ _))
+loop-again c = (search rules, c.lesser.ensures ∙ ap₂ (λ (a b : ℕ). lesser_of a b) c.before.front.ensures c.before.before.before.before.before.loop.invariant.1 ∙ sym (least_more _ _ _))
 
 returns : tie.Need-returns invariant-loop decreases-loop
 returns c = let e : c.before.loop.y ≡ c.before.before.before.before.args.k = omega arith in rw (← e) c.before.loop.invariant.1

@@ -5,7 +5,7 @@ use native.Mathlib.Omega.{arith}
 use Rattle.saturate_merge.specs.inside.Output.{output}
 use Rattle.saturate_merge.specs.inside.Streams.{streams}
 use Rattle.saturate_merge.proofs.Streams.{remaining}
-use Rattle.saturate_merge.proofs.Merging.{Turn, turn-start, turn_more, turn-less, turn_end}
+use Rattle.saturate_merge.proofs.Merging.{Turn, turn_start, turn_more, turn-less, turn_end}
 use Rattle.saturate_merge.proofs.merge_streams.Statement.{statement}
 use Rattle.saturate_merge.proofs.merge_streams.Tie as tie
 
@@ -19,7 +19,7 @@ least-requires : tie.Need-least-requires invariant-loop decreases-loop
 least-requires c κs = c.before.before.before.before.before.requires.0
 
 loop-holds : tie.Need-loop-init invariant-loop decreases-loop
-loop-holds c = turn-start _ _ _ _ _ _ _ _ c.before.before.before.before.before.before.requires.0 c.before.before.before.before.before.before.requires.1.0 c.least.ensures
+loop-holds c = turn_start _ _ _ _ _ _ _ _ c.before.before.before.before.before.before.requires.0 c.before.before.before.before.before.before.requires.1.0 c.least.ensures
 
 step-requires : tie.Need-step-requires invariant-loop decreases-loop
 step-requires c κs = (c.before.before.loop.invariant.fits, omega arith)
@@ -28,7 +28,7 @@ cast-put : tie.Need-overflow-cast-put invariant-loop decreases-loop
 cast-put c = search rules
 
 put-requires : tie.Need-put-requires invariant-loop decreases-loop
-put-requires c κs = omega (arith, c.before.before.before.before.before.before.before.loop.invariant.same-words, c.before.before.before.before.before.before.before.loop.invariant.same-supports, c.before.before.before.before.before.before.before.before.before.before.before.before.before.before.requires.1.1.1)
+put-requires c κs = omega (arith, c.before.before.before.before.before.before.before.loop.invariant.same-words, c.before.before.before.before.before.before.before.loop.invariant.same_supports, c.before.before.before.before.before.before.before.before.before.before.before.before.before.before.requires.1.1.1)
 
 least-requires-2 : tie.Need-least-requires-2 invariant-loop decreases-loop
 least-requires-2 c κs = (omega (arith, c.before.before.before.before.before.before.before.before.before.before.step.auto.1.0, c.before.before.before.before.before.before.before.before.before.before.before.before.before.loop.invariant.fits.0), λ y h. rw (c.before.before.before.before.before.before.before.before.before.before.step.ensures.1.1 y) (c.before.before.before.before.before.before.before.before.before.before.before.before.before.loop.invariant.fits.1 y h))

@@ -3,7 +3,7 @@ use borrow.Author.Rules.{rules}
 use mathlib.Core.Path.{◌≡◌, sym, ◌∙◌}
 use Prim.Native.Nat.{◌-◌}
 use native.Mathlib.Omega.{arith}
-use Rattle.saturate_merge.proofs.Streams.{step-hit, Stepping, stepping-start, stepping-hit, stepping-miss, stepping-small}
+use Rattle.saturate_merge.proofs.Streams.{step-hit, Stepping, stepping_start, stepping-hit, stepping_miss, stepping_small}
 use Rattle.saturate_merge.proofs.step.Statement.{statement}
 use Rattle.saturate_merge.proofs.step.Tie as tie
 
@@ -14,7 +14,7 @@ abbrev decreases-loop : tie.decreases-loop
 decreases-loop f ends₀ k o c₀ y₀ ends c y = k - y
 
 loop-holds : tie.Need-loop-init invariant-loop decreases-loop
-loop-holds c = stepping-start _ _ _ _
+loop-holds c = stepping_start _ _ _ _
 
 mul-z : tie.Need-overflow-mul-z invariant-loop decreases-loop
 mul-z c = search rules
@@ -41,7 +41,7 @@ front-requires : tie.Need-front-requires invariant-loop decreases-loop
 front-requires c κs = rw (c.before.before.before.loop.invariant.same_ends c.before.before.before.loop.y) (c.before.before.before.before.before.before.requires.0.1 c.before.before.before.loop.y (omega arith))
 
 add-c : tie.Need-overflow-add-c invariant-loop decreases-loop
-add-c c = omega (arith, stepping-small c.before.before.before.before.before.loop.invariant)
+add-c c = omega (arith, stepping_small c.before.before.before.before.before.loop.invariant)
 
 add-ends : tie.Need-overflow-add-ends invariant-loop decreases-loop
 add-ends c = omega (arith, (step-hit _ _ _ _ (omega arith) (sym c.before.front.ensures ∙ c.if1.true)).2, c.before.before.before.before.before.loop.invariant.same_ends c.before.before.before.before.before.loop.y, c.before.before.before.before.before.before.before.before.requires.0.1 c.before.before.before.before.before.loop.y (omega arith))
@@ -62,7 +62,7 @@ loop-less-2 : tie.Need-loop-smaller-2 invariant-loop decreases-loop
 loop-less-2 c = search rules
 
 loop-again-2 : tie.Need-loop-preserved-2 invariant-loop decreases-loop
-loop-again-2 c = stepping-miss _ _ _ _ _ _ _ c.before.before.before.before.before.loop.invariant (omega arith) (λ e. c.if1.false (c.before.front.ensures ∙ e))
+loop-again-2 c = stepping_miss _ _ _ _ _ _ _ c.before.before.before.before.before.loop.invariant (omega arith) (λ e. c.if1.false (c.before.front.ensures ∙ e))
 
 same_length : tie.Need-same-length invariant-loop decreases-loop
 same_length c = search rules

@@ -19,18 +19,18 @@ streams f ends zero = []
 streams f ends (suc k) = stream f ends k ∷ streams f ends k
 
 -- The first object of a stream, 2 ^ 32 where there is none.
-unfoldable pub frontOf : List ℕ → ℕ
-frontOf [] = 2 ^ 32
-frontOf (o ∷ l) = o
+unfoldable pub front_of : List ℕ → ℕ
+front_of [] = 2 ^ 32
+front_of (o ∷ l) = o
 
 -- The lesser of two numbers.
-abbrev pub lesserOf : ℕ → ℕ → ℕ
-lesserOf a b = cond (ltb a b) a b
+abbrev pub lesser_of : ℕ → ℕ → ℕ
+lesser_of a b = cond (ltb a b) a b
 
 -- The least of the first objects, 2 ^ 32 where there is none.
-unfoldable pub leastOf : List (List ℕ) → ℕ
-leastOf [] = 2 ^ 32
-leastOf (l ∷ ls) = lesserOf (frontOf l) (leastOf ls)
+unfoldable pub least_of : List (List ℕ) → ℕ
+least_of [] = 2 ^ 32
+least_of (l ∷ ls) = lesser_of (front_of l) (least_of ls)
 
 -- A stream without its first object, where that is o.
 unfoldable pub strip : ℕ → List ℕ → List ℕ

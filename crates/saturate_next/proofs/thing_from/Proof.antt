@@ -2,7 +2,7 @@
 use mathlib.Core.Path.{sym, ◌∙◌}
 use Prim.Native.Nat.{◌-◌}
 use native.Mathlib.Omega.{arith}
-use Rattle.saturate_next.proofs.NextLaws.{thing-some, thing-literal, thing-none}
+use Rattle.saturate_next.proofs.NextLaws.{thing-some, thing-literal, thing_none}
 use borrow.Author.Rules.{rules}
 use Rattle.saturate_next.proofs.thing_from.Statement.{statement}
 use Rattle.saturate_next.proofs.thing_from.Tie as tie
@@ -20,7 +20,7 @@ returns-2 : tie.Need-returns-2
 returns-2 c = sym (thing-literal c.before.before.before.before.before.before.args.f.now c.before.before.before.before.before.before.args.ix.now _ _ c.before.before.before.if1.true (omega (arith, c.if2.false, c.before.wide.ensures.0 ∙ c.before.before.object_of.ensures)))
 
 returns-3 : tie.Need-returns-3
-returns-3 c = sym (thing-none c.before.before.before.args.f.now c.before.before.before.args.ix.now _ _ c.if1.false)
+returns-3 c = sym (thing_none c.before.before.before.args.f.now c.before.before.before.args.ix.now _ _ c.if1.false)
 
 pub thing-from-spec : {M : Type 1} → statement M
 thing-from-spec = tie.close (tie.spec object-of-requires wide-requires returns returns-2 returns-3)

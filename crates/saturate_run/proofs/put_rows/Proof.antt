@@ -44,7 +44,7 @@ slice-aggregate-subject-rows : tie.Need-slice-aggregate-subject-rows invariant-l
 slice-aggregate-subject-rows c = search rules
 
 subject-rows-requires : tie.Need-subject-rows-requires invariant-loop decreases-loop
-subject-rows-requires c κs = (c.before.before.before.before.before.before.before.before.before.before.before.before.before.before.before.before.before.requires.0, (c.before.before.before.before.before.before.before.before.before.before.before.before.before.before.before.before.before.requires.1.0, (c.before.before.before.before.before.before.before.before.before.before.before.before.before.before.before.before.before.requires.1.1.0, (c.before.before.before.before.before.before.before.before.before.before.before.before.before.before.before.before.before.requires.1.1.1.0, (c.before.before.before.before.before.before.before.before.before.before.before.before.before.before.before.before.before.requires.1.1.1.1.1.0, (run-subjects c.before.before.before.before.before.before.before.before.before.before.before.before.before.before.before.before.before.args.f.now c.before.before.before.before.before.before.before.before.before.before.before.before.before.before.before.before.before.args.ix.now (count c.before.before.before.before.before.before.before.before.before.before.before.before.before.before.before.before.before.args.f.now) c.before.before.before.before.before.before.before.before.before.before.before.before.before.before.before.before.before.requires.1.0 c.before.before.before.before.before.before.before.before.before.before.before.before.before.before.before.before.before.requires.1.1.1.0 c.before.before.before.before.before.before.before.before.before.before.before.before.before.before.before.before.before.requires.1.1.1.1.0 c.before.before.before.before.before.before.before.before.before.before.before.before.before.before.before.before.before.requires.1.1.0.below c.before.before.before.before.before.before.before.before.before.before.before.before.before.before.before.before.before.args.statements.now c.before.before.before.before.before.before.before.before.before.before.before.before.before.before.before.before.before.args.sizes.statements c.before.before.before.before.before.before.before.before.before.before.before.before.before.before.before.before.before.args.domains.now c.before.before.before.before.before.before.before.before.before.before.before.before.before.before.before.before.before.args.ranges.now c.before.before.before.before.before.before.before.before.before.before.before.before.before.before.before.before.before.args.keys.now c.before.before.before.before.before.before.before.before.before.before.before.before.before.before.before.before.before.args.sizes.classes c.before.before.before.before.before.before.before.before.before.before.before.before.before.before.before.before.before.args.sizes.columns c.before.before.before.before.before.before.before.before.before.before.before.before.before.before.before.before.before.args.room _ _ _ _ _ c.before.before.before.before.before.before.loop.invariant.0 c.before.before.before.before.before.loop-test.true _ c.before.before.before.before.subject-end.ensures, (run-objects c.before.before.before.before.before.before.before.before.before.before.before.before.before.before.before.before.before.args.f.now c.before.before.before.before.before.before.before.before.before.before.before.before.before.before.before.before.before.args.ix.now (count c.before.before.before.before.before.before.before.before.before.before.before.before.before.before.before.before.before.args.f.now) c.before.before.before.before.before.before.before.before.before.before.before.before.before.before.before.before.before.requires.1.0 c.before.before.before.before.before.before.before.before.before.before.before.before.before.before.before.before.before.requires.1.1.1.0 c.before.before.before.before.before.before.before.before.before.before.before.before.before.before.before.before.before.requires.1.1.1.1.0 c.before.before.before.before.before.before.before.before.before.before.before.before.before.before.before.before.before.requires.1.1.0.below c.before.before.before.before.before.before.before.before.before.before.before.before.before.before.before.before.before.args.statements.now c.before.before.before.before.before.before.before.before.before.before.before.before.before.before.before.before.before.args.sizes.statements c.before.before.before.before.before.before.before.before.before.before.before.before.before.before.before.before.before.args.domains.now c.before.before.before.before.before.before.before.before.before.before.before.before.before.before.before.before.before.args.ranges.now c.before.before.before.before.before.before.before.before.before.before.before.before.before.before.before.before.before.args.keys.now c.before.before.before.before.before.before.before.before.before.before.before.before.before.before.before.before.before.args.sizes.classes c.before.before.before.before.before.before.before.before.before.before.before.before.before.before.before.before.before.args.sizes.columns c.before.before.before.before.before.before.before.before.before.before.before.before.before.before.before.before.before.args.room _ _ _ _ _ c.before.before.before.before.before.before.loop.invariant.0 c.before.before.before.before.before.loop-test.true _ c.before.before.before.object-end.ensures, (run-thing c.before.before.before.before.before.before.before.before.before.before.before.before.before.before.before.before.before.args.f.now c.before.before.before.before.before.before.before.before.before.before.before.before.before.before.before.before.before.args.ix.now (count c.before.before.before.before.before.before.before.before.before.before.before.before.before.before.before.before.before.args.f.now) c.before.before.before.before.before.before.before.before.before.before.before.before.before.before.before.before.before.requires.1.0 c.before.before.before.before.before.before.before.before.before.before.before.before.before.before.before.before.before.requires.1.1.1.0 c.before.before.before.before.before.before.before.before.before.before.before.before.before.before.before.before.before.requires.1.1.1.1.0 c.before.before.before.before.before.before.before.before.before.before.before.before.before.before.before.before.before.requires.1.1.0.below c.before.before.before.before.before.before.before.before.before.before.before.before.before.before.before.before.before.args.statements.now c.before.before.before.before.before.before.before.before.before.before.before.before.before.before.before.before.before.args.sizes.statements c.before.before.before.before.before.before.before.before.before.before.before.before.before.before.before.before.before.args.domains.now c.before.before.before.before.before.before.before.before.before.before.before.before.before.before.before.before.before.args.ranges.now c.before.before.before.before.before.before.before.before.before.before.before.before.before.before.before.before.before.args.keys.now c.before.before.before.before.before.before.before.before.before.before.before.before.before.before.before.before.before.args.sizes.classes c.before.before.before.before.before.before.before.before.before.before.before.before.before.before.before.before.before.args.sizes.columns c.before.before.before.before.before.before.before.before.before.before.before.before.before.before.before.before.before.args.room _ _ _ _ _ c.before.before.before.before.before.before.loop.invariant.0 c.before.before.before.before.before.loop-test.true, (omega (arith, c.before.before.before.before.before.before.loop.invariant.1), omega (arith, c.before.before.before.before.before.before.loop.invariant.0.same-words, c.before.before.before.before.before.before.loop.invariant.0.same-supports, c.before.before.before.before.before.before.before.before.before.before.before.before.before.before.before.before.before.requires.1.1.1.1.1.1))))))))))
+subject-rows-requires c κs = (c.before.before.before.before.before.before.before.before.before.before.before.before.before.before.before.before.before.requires.0, (c.before.before.before.before.before.before.before.before.before.before.before.before.before.before.before.before.before.requires.1.0, (c.before.before.before.before.before.before.before.before.before.before.before.before.before.before.before.before.before.requires.1.1.0, (c.before.before.before.before.before.before.before.before.before.before.before.before.before.before.before.before.before.requires.1.1.1.0, (c.before.before.before.before.before.before.before.before.before.before.before.before.before.before.before.before.before.requires.1.1.1.1.1.0, (run-subjects c.before.before.before.before.before.before.before.before.before.before.before.before.before.before.before.before.before.args.f.now c.before.before.before.before.before.before.before.before.before.before.before.before.before.before.before.before.before.args.ix.now (count c.before.before.before.before.before.before.before.before.before.before.before.before.before.before.before.before.before.args.f.now) c.before.before.before.before.before.before.before.before.before.before.before.before.before.before.before.before.before.requires.1.0 c.before.before.before.before.before.before.before.before.before.before.before.before.before.before.before.before.before.requires.1.1.1.0 c.before.before.before.before.before.before.before.before.before.before.before.before.before.before.before.before.before.requires.1.1.1.1.0 c.before.before.before.before.before.before.before.before.before.before.before.before.before.before.before.before.before.requires.1.1.0.below c.before.before.before.before.before.before.before.before.before.before.before.before.before.before.before.before.before.args.statements.now c.before.before.before.before.before.before.before.before.before.before.before.before.before.before.before.before.before.args.sizes.statements c.before.before.before.before.before.before.before.before.before.before.before.before.before.before.before.before.before.args.domains.now c.before.before.before.before.before.before.before.before.before.before.before.before.before.before.before.before.before.args.ranges.now c.before.before.before.before.before.before.before.before.before.before.before.before.before.before.before.before.before.args.keys.now c.before.before.before.before.before.before.before.before.before.before.before.before.before.before.before.before.before.args.sizes.classes c.before.before.before.before.before.before.before.before.before.before.before.before.before.before.before.before.before.args.sizes.columns c.before.before.before.before.before.before.before.before.before.before.before.before.before.before.before.before.before.args.room _ _ _ _ _ c.before.before.before.before.before.before.loop.invariant.0 c.before.before.before.before.before.loop-test.true _ c.before.before.before.before.subject-end.ensures, (run-objects c.before.before.before.before.before.before.before.before.before.before.before.before.before.before.before.before.before.args.f.now c.before.before.before.before.before.before.before.before.before.before.before.before.before.before.before.before.before.args.ix.now (count c.before.before.before.before.before.before.before.before.before.before.before.before.before.before.before.before.before.args.f.now) c.before.before.before.before.before.before.before.before.before.before.before.before.before.before.before.before.before.requires.1.0 c.before.before.before.before.before.before.before.before.before.before.before.before.before.before.before.before.before.requires.1.1.1.0 c.before.before.before.before.before.before.before.before.before.before.before.before.before.before.before.before.before.requires.1.1.1.1.0 c.before.before.before.before.before.before.before.before.before.before.before.before.before.before.before.before.before.requires.1.1.0.below c.before.before.before.before.before.before.before.before.before.before.before.before.before.before.before.before.before.args.statements.now c.before.before.before.before.before.before.before.before.before.before.before.before.before.before.before.before.before.args.sizes.statements c.before.before.before.before.before.before.before.before.before.before.before.before.before.before.before.before.before.args.domains.now c.before.before.before.before.before.before.before.before.before.before.before.before.before.before.before.before.before.args.ranges.now c.before.before.before.before.before.before.before.before.before.before.before.before.before.before.before.before.before.args.keys.now c.before.before.before.before.before.before.before.before.before.before.before.before.before.before.before.before.before.args.sizes.classes c.before.before.before.before.before.before.before.before.before.before.before.before.before.before.before.before.before.args.sizes.columns c.before.before.before.before.before.before.before.before.before.before.before.before.before.before.before.before.before.args.room _ _ _ _ _ c.before.before.before.before.before.before.loop.invariant.0 c.before.before.before.before.before.loop-test.true _ c.before.before.before.object-end.ensures, (run-thing c.before.before.before.before.before.before.before.before.before.before.before.before.before.before.before.before.before.args.f.now c.before.before.before.before.before.before.before.before.before.before.before.before.before.before.before.before.before.args.ix.now (count c.before.before.before.before.before.before.before.before.before.before.before.before.before.before.before.before.before.args.f.now) c.before.before.before.before.before.before.before.before.before.before.before.before.before.before.before.before.before.requires.1.0 c.before.before.before.before.before.before.before.before.before.before.before.before.before.before.before.before.before.requires.1.1.1.0 c.before.before.before.before.before.before.before.before.before.before.before.before.before.before.before.before.before.requires.1.1.1.1.0 c.before.before.before.before.before.before.before.before.before.before.before.before.before.before.before.before.before.requires.1.1.0.below c.before.before.before.before.before.before.before.before.before.before.before.before.before.before.before.before.before.args.statements.now c.before.before.before.before.before.before.before.before.before.before.before.before.before.before.before.before.before.args.sizes.statements c.before.before.before.before.before.before.before.before.before.before.before.before.before.before.before.before.before.args.domains.now c.before.before.before.before.before.before.before.before.before.before.before.before.before.before.before.before.before.args.ranges.now c.before.before.before.before.before.before.before.before.before.before.before.before.before.before.before.before.before.args.keys.now c.before.before.before.before.before.before.before.before.before.before.before.before.before.before.before.before.before.args.sizes.classes c.before.before.before.before.before.before.before.before.before.before.before.before.before.before.before.before.before.args.sizes.columns c.before.before.before.before.before.before.before.before.before.before.before.before.before.before.before.before.before.args.room _ _ _ _ _ c.before.before.before.before.before.before.loop.invariant.0 c.before.before.before.before.before.loop-test.true, (omega (arith, c.before.before.before.before.before.before.loop.invariant.1), omega (arith, c.before.before.before.before.before.before.loop.invariant.0.same-words, c.before.before.before.before.before.before.loop.invariant.0.same_supports, c.before.before.before.before.before.before.before.before.before.before.before.before.before.before.before.before.before.requires.1.1.1.1.1.1))))))))))
 
 next-subject-requires-2 : tie.Need-next-subject-requires-2 invariant-loop decreases-loop
 next-subject-requires-2 c κs = c.before.before.before.before.before.before.before.before.before.before.before.before.before.before.before.before.before.before.before.before.before.before.before.requires.1.1.0
@@ -59,7 +59,7 @@ same_length : tie.Need-same-length invariant-loop decreases-loop
 same_length c = c.before.loop.invariant.0.same-words
 
 same-length-2 : tie.Need-same-length-2 invariant-loop decreases-loop
-same-length-2 c = c.before.loop.invariant.0.same-supports
+same-length-2 c = c.before.loop.invariant.0.same_supports
 
 returns : tie.Need-returns invariant-loop decreases-loop
 returns c = λ K a s. run_end c.before.before.before.before.before.before.before.before.before.before.before.before.args.f.now c.before.before.before.before.before.before.before.before.before.before.before.before.args.ix.now (count c.before.before.before.before.before.before.before.before.before.before.before.before.args.f.now) c.before.before.before.before.before.before.before.before.before.before.before.before.requires.1.0 c.before.before.before.before.before.before.before.before.before.before.before.before.requires.1.1.1.0 c.before.before.before.before.before.before.before.before.before.before.before.before.requires.1.1.1.1.0 c.before.before.before.before.before.before.before.before.before.before.before.before.requires.1.1.0.below c.before.before.before.before.before.before.before.before.before.before.before.before.args.statements.now c.before.before.before.before.before.before.before.before.before.before.before.before.args.sizes.statements c.before.before.before.before.before.before.before.before.before.before.before.before.args.domains.now c.before.before.before.before.before.before.before.before.before.before.before.before.args.ranges.now c.before.before.before.before.before.before.before.before.before.before.before.before.args.keys.now c.before.before.before.before.before.before.before.before.before.before.before.before.args.sizes.classes c.before.before.before.before.before.before.before.before.before.before.before.before.args.sizes.columns c.before.before.before.before.before.before.before.before.before.before.before.before.args.room _ _ _ _ _ c.before.loop.invariant.0 (omega arith) K a s

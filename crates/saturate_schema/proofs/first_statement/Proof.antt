@@ -3,13 +3,13 @@ use borrow.Author.Rules.{rules}
 use mathlib.Core.Path.{◌≡◌, sym, ◌∙◌}
 use Prim.Native.Nat.{ℕ, ◌≤◌, ◌-◌, ◌<◌}
 use native.Mathlib.Omega.{arith}
-use Rattle.saturate_schema.specs.inside.Nodes.{subjectNode, found, none}
+use Rattle.saturate_schema.specs.inside.Nodes.{subject_node, found, none}
 use Rattle.saturate_schema.proofs.Closing.{absent_more}
 use Rattle.saturate_schema.proofs.first_statement.Statement.{statement}
 use Rattle.saturate_schema.proofs.first_statement.Tie as tie
 
 abbrev invariant-loop : tie.invariant-loop
-invariant-loop st m x i₀ i = (i ≤ m) × ((k : ℕ) → k < i → ¬ (subjectNode st k ≡ x))
+invariant-loop st m x i₀ i = (i ≤ m) × ((k : ℕ) → k < i → ¬ (subject_node st k ≡ x))
 
 abbrev decreases-loop : tie.decreases-loop
 decreases-loop st m x i₀ i = m - i
@@ -33,7 +33,7 @@ loop-again : tie.Need-loop-preserved invariant-loop decreases-loop
 loop-again c =
     let at-loop = c.before.before.before in
     let start = at-loop.before.before in
-    (omega arith, absent_more (subjectNode start.args.statements.now) _ _ at-loop.loop.invariant.1 (λ e. c.if1.false (c.before.subject-node.ensures ∙ e)))
+    (omega arith, absent_more (subject_node start.args.statements.now) _ _ at-loop.loop.invariant.1 (λ e. c.if1.false (c.before.subject-node.ensures ∙ e)))
 
 returns-2 : tie.Need-returns-2 invariant-loop decreases-loop
 returns-2 c = none (omega arith) (λ k h. c.before.loop.invariant.1 k (omega arith))

@@ -3,7 +3,7 @@ use native.Mathlib.Omega.{arith}
 use borrow.Author.Rules.{rules}
 use mathlib.Core.Path.{sym, ap, ◌∙◌}
 use Prim.Native.Nat.{ℕ, ◌^◌, ◌+◌}
-use Rattle.saturate_schema.proofs.Closing.{object-class-node, object-property-node}
+use Rattle.saturate_schema.proofs.Closing.{object_class_node, object_property_node}
 use Rattle.saturate_schema.proofs.object_node.Statement.{statement}
 use Rattle.saturate_schema.proofs.object_node.Tie as tie
 
@@ -40,12 +40,12 @@ add-result c = search rules
 returns : tie.Need-returns
 returns c =
     let after-wide = c.before.before in
-    (ap (λ (z : ℕ). z + 2 ^ 32) after-wide.wide.ensures.0 ∙ sym (object-property-node _ _ c.if1.true), omega (arith, after-wide.wide.ensures.1))
+    (ap (λ (z : ℕ). z + 2 ^ 32) after-wide.wide.ensures.0 ∙ sym (object_property_node _ _ c.if1.true), omega (arith, after-wide.wide.ensures.1))
 
 returns-2 : tie.Need-returns-2
 returns-2 c =
     let after-wide = c.before.before in
-    (after-wide.wide.ensures.0 ∙ sym (object-class-node _ _ c.if1.false), omega (arith, after-wide.wide.ensures.1))
+    (after-wide.wide.ensures.0 ∙ sym (object_class_node _ _ c.if1.false), omega (arith, after-wide.wide.ensures.1))
 
 pub object-node-spec : {M : Type 1} → statement M
 object-node-spec =

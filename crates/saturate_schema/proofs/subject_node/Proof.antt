@@ -2,7 +2,7 @@
 use borrow.Author.Rules.{rules}
 use mathlib.Core.Path.{sym, ap, ◌∙◌}
 use Prim.Native.Nat.{ℕ, ◌^◌, ◌+◌}
-use Rattle.saturate_schema.proofs.Closing.{subject-class-node, subject-property-node}
+use Rattle.saturate_schema.proofs.Closing.{subject_class_node, subject_property_node}
 use Rattle.saturate_schema.proofs.subject_node.Statement.{statement}
 use Rattle.saturate_schema.proofs.subject_node.Tie as tie
 
@@ -37,12 +37,12 @@ add-result : tie.Need-overflow-add-result
 add-result c = search rules
 
 returns : tie.Need-returns
-returns c = let after-wide = c.before.before in after-wide.wide.ensures.0 ∙ sym (subject-class-node _ _ c.if1.true)
+returns c = let after-wide = c.before.before in after-wide.wide.ensures.0 ∙ sym (subject_class_node _ _ c.if1.true)
 
 returns-2 : tie.Need-returns-2
 returns-2 c =
     let after-wide = c.before.before in
-    ap (λ (z : ℕ). z + 2 ^ 32) after-wide.wide.ensures.0 ∙ sym (subject-property-node _ _ c.if1.false)
+    ap (λ (z : ℕ). z + 2 ^ 32) after-wide.wide.ensures.0 ∙ sym (subject_property_node _ _ c.if1.false)
 
 pub subject-node-spec : {M : Type 1} → statement M
 subject-node-spec =

@@ -4,16 +4,16 @@ use Rattle.std.specs.Prelude.{◌≡◌, Bool, true, false, cond, List, [], ◌�
 use Rattle.saturate_schema.specs.inside.Walks.{Edge}
 
 -- The node of the property p.
-abbrev pub propertyNode : ℕ → ℕ
-propertyNode p = p + 2 ^ 32
+abbrev pub property_node : ℕ → ℕ
+property_node p = p + 2 ^ 32
 
 -- The node that statement i starts at: of 2 its subject as a class, of 3, 4 and 5 its subject as a property.
-unfoldable pub subjectNode : List ℕ → ℕ → ℕ
-subjectNode st i = cond (eqb (get_or st (i * 3 + 2) 0) 2) (get_or st (i * 3 + 1) 0) (get_or st (i * 3 + 1) 0 + 2 ^ 32)
+unfoldable pub subject_node : List ℕ → ℕ → ℕ
+subject_node st i = cond (eqb (get_or st (i * 3 + 2) 0) 2) (get_or st (i * 3 + 1) 0) (get_or st (i * 3 + 1) 0 + 2 ^ 32)
 
 -- The node that it ends at: of 3 its object as a property, of 2, 4 and 5 its object as a class.
-unfoldable pub objectNode : List ℕ → ℕ → ℕ
-objectNode st i = cond (eqb (get_or st (i * 3 + 2) 0) 3) (get_or st (i * 3 + 3) 0 + 2 ^ 32) (get_or st (i * 3 + 3) 0)
+unfoldable pub object_node : List ℕ → ℕ → ℕ
+object_node st i = cond (eqb (get_or st (i * 3 + 2) 0) 3) (get_or st (i * 3 + 3) 0 + 2 ^ 32) (get_or st (i * 3 + 3) 0)
 
 -- Whether statement i is one of 2, 3 and via, which is 4 or 5.
 unfoldable pub applies : List ℕ → ℕ → ℕ → Bool
@@ -22,7 +22,7 @@ applies st via i = cond (eqb (get_or st (i * 3 + 2) 0) 2) true (cond (eqb (get_o
 -- The edges of those of the first n statements that are.
 unfoldable pub edges : List ℕ → ℕ → ℕ → List Edge
 edges st via zero = []
-edges st via (suc n) = cond (applies st via n) ((subjectNode st n, objectNode st n) ∷ edges st via n) (edges st via n)
+edges st via (suc n) = cond (applies st via n) ((subject_node st n, object_node st n) ∷ edges st via n) (edges st via n)
 
 -- Where x stands among what f gives below n; n where it does not.
 pub data Found (f : ℕ → ℕ) (n x r : ℕ) : Type 0 where
@@ -38,4 +38,4 @@ pub record Columns (st : List ℕ) (m : ℕ) (col : List ℕ) (ns : ℕ) : Type 
   pub few : ns ≤ 512
   pub rows : m ≤ 512
   pub once : (c d : ℕ) → c < ns → d < ns → get_or col c 0 ≡ get_or col d 0 → c ≡ d
-  pub all : (i c : ℕ) → i < m → Found (word col) ns (objectNode st i) c → c < ns
+  pub all : (i c : ℕ) → i < m → Found (word col) ns (object_node st i) c → c < ns

@@ -2,7 +2,7 @@
 -- ns columns, bit gives the bit of a row and a column, and gain that of a column; sq are the words of a square, 512 bits to a row. Definitions only.
 use Rattle.std.specs.Prelude.{◌≡◌, List, ◌↔◌, ◌⊎◌, ℕ, ◌+◌, ◌*◌, ◌≤◌, ◌<◌, get_or}
 use Rattle.saturate_schema.specs.inside.Walks.{Edge, Plus}
-use Rattle.saturate_schema.specs.inside.Nodes.{subjectNode}
+use Rattle.saturate_schema.specs.inside.Nodes.{subject_node}
 
 -- Column c of row i.
 abbrev pub at : List ℕ → ℕ → ℕ → ℕ
@@ -30,7 +30,7 @@ Gained bit gain go m so ns = (c : ℕ) → c < ns → (gain c ≡ 1) ↔ ((c ≡
 
 -- Row i is of the node s, or leads to it: its column is ss, ns where it has none.
 abbrev pub Leads : List ℕ → (ℕ → ℕ → ℕ) → ℕ → ℕ → ℕ → ℕ → Type 0
-Leads st bit s ss ns i = (subjectNode st i ≡ s) ⊎ ((ss < ns) × (bit i ss ≡ 1))
+Leads st bit s ss ns i = (subject_node st i ≡ s) ⊎ ((ss < ns) × (bit i ss ≡ 1))
 
 -- From bit₀ to bit each of m rows that leads to the node s got what gain has.
 abbrev pub Extended : List ℕ → ℕ → (ℕ → ℕ → ℕ) → (ℕ → ℕ → ℕ) → (ℕ → ℕ) → ℕ → ℕ → ℕ → Type 0
@@ -38,7 +38,7 @@ Extended st m bit₀ bit gain s ss ns = (i c : ℕ) → i < m → c < ns → (bi
 
 -- The bits of the rows are what P says of a statement's subject and a column.
 abbrev pub Marks : List ℕ → ℕ → List ℕ → ℕ → (ℕ → ℕ → ℕ) → (ℕ → ℕ → Type 0) → Type 0
-Marks st m col ns bit P = (i c : ℕ) → i < m → c < ns → (bit i c ≡ 1) ↔ P (subjectNode st i) (get_or col c 0)
+Marks st m col ns bit P = (i c : ℕ) → i < m → c < ns → (bit i c ≡ 1) ↔ P (subject_node st i) (get_or col c 0)
 
 -- The bits are the walks by the edges E.
 abbrev pub Closed : List ℕ → ℕ → List ℕ → ℕ → (ℕ → ℕ → ℕ) → List Edge → Type 0
@@ -46,6 +46,6 @@ Closed st m col ns bit E = Marks st m col ns bit (Plus E)
 
 -- From sq₀ to sq the bit of its own node was cleared in the rows below k; the rest is as before.
 pub record Cleared (st col : List ℕ) (ns : ℕ) (sq₀ sq : List ℕ) (k : ℕ) : Type 0 where
-  pub own : (i c : ℕ) → i < k → c < ns → subjectNode st i ≡ get_or col c 0 → at sq i c ≡ 0
-  pub other : (i c : ℕ) → c < 512 → ¬ (subjectNode st i ≡ get_or col c 0) → at sq i c ≡ at sq₀ i c
+  pub own : (i c : ℕ) → i < k → c < ns → subject_node st i ≡ get_or col c 0 → at sq i c ≡ 0
+  pub other : (i c : ℕ) → c < 512 → ¬ (subject_node st i ≡ get_or col c 0) → at sq i c ≡ at sq₀ i c
   pub rest : (i c : ℕ) → c < 512 → k ≤ i → at sq i c ≡ at sq₀ i c

@@ -6,7 +6,7 @@ use native.Mathlib.Omega.{arith}
 use lib.ListN.{length}
 use lib.ListN.{length-set}
 use Rattle.saturate_schema.specs.inside.Squares.{Cleared}
-use Rattle.saturate_schema.proofs.Closing.{clear-start, clear-set, clear-pass}
+use Rattle.saturate_schema.proofs.Closing.{clear_start, clear-set, clear_pass}
 use Rattle.saturate_squares.proofs.clear_own.Statement.{statement}
 use Rattle.saturate_squares.proofs.clear_own.Tie as tie
 
@@ -19,7 +19,7 @@ decreases-loop st m col ns sq₀ i₀ sq i = m - i
 loop-holds : tie.Need-loop-init invariant-loop decreases-loop
 loop-holds c =
     let start = c.before.before.before in
-    (search rules, refl, clear-start start.args.statements.now start.args.columns.now _ start.args.square.now)
+    (search rules, refl, clear_start start.args.statements.now start.args.columns.now _ start.args.square.now)
 
 add-i : tie.Need-overflow-add-i invariant-loop decreases-loop
 add-i c = search rules
@@ -57,7 +57,7 @@ loop-again-2 c =
     let after-subject-node = c.before.before in
     let at-loop = after-subject-node.before.before in
     let start = at-loop.before.before.before.before in
-    (omega arith, at-loop.loop.invariant.1, clear-pass start.args.statements.now start.args.columns.now _ _ _ _ _ at-loop.loop.invariant.2 (rw (← after-subject-node.subject-node.ensures) c.before.column.ensures) c.if1.false)
+    (omega arith, at-loop.loop.invariant.1, clear_pass start.args.statements.now start.args.columns.now _ _ _ _ _ at-loop.loop.invariant.2 (rw (← after-subject-node.subject-node.ensures) c.before.column.ensures) c.if1.false)
 
 same_length : tie.Need-same-length invariant-loop decreases-loop
 same_length c = c.before.loop.invariant.1

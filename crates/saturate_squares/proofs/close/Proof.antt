@@ -6,7 +6,7 @@ use native.Mathlib.Omega.{arith}
 use lib.ListN.{length}
 use Rattle.saturate_schema.specs.inside.Nodes.{word, edges}
 use Rattle.saturate_schema.specs.inside.Squares.{at, Bits, Closed}
-use Rattle.saturate_schema.proofs.Closing.{closed-start, closed-more, closed-pass, step-made}
+use Rattle.saturate_schema.proofs.Closing.{closed_start, closed_more, closed_pass, step_made}
 use Rattle.saturate_squares.proofs.close.Statement.{statement}
 use Rattle.saturate_squares.proofs.close.Tie as tie
 
@@ -17,7 +17,7 @@ abbrev decreases-loop : tie.decreases-loop
 decreases-loop st m col ns via sq₀ gain₀ n₀ sq gain n = m - n
 
 loop-holds : tie.Need-loop-init invariant-loop decreases-loop
-loop-holds c = let start = c.before.before.before.before in (search rules, refl, refl, closed-start start.args.statements.now start.args.m start.args.columns.now start.args.ns (at start.args.square.now) start.args.via (λ i k li lk. start.requires.1.1 i k), λ i k l. omega (arith, start.requires.1.1 i k))
+loop-holds c = let start = c.before.before.before.before in (search rules, refl, refl, closed_start start.args.statements.now start.args.m start.args.columns.now start.args.ns (at start.args.square.now) start.args.via (λ i k li lk. start.requires.1.1 i k), λ i k l. omega (arith, start.requires.1.1 i k))
 
 add-n : tie.Need-overflow-add-n invariant-loop decreases-loop
 add-n c = search rules
@@ -73,9 +73,9 @@ loop-again c =
       omega (arith, in-loop.loop-test.true),
       after-close-statement.close-statement.auto.1.1.0 ∙ at-loop.loop.invariant.1,
       after-gains.gains.auto.1.0 ∙ at-loop.loop.invariant.2,
-      closed-more start.args.statements.now start.args.m start.args.columns.now start.args.ns (at at-loop.loop.square) start.args.via at-loop.loop.n at-loop.loop.invariant.0 start.requires.0 at-loop.loop.invariant.3
+      closed_more start.args.statements.now start.args.m start.args.columns.now start.args.ns (at at-loop.loop.square) start.args.via at-loop.loop.n at-loop.loop.invariant.0 start.requires.0 at-loop.loop.invariant.3
           (at after-close-statement.close-statement.new.1.1.0) (word after-gains.gains.new.1.0) _ _ _ in-loop.loop-test.true
-          (step-made start.args.statements.now start.args.m start.args.columns.now start.args.ns (at at-loop.loop.square) (at after-close-statement.close-statement.new.1.1.0) (word after-gains.gains.new.1.0) at-loop.loop.n _ _ _ _ _
+          (step_made start.args.statements.now start.args.m start.args.columns.now start.args.ns (at at-loop.loop.square) (at after-close-statement.close-statement.new.1.1.0) (word after-gains.gains.new.1.0) at-loop.loop.n _ _ _ _ _
           after-subject-node.subject-node.ensures after-object-node.object-node.ensures.0 after-column.column.ensures after-column2.column2.ensures after-first-statement.first-statement.ensures after-gains.gains.ensures after-close-statement.close-statement.ensures.0)
           (sym after-applies.applies.ensures ∙ at-if1.if1.true),
       after-close-statement.close-statement.ensures.1 at-loop.loop.invariant.4,
@@ -91,7 +91,7 @@ loop-again-2 c =
       omega arith,
       at-loop.loop.invariant.1,
       at-loop.loop.invariant.2,
-      closed-pass start.args.statements.now start.args.m start.args.columns.now start.args.ns (at at-loop.loop.square) start.args.via at-loop.loop.n at-loop.loop.invariant.0 start.requires.0 at-loop.loop.invariant.3
+      closed_pass start.args.statements.now start.args.m start.args.columns.now start.args.ns (at at-loop.loop.square) start.args.via at-loop.loop.n at-loop.loop.invariant.0 start.requires.0 at-loop.loop.invariant.3
           (sym c.before.applies.ensures ∙ c.if1.false),
       at-loop.loop.invariant.4,
     )

@@ -6,8 +6,8 @@ use native.Mathlib.Omega.{arith}
 use lib.ListN.{length}
 use Rattle.saturate_schema.specs.inside.Squares.{at, Bits, Leads}
 use Rattle.saturate_schema.specs.inside.Nodes.{word}
-use Rattle.saturate_schema.proofs.Squares.{united-joined, united-bits, Spread, spread-start, spread-yes, spread-no}
-use Rattle.saturate_schema.proofs.Closing.{leads-old}
+use Rattle.saturate_schema.proofs.Squares.{united-joined, united_bits, Spread, spread_start, spread_yes, spread_no}
+use Rattle.saturate_schema.proofs.Closing.{leads_old}
 use Rattle.saturate_squares.proofs.close_statement.Statement.{statement}
 use Rattle.saturate_squares.proofs.close_statement.Tie as tie
 
@@ -18,7 +18,7 @@ abbrev decreases-loop : tie.decreases-loop
 decreases-loop st m sq₀ gain s ss ns i₀ sq i = m - i
 
 loop-holds : tie.Need-loop-init invariant-loop decreases-loop
-loop-holds c = (search rules, refl, spread-start _ _ _ _, λ b. b)
+loop-holds c = (search rules, refl, spread_start _ _ _ _, λ b. b)
 
 add-i : tie.Need-overflow-add-i invariant-loop decreases-loop
 add-i c = search rules
@@ -43,10 +43,10 @@ loop-again c =
     let united = after-unite.unite.ensures in (
       omega arith,
       after-unite.unite.auto.0 ∙ at-loop.loop.invariant.1,
-      spread-yes (at start.args.square.now) (at at-loop.loop.square) (word start.args.gain.now) _ _ _ spread (at after-unite.unite.new.0) _ (omega arith)
-          ((leads-old start.args.statements.now (at start.args.square.now) (at at-loop.loop.square) (word start.args.gain.now) _ _ _ _ spread).0 (after-leads.leads.ensures.if-true at-if1.if1.true))
+      spread_yes (at start.args.square.now) (at at-loop.loop.square) (word start.args.gain.now) _ _ _ spread (at after-unite.unite.new.0) _ (omega arith)
+          ((leads_old start.args.statements.now (at start.args.square.now) (at at-loop.loop.square) (word start.args.gain.now) _ _ _ _ spread).0 (after-leads.leads.ensures.if_true at-if1.if1.true))
           (united-joined _ _ _ _ _ (omega arith) united),
-      λ b. united-bits _ _ _ _ _ united (at-loop.loop.invariant.3 b),
+      λ b. united_bits _ _ _ _ _ united (at-loop.loop.invariant.3 b),
     )
 
 loop-less-2 : tie.Need-loop-smaller-2 invariant-loop decreases-loop
@@ -59,8 +59,8 @@ loop-again-2 c =
     let spread = at-loop.loop.invariant.2 in (
       omega arith,
       at-loop.loop.invariant.1,
-      spread-no (at start.args.square.now) (at at-loop.loop.square) (word start.args.gain.now) _ _ _ spread
-          (λ z. c.before.leads.ensures.if-false c.if1.false ((leads-old start.args.statements.now (at start.args.square.now) (at at-loop.loop.square) (word start.args.gain.now) _ _ _ _ spread).1 z)),
+      spread_no (at start.args.square.now) (at at-loop.loop.square) (word start.args.gain.now) _ _ _ spread
+          (λ z. c.before.leads.ensures.if_false c.if1.false ((leads_old start.args.statements.now (at start.args.square.now) (at at-loop.loop.square) (word start.args.gain.now) _ _ _ _ spread).1 z)),
       at-loop.loop.invariant.3,
     )
 

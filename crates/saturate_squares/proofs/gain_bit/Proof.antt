@@ -1,12 +1,12 @@
 -- The column is the end, or row go has it, or neither.
 use borrow.Author.Rules.{rules}
 use Rattle.saturate_schema.specs.inside.Squares.{at}
-use Rattle.saturate_schema.proofs.Closing.{gain-so, gain-go, gain-none}
+use Rattle.saturate_schema.proofs.Closing.{gain_so, gain_go, gain_none}
 use Rattle.saturate_squares.proofs.gain_bit.Statement.{statement}
 use Rattle.saturate_squares.proofs.gain_bit.Tie as tie
 
 returns : tie.Need-returns
-returns c = let s = c.before in gain-so (at s.args.square.now) _ _ _ _ c.if1.true
+returns c = let s = c.before in gain_so (at s.args.square.now) _ _ _ _ c.if1.true
 
 mul-result : tie.Need-overflow-mul-result
 mul-result c = search rules
@@ -21,10 +21,10 @@ returns-2 : tie.Need-returns-2
 returns-2 c =
     let at-if1 = c.before.before in
     let start = at-if1.before in
-    gain-go (at start.args.square.now) _ _ _ _ at-if1.if1.false c.before.if2.true
+    gain_go (at start.args.square.now) _ _ _ _ at-if1.if1.false c.before.if2.true
 
 returns-3 : tie.Need-returns-3
-returns-3 c = let start = c.before.before in gain-none (at start.args.square.now) _ _ _ _ c.before.if1.false c.if2.false
+returns-3 c = let start = c.before.before in gain_none (at start.args.square.now) _ _ _ _ c.before.if1.false c.if2.false
 
 pub gain-bit-spec : {M : Type 1} → statement M
 gain-bit-spec =

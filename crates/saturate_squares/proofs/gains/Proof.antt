@@ -6,7 +6,7 @@ use native.Mathlib.Omega.{arith}
 use lib.ListN.{length}
 use Rattle.saturate_schema.specs.inside.Squares.{at, Gained}
 use Rattle.saturate_schema.specs.inside.Nodes.{word}
-use Rattle.saturate_schema.proofs.Squares.{gained-more}
+use Rattle.saturate_schema.proofs.Squares.{gained_more}
 use lib.ListN.{length-set}
 use Rattle.saturate_squares.proofs.gains.Statement.{statement}
 use Rattle.saturate_squares.proofs.gains.Tie as tie
@@ -36,7 +36,7 @@ loop-again : tie.Need-loop-preserved invariant-loop decreases-loop
 loop-again c =
     let at-loop = c.before.before in
     let start = at-loop.before.before.before in
-    (omega arith, length-set at-loop.loop.gain at-loop.loop.c c.gain-bit.result ∙ at-loop.loop.invariant.1, gained-more (at start.args.square.now) at-loop.loop.gain _ _ _ _ _ at-loop.loop.invariant.2 (omega (arith, at-loop.loop.invariant.1)) c.gain-bit.ensures)
+    (omega arith, length-set at-loop.loop.gain at-loop.loop.c c.gain-bit.result ∙ at-loop.loop.invariant.1, gained_more (at start.args.square.now) at-loop.loop.gain _ _ _ _ _ at-loop.loop.invariant.2 (omega (arith, at-loop.loop.invariant.1)) c.gain-bit.ensures)
 
 same_length : tie.Need-same-length invariant-loop decreases-loop
 same_length c = c.before.loop.invariant.1

@@ -5,7 +5,7 @@ use Prim.Native.Nat.{◌≤◌, ◌-◌, ◌+◌, ◌*◌}
 use native.Mathlib.Omega.{arith}
 use lib.ListN.{length, length-set}
 use Rattle.saturate_schema.specs.inside.Squares.{United}
-use Rattle.saturate_schema.proofs.Squares.{united-start, united-more}
+use Rattle.saturate_schema.proofs.Squares.{united_start, united_more}
 use Rattle.saturate_squares.proofs.unite.Statement.{statement}
 use Rattle.saturate_squares.proofs.unite.Tie as tie
 
@@ -16,7 +16,7 @@ abbrev decreases-loop : tie.decreases-loop
 decreases-loop square₀ a gain ns c₀ square c = ns - c
 
 loop-holds : tie.Need-loop-init invariant-loop decreases-loop
-loop-holds c = (search rules, refl, united-start _ _ _)
+loop-holds c = (search rules, refl, united_start _ _ _)
 
 shared-slice-read-joined : tie.Need-shared-slice-read-joined invariant-loop decreases-loop
 shared-slice-read-joined c = search rules
@@ -52,7 +52,7 @@ loop-again : tie.Need-loop-preserved invariant-loop decreases-loop
 loop-again c =
     let at-loop = c.before.before.before.before in
     let start = at-loop.before.before.before in
-    (omega arith, length-set at-loop.loop.square (start.args.a * 512 + at-loop.loop.c) c.joined.result ∙ at-loop.loop.invariant.1, united-more _ at-loop.loop.square start.args.gain.now _ _ _ at-loop.loop.invariant.2 (omega arith) (omega arith) c.joined.ensures.0 c.joined.ensures.1)
+    (omega arith, length-set at-loop.loop.square (start.args.a * 512 + at-loop.loop.c) c.joined.result ∙ at-loop.loop.invariant.1, united_more _ at-loop.loop.square start.args.gain.now _ _ _ at-loop.loop.invariant.2 (omega arith) (omega arith) c.joined.ensures.0 c.joined.ensures.1)
 
 same_length : tie.Need-same-length invariant-loop decreases-loop
 same_length c = c.before.loop.invariant.1

@@ -3,7 +3,7 @@ use mathlib.Core.Path.{◌∙◌}
 use Prim.Native.Nat.{◌-◌}
 use native.Mathlib.Omega.{arith}
 use lib.ListN.{length-set}
-use Rattle.saturate_subject.proofs.Columns.{one-rising, one-fits, column-tallied}
+use Rattle.saturate_subject.proofs.Columns.{one_rising, one_fits, column-tallied}
 use borrow.Author.Rules.{rules}
 use lib.ListN.{length-set, set}
 use Rattle.saturate_subject.proofs.column_rows.Statement.{statement}
@@ -16,7 +16,7 @@ slice-write-ends-2 : tie.Need-slice-write-ends-2
 slice-write-ends-2 c = simp length-set (omega (arith, c.before.before.before.before.before.before.requires.1.0))
 
 gather-requires : tie.Need-gather-requires
-gather-requires c κs = (c.before.before.before.before.before.before.before.requires.0, ((omega (arith, c.before.before.before.before.before.before.before.requires.1.0, length-set (set c.before.before.before.before.before.before.before.args.ends.now 0 c.before.before.before.before.before.before.before.args.column.from) 1 c.before.before.before.before.before.before.before.args.column.to, length-set c.before.before.before.before.before.before.before.args.ends.now 0 c.before.before.before.before.before.before.before.args.column.from)), (c.before.before.before.before.before.before.before.requires.1.1.0, (c.before.before.before.before.before.before.before.requires.1.1.1.0, (one-rising c.before.before.before.before.before.before.before.args.f.now c.before.before.before.before.before.before.before.args.ends.now c.before.before.before.before.before.before.before.args.column.from c.before.before.before.before.before.before.before.args.column.to (omega (arith, c.before.before.before.before.before.before.before.requires.1.0)) _ _ _ c.before.before.before.before.before.before.before.requires.1.1.1.0 c.before.before.before.before.before.before.before.requires.1.1.1.1.0.0 c.before.before.before.before.before.before.before.requires.1.1.1.1.0.2 c.before.before.before.before.before.before.before.requires.1.1.1.1.0.3, one-fits c.before.before.before.before.before.before.before.args.f.now c.before.before.before.before.before.before.before.args.ends.now c.before.before.before.before.before.before.before.args.column.from c.before.before.before.before.before.before.before.args.column.to (omega (arith, c.before.before.before.before.before.before.before.requires.1.0)) (omega (arith, c.before.before.before.before.before.before.before.requires.1.0, c.before.before.before.before.before.before.before.requires.1.1.1.1.0)))))))
+gather-requires c κs = (c.before.before.before.before.before.before.before.requires.0, ((omega (arith, c.before.before.before.before.before.before.before.requires.1.0, length-set (set c.before.before.before.before.before.before.before.args.ends.now 0 c.before.before.before.before.before.before.before.args.column.from) 1 c.before.before.before.before.before.before.before.args.column.to, length-set c.before.before.before.before.before.before.before.args.ends.now 0 c.before.before.before.before.before.before.before.args.column.from)), (c.before.before.before.before.before.before.before.requires.1.1.0, (c.before.before.before.before.before.before.before.requires.1.1.1.0, (one_rising c.before.before.before.before.before.before.before.args.f.now c.before.before.before.before.before.before.before.args.ends.now c.before.before.before.before.before.before.before.args.column.from c.before.before.before.before.before.before.before.args.column.to (omega (arith, c.before.before.before.before.before.before.before.requires.1.0)) _ _ _ c.before.before.before.before.before.before.before.requires.1.1.1.0 c.before.before.before.before.before.before.before.requires.1.1.1.1.0.0 c.before.before.before.before.before.before.before.requires.1.1.1.1.0.2 c.before.before.before.before.before.before.before.requires.1.1.1.1.0.3, one_fits c.before.before.before.before.before.before.before.args.f.now c.before.before.before.before.before.before.before.args.ends.now c.before.before.before.before.before.before.before.args.column.from c.before.before.before.before.before.before.before.args.column.to (omega (arith, c.before.before.before.before.before.before.before.requires.1.0)) (omega (arith, c.before.before.before.before.before.before.before.requires.1.0, c.before.before.before.before.before.before.before.requires.1.1.1.1.0)))))))
 
 merge-streams-requires : tie.Need-merge-streams-requires
 merge-streams-requires c κs = let g = c.before.before.before.before.before.gather.ensures in ((omega (arith, g.same_ends, g.few, c.before.before.before.before.before.before.before.before.before.before.before.before.before.requires.1.0, length-set (set c.before.before.before.before.before.before.before.before.before.before.before.before.before.args.ends.now 0 c.before.before.before.before.before.before.before.before.before.before.before.before.before.args.column.from) 1 c.before.before.before.before.before.before.before.before.before.before.before.before.before.args.column.to, length-set c.before.before.before.before.before.before.before.before.before.before.before.before.before.args.ends.now 0 c.before.before.before.before.before.before.before.before.before.before.before.before.before.args.column.from), g.fits), (g.rising, (omega (arith, g.few, c.before.before.before.before.before.before.before.before.before.before.before.before.before.requires.1.0), c.before.before.before.before.before.before.before.before.before.before.before.before.before.requires.1.1.1.1.1)))

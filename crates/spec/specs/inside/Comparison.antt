@@ -4,11 +4,11 @@ use Rattle.std.proofs.Common.{sym, arith}
 use Rattle.std.proofs.Math.Decide.{ℕ_discrete, dec_lt}
 use Rattle.spec.specs.declared.Triple.{Triple}
 
--- The order by subject, property, object: `isLess` decides it.
+-- The order by subject, property, object: `is_less` decides it.
 pub data Less (t u : Triple) : Type 0 where
-  by-subject : t.subject < u.subject → Less t u
-  by-property : t.subject ≡ u.subject → t.property < u.property → Less t u
-  by-object : t.subject ≡ u.subject → t.property ≡ u.property → t.object < u.object → Less t u
+  by_subject_lem : t.subject < u.subject → Less t u
+  by_property : t.subject ≡ u.subject → t.property < u.property → Less t u
+  by_object_lem : t.subject ≡ u.subject → t.property ≡ u.property → t.object < u.object → Less t u
 
 -- Strictly ascending: each row is less than the next.
 abbrev pub Above : Triple → List Triple → Type 0
@@ -27,13 +27,13 @@ pub data Compared (m n : ℕ) : Type 0 where
   above : n < m → Compared m n
 
 -- The comparison of two numbers.
-unfoldable pub compareNumbers : (m n : ℕ) → Compared m n
+unfoldable pub compare_numbers : (m n : ℕ) → Compared m n
 unfolding dec_lt ℕ_discrete
-compareNumbers m n = elim (dec_lt m n) [ yes h ↦ below h | no h ↦ elim (ℕ_discrete m n) [ yes e ↦ equal e | no k ↦ above (omega arith) ] ]
+compare_numbers m n = elim (dec_lt m n) [ yes h ↦ below h | no h ↦ elim (ℕ_discrete m n) [ yes e ↦ equal e | no k ↦ above (omega arith) ] ]
 
 -- Triples are equal where their parts are.
-pub triple-eq : (t u : Triple) → t.subject ≡ u.subject → t.property ≡ u.property → t.object ≡ u.object → t ≡ u
-triple-eq t u a b c = λ i. record { subject = a i; property = b i; object = c i }
+pub triple_eq : (t u : Triple) → t.subject ≡ u.subject → t.property ≡ u.property → t.object ≡ u.object → t ≡ u
+triple_eq t u a b c = λ i. record { subject = a i; property = b i; object = c i }
 
 -- How two triples stand.
 pub data Trichotomy (t u : Triple) : Type 0 where
@@ -42,33 +42,33 @@ pub data Trichotomy (t u : Triple) : Type 0 where
   more : Less u t → Trichotomy t u
 
 -- The comparison of two triples.
-unfoldable pub compareTriples : (t u : Triple) → Trichotomy t u
-unfolding compareNumbers
-compareTriples t u =
-    elim (compareNumbers t.subject u.subject) [
-      | below h ↦ less (by-subject h)
-      | above h ↦ more (by-subject h)
-      | equal a ↦ elim (compareNumbers t.property u.property) [
-        | below h ↦ less (by-property a h)
-        | above h ↦ more (by-property (sym a) h)
-        | equal b ↦ elim (compareNumbers t.object u.object) [
-          | below h ↦ less (by-object a b h)
-          | above h ↦ more (by-object (sym a) (sym b) h)
-          | equal c ↦ same (triple-eq t u a b c)
+unfoldable pub compare_triples : (t u : Triple) → Trichotomy t u
+unfolding compare_numbers
+compare_triples t u =
+    elim (compare_numbers t.subject u.subject) [
+      | below h ↦ less (by_subject_lem h)
+      | above h ↦ more (by_subject_lem h)
+      | equal a ↦ elim (compare_numbers t.property u.property) [
+        | below h ↦ less (by_property a h)
+        | above h ↦ more (by_property (sym a) h)
+        | equal b ↦ elim (compare_numbers t.object u.object) [
+          | below h ↦ less (by_object_lem a b h)
+          | above h ↦ more (by_object_lem (sym a) (sym b) h)
+          | equal c ↦ same (triple_eq t u a b c)
         ]
       ]
     ]
 
 -- No triple is less than itself.
-pub less-irrefl : {t : Triple} → Less t t → ⊥
-less-irrefl (by-subject h) = omega arith
-less-irrefl (by-property e h) = omega arith
-less-irrefl (by-object e k h) = omega arith
+pub less_irrefl : {t : Triple} → Less t t → ⊥
+less_irrefl (by_subject_lem h) = omega arith
+less_irrefl (by_property e h) = omega arith
+less_irrefl (by_object_lem e k h) = omega arith
 
 -- Whether two triples are equal.
-unfoldable pub equalTriples : Discrete Triple
-unfolding compareTriples
-equalTriples t u = elim (compareTriples t u) [ less h ↦ no (λ e. less-irrefl (rw e at h)) | same e ↦ yes e | more h ↦ no (λ e. less-irrefl (rw e at h)) ]
+unfoldable pub equal_triples : Discrete Triple
+unfolding compare_triples
+equal_triples t u = elim (compare_triples t u) [ less h ↦ no (λ e. less_irrefl (rw e at h)) | same e ↦ yes e | more h ↦ no (λ e. less_irrefl (rw e at h)) ]
 
 -- x where the answer is yes, y where it is no.
 unfoldable pub choose : {P A : Type 0} → Dec P → A → A → A

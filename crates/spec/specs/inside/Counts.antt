@@ -1,7 +1,7 @@
 -- What a list of kept facts must be: ascending, every support at least 1; and the support of a row among them. Definitions only.
 use Rattle.std.specs.Prelude.{cond, [], ◌∷◌, ℕ, ◌<◌}
 use Rattle.spec.specs.declared.Triple.{Triple}
-use Rattle.spec.specs.Order.{isSame}
+use Rattle.spec.specs.Order.{is_same}
 use Rattle.spec.specs.inside.Comparison.{Less}
 use Rattle.spec.specs.Saturation.{Kept}
 
@@ -18,4 +18,4 @@ Counts (e ∷ k) = (0 < e.1) × KeptAbove e.0 k
 -- The support of t among kept facts, 0 where t is not kept.
 unfoldable pub lookup : Kept → Triple → ℕ
 lookup [] t = 0
-lookup (e ∷ k) t = cond (isSame t e.0) e.1 (lookup k t)
+lookup (e ∷ k) t = cond (is_same t e.0) e.1 (lookup k t)

@@ -2,12 +2,12 @@
 use Rattle.std.specs.Prelude.{◌≡◌, ◌⊎◌}
 use mathlib.Core.List.{List, Memᴰ}
 use Rattle.spec.specs.declared.Triple.{Triple}
-use Rattle.spec.specs.Terms.{subClassOf, subPropertyOf}
+use Rattle.spec.specs.Terms.{sub_class_of, sub_property_of}
 use Rattle.spec.specs.inside.Stated.{Steps}
 
 -- The row is a subclass or subproperty statement.
 abbrev pub IsTransitive : Triple → Type 0
-IsTransitive f = (f.property ≡ subClassOf) ⊎ (f.property ≡ subPropertyOf)
+IsTransitive f = (f.property ≡ sub_class_of) ⊎ (f.property ≡ sub_property_of)
 
 -- What the row f of S gives: a subclass or subproperty statement joins its subject to all that one or more steps reach; any other gives itself.
 pub data Gives (S : List Triple) (f t : Triple) : Type 0 where

@@ -7,9 +7,9 @@
 use Rattle.std.specs.Prelude.{ℕ, Bool, true, ◌&&◌, ◌||◌, cond, List, [], ◌∷◌, eqb}
 use Prim.Native.Char.{code}
 use Rattle.spec_ntriples.specs.computed.Decoded.{Decoded, broken, decoded, decode}
-use Rattle.spec_ntriples.specs.Characters.{codes, isOneOf, isLetter, isDigit, isPnCharsU}
-use Rattle.spec_ntriples.specs.computed.Terminals.{Got, none, got, outside, iriStep, stringStep, scan, label, headIs, tag, skip}
-use Rattle.spec_ntriples.specs.Texts.{Text, text, TextTriple, isAbsolute, iriText, blankText, stringText, taggedText, typedText}
+use Rattle.spec_ntriples.specs.Characters.{codes, is_one_of, is_letter, is_digit, is_pn_chars_u}
+use Rattle.spec_ntriples.specs.computed.Terminals.{Got, none, got, outside, iri_step, string_step, scan, label, head_is, tag, skip}
+use Rattle.spec_ntriples.specs.Texts.{Text, text, TextTriple, is_absolute, iri_text, blank_text, string_text, tagged_text, typed_text}
 
 -- ---- terms
 
@@ -19,62 +19,62 @@ pub data Read : Type 0 where
   read : Text → List ℕ → Read
 
 -- An IRI that was read, where it is absolute.
-unfoldable pub iriOf : Got → Read
-iriOf none = nothing
-iriOf (got cs rest) = cond (isAbsolute cs) (read (text 0 (iriText cs)) rest) nothing
+unfoldable pub iri_of : Got → Read
+iri_of none = nothing
+iri_of (got cs rest) = cond (is_absolute cs) (read (text 0 (iri_text cs)) rest) nothing
 
 -- [8] IRIREF
-unfoldable pub readIri : List ℕ → Read
-readIri [] = nothing
-readIri (c ∷ cs) = cond (eqb c (code "<")) (iriOf (scan iriStep outside cs)) nothing
+unfoldable pub read_iri : List ℕ → Read
+read_iri [] = nothing
+read_iri (c ∷ cs) = cond (eqb c (code "<")) (iri_of (scan iri_step outside cs)) nothing
 
 -- A label that was read behind its first character.
-unfoldable pub blankOf : ℕ → Got → Read
-blankOf c none = nothing
-blankOf c (got cs rest) = read (text 1 (blankText (c ∷ cs))) rest
+unfoldable pub blank_of : ℕ → Got → Read
+blank_of c none = nothing
+blank_of c (got cs rest) = read (text 1 (blank_text (c ∷ cs))) rest
 
 -- [141s] BLANK_NODE_LABEL behind its first character, "_".
-unfoldable pub readBlank : List ℕ → Read
-readBlank [] = nothing
-readBlank (c ∷ []) = nothing
-readBlank (c ∷ d ∷ cs) = cond (eqb c (code ":") && (isPnCharsU d || isDigit d)) (blankOf d (label cs)) nothing
+unfoldable pub read_blank : List ℕ → Read
+read_blank [] = nothing
+read_blank (c ∷ []) = nothing
+read_blank (c ∷ d ∷ cs) = cond (eqb c (code ":") && (is_pn_chars_u d || is_digit d)) (blank_of d (label cs)) nothing
 
 -- A literal with a datatype that was read behind its string.
 unfoldable pub typed_of : List ℕ → Read → Read
 typed_of string nothing = nothing
-typed_of string (read type rest) = read (text 2 (typedText string type.bytes)) rest
+typed_of string (read type rest) = read (text 2 (typed_text string type.bytes)) rest
 
 -- Behind the first "^": the second, and the datatype.
-unfoldable pub readType : List ℕ → List ℕ → Read
-readType string [] = nothing
-readType string (c ∷ cs) = cond (eqb c (code "^")) (typed_of string (readIri (skip cs))) nothing
+unfoldable pub read_type : List ℕ → List ℕ → Read
+read_type string [] = nothing
+read_type string (c ∷ cs) = cond (eqb c (code "^")) (typed_of string (read_iri (skip cs))) nothing
 
 -- A literal with a language tag that was read behind its string.
-unfoldable pub taggedOf : List ℕ → Got → Read
-taggedOf string none = nothing
-taggedOf string (got cs rest) = read (text 2 (taggedText string cs)) rest
+unfoldable pub tagged_of : List ℕ → Got → Read
+tagged_of string none = nothing
+tagged_of string (got cs rest) = read (text 2 (tagged_text string cs)) rest
 
 -- [6] literal behind its string, "('^^' IRIREF | LANGTAG)?"; plain is the literal without either.
 unfoldable pub suffixed : List ℕ → Read → List ℕ → Read
 suffixed string plain [] = plain
 suffixed string plain (c ∷ cs) =
-    cond (eqb c (code "@")) (cond (headIs isLetter cs) (taggedOf string (tag isLetter cs)) nothing)
-    (cond (eqb c (code "^")) (readType string cs) plain)
+    cond (eqb c (code "@")) (cond (head_is is_letter cs) (tagged_of string (tag is_letter cs)) nothing)
+    (cond (eqb c (code "^")) (read_type string cs) plain)
 
 -- A literal whose string was read. White space may stand between its terminals.
-unfoldable pub literalOf : Got → Read
-literalOf none = nothing
-literalOf (got cs rest) = suffixed (stringText cs) (read (text 2 (stringText cs)) rest) (skip rest)
+unfoldable pub literal_of : Got → Read
+literal_of none = nothing
+literal_of (got cs rest) = suffixed (string_text cs) (read (text 2 (string_text cs)) rest) (skip rest)
 
 -- [3] subject: "IRIREF | BLANK_NODE_LABEL".
-unfoldable pub readSubject : List ℕ → Read
-readSubject [] = nothing
-readSubject (c ∷ cs) = cond (eqb c (code "_")) (readBlank cs) (readIri (c ∷ cs))
+unfoldable pub read_subject : List ℕ → Read
+read_subject [] = nothing
+read_subject (c ∷ cs) = cond (eqb c (code "_")) (read_blank cs) (read_iri (c ∷ cs))
 
 -- [5] object: "IRIREF | BLANK_NODE_LABEL | literal".
-unfoldable pub readObject : List ℕ → Read
-readObject [] = nothing
-readObject (c ∷ cs) = cond (eqb c (code "\"")) (literalOf (scan stringStep outside cs)) (readSubject (c ∷ cs))
+unfoldable pub read_object : List ℕ → Read
+read_object [] = nothing
+read_object (c ∷ cs) = cond (eqb c (code "\"")) (literal_of (scan string_step outside cs)) (read_subject (c ∷ cs))
 
 -- ---- lines
 
@@ -95,35 +95,35 @@ end_of t [] = wrong
 end_of t (c ∷ cs) = cond (eqb c (code ".") && is_rest (skip cs)) (full t) wrong
 
 -- Behind the property: the object.
-unfoldable pub afterObject : Text → Text → Read → Line
-afterObject s p nothing = wrong
-afterObject s p (read o rest) = end_of (record { subject = s; property = p; object = o }) (skip rest)
+unfoldable pub after_object : Text → Text → Read → Line
+after_object s p nothing = wrong
+after_object s p (read o rest) = end_of (record { subject = s; property = p; object = o }) (skip rest)
 
 -- Behind the subject: the property, [4] predicate: "IRIREF".
-unfoldable pub afterProperty : Text → Read → Line
-afterProperty s nothing = wrong
-afterProperty s (read p rest) = afterObject s p (readObject (skip rest))
+unfoldable pub after_property : Text → Read → Line
+after_property s nothing = wrong
+after_property s (read p rest) = after_object s p (read_object (skip rest))
 
 -- The subject.
-unfoldable pub afterSubject : Read → Line
-afterSubject nothing = wrong
-afterSubject (read s rest) = afterProperty s (readIri (skip rest))
+unfoldable pub after_subject : Read → Line
+after_subject nothing = wrong
+after_subject (read s rest) = after_property s (read_iri (skip rest))
 
 -- [2] triple: "subject predicate object '.'", with white space around and between its terminals; or a line with none.
-unfoldable pub readLine : List ℕ → Line
-readLine cs = cond (is_rest (skip cs)) empty (afterSubject (readSubject (skip cs)))
+unfoldable pub read_line : List ℕ → Line
+read_line cs = cond (is_rest (skip cs)) empty (after_subject (read_subject (skip cs)))
 
 -- ---- documents
 
 -- One character more, in front of the first of some lines.
-unfoldable pub addToLine : ℕ → List (List ℕ) → List (List ℕ)
-addToLine c [] = (c ∷ []) ∷ []
-addToLine c (l ∷ ls) = (c ∷ l) ∷ ls
+unfoldable pub add_to_line : ℕ → List (List ℕ) → List (List ℕ)
+add_to_line c [] = (c ∷ []) ∷ []
+add_to_line c (l ∷ ls) = (c ∷ l) ∷ ls
 
 -- [7] EOL: "[#xD#xA]+". The lines of some characters: each CR and each LF ends one, and so does the last character.
 unfoldable pub lines : List ℕ → List (List ℕ)
 lines [] = [] ∷ []
-lines (c ∷ cs) = let ls = lines cs in cond (isOneOf (codes "\r\n") c) ([] ∷ ls) (addToLine c ls)
+lines (c ∷ cs) = let ls = lines cs in cond (is_one_of (codes "\r\n") c) ([] ∷ ls) (add_to_line c ls)
 
 -- The texts of a document's triples, or that a line of it is wrong.
 pub data Document : Type 0 where
@@ -131,26 +131,26 @@ pub data Document : Type 0 where
   triples : List TextTriple → Document
 
 -- One triple more, in front.
-unfoldable pub withTriple : TextTriple → Document → Document
-withTriple t refused = refused
-withTriple t (triples ts) = triples (t ∷ ts)
+unfoldable pub with_triple : TextTriple → Document → Document
+with_triple t refused = refused
+with_triple t (triples ts) = triples (t ∷ ts)
 
 -- One line more, in front.
-unfoldable pub withLine : Line → Document → Document
-withLine wrong d = refused
-withLine empty d = d
-withLine (full t) d = withTriple t d
+unfoldable pub with_line : Line → Document → Document
+with_line wrong d = refused
+with_line empty d = d
+with_line (full t) d = with_triple t d
 
 -- The document of some lines.
-unfoldable pub readLines : List (List ℕ) → Document
-readLines [] = triples []
-readLines (l ∷ ls) = withLine (readLine l) (readLines ls)
+unfoldable pub read_lines : List (List ℕ) → Document
+read_lines [] = triples []
+read_lines (l ∷ ls) = with_line (read_line l) (read_lines ls)
 
 -- The document of characters, where bytes are UTF-8.
-unfoldable pub documentOf : Decoded → Document
-documentOf broken = refused
-documentOf (decoded cs) = readLines (lines cs)
+unfoldable pub document_of : Decoded → Document
+document_of broken = refused
+document_of (decoded cs) = read_lines (lines cs)
 
 -- [1] ntriplesDoc: what a file says.
 unfoldable pub document : List ℕ → Document
-document bytes = documentOf (decode bytes)
+document bytes = document_of (decode bytes)

@@ -4,8 +4,8 @@
 use Rattle.std.specs.Prelude.{ℕ, zero, suc, ◌+◌, ◌*◌, Bool, true, false, ◌&&◌, cond, List, [], ◌∷◌, eqb, ltb}
 use Prim.Native.Char.{code}
 use Rattle.spec_ntriples.specs.Utf8.{is_scalar}
-use Rattle.spec_ntriples.specs.Characters.{codes, isOneOf, isLetterOrDigit, isIriChar, isStringChar, isPnChars, hexValue, noChar, echar}
-use Rattle.spec_ntriples.specs.Texts.{lowerChar}
+use Rattle.spec_ntriples.specs.Characters.{codes, is_one_of, is_letter_or_digit, is_iri_char, is_string_char, is_pn_chars, hex_value, no_char, echar}
+use Rattle.spec_ntriples.specs.Texts.{lower_char}
 
 -- What was read from the front of characters: nothing, where they do not begin so; or some characters, and those behind.
 pub data Got : Type 0 where
@@ -39,35 +39,35 @@ digit allowed zero v = cond (is_scalar v && allowed v) (gives v) breaks
 digit allowed (suc left) v = leads (digits (suc left) v)
 
 -- A digit of UCHAR.
-unfoldable pub hexStep : (ℕ → Bool) → ℕ → ℕ → ℕ → Step
-hexStep allowed zero v c = breaks
-hexStep allowed (suc left) v c = cond (ltb (hexValue c) 16) (digit allowed left (v * 16 + hexValue c)) breaks
+unfoldable pub hex_step : (ℕ → Bool) → ℕ → ℕ → ℕ → Step
+hex_step allowed zero v c = breaks
+hex_step allowed (suc left) v c = cond (ltb (hex_value c) 16) (digit allowed left (v * 16 + hex_value c)) breaks
 
 -- [8] IRIREF behind "<".
-unfoldable pub iriStep : State → ℕ → Step
-iriStep outside c = cond (eqb c (code ">")) ends (cond (eqb c (code "\\")) (leads slash) (cond (isIriChar c) (gives c) breaks))
-iriStep slash c = cond (eqb c (code "u")) (leads (digits 4 0)) (cond (eqb c (code "U")) (leads (digits 8 0)) breaks)
-iriStep (digits left v) c = hexStep isIriChar left v c
+unfoldable pub iri_step : State → ℕ → Step
+iri_step outside c = cond (eqb c (code ">")) ends (cond (eqb c (code "\\")) (leads slash) (cond (is_iri_char c) (gives c) breaks))
+iri_step slash c = cond (eqb c (code "u")) (leads (digits 4 0)) (cond (eqb c (code "U")) (leads (digits 8 0)) breaks)
+iri_step (digits left v) c = hex_step is_iri_char left v c
 
 -- [9] STRING_LITERAL_QUOTE behind its first quote. No character is barred there.
-unfoldable pub stringStep : State → ℕ → Step
-stringStep outside c = cond (eqb c (code "\"")) ends (cond (eqb c (code "\\")) (leads slash) (cond (isStringChar c) (gives c) breaks))
-stringStep slash c =
+unfoldable pub string_step : State → ℕ → Step
+string_step outside c = cond (eqb c (code "\"")) ends (cond (eqb c (code "\\")) (leads slash) (cond (is_string_char c) (gives c) breaks))
+string_step slash c =
     cond (eqb c (code "u")) (leads (digits 4 0))
-    (cond (eqb c (code "U")) (leads (digits 8 0)) (cond (ltb (echar c) noChar) (gives (echar c)) breaks))
-stringStep (digits left v) c = hexStep (λ x. true) left v c
+    (cond (eqb c (code "U")) (leads (digits 8 0)) (cond (ltb (echar c) no_char) (gives (echar c)) breaks))
+string_step (digits left v) c = hex_step (λ x. true) left v c
 
 -- What was read after a step.
-unfoldable pub afterStep : Step → List ℕ → (State → Got) → Got
-afterStep ends cs rest = got [] cs
-afterStep breaks cs rest = none
-afterStep (leads s) cs rest = rest s
-afterStep (gives c) cs rest = push c (rest outside)
+unfoldable pub after_step : Step → List ℕ → (State → Got) → Got
+after_step ends cs rest = got [] cs
+after_step breaks cs rest = none
+after_step (leads s) cs rest = rest s
+after_step (gives c) cs rest = push c (rest outside)
 
 -- "Escapes are resolved first": the characters up to the one that ends the terminal.
 unfoldable pub scan : (State → ℕ → Step) → State → List ℕ → Got
 scan step s [] = none
-scan step s (c ∷ cs) = afterStep (step s c) cs (λ s'. scan step s' cs)
+scan step s (c ∷ cs) = after_step (step s c) cs (λ s'. scan step s' cs)
 
 -- ---- labels and tags
 
@@ -80,22 +80,22 @@ dotted c cs (got (d ∷ ds) rest) = got (c ∷ d ∷ ds) rest
 -- [141s] BLANK_NODE_LABEL behind its first character: "((PN_CHARS | '.')* PN_CHARS)?", as long as it can be.
 unfoldable pub label : List ℕ → Got
 label [] = got [] []
-label (c ∷ cs) = let g = label cs in cond (isPnChars c) (push c g) (cond (eqb c (code ".")) (dotted c cs g) (got [] (c ∷ cs)))
+label (c ∷ cs) = let g = label cs in cond (is_pn_chars c) (push c g) (cond (eqb c (code ".")) (dotted c cs g) (got [] (c ∷ cs)))
 
 -- Whether the first character passes a test.
-unfoldable pub headIs : (ℕ → Bool) → List ℕ → Bool
-headIs test [] = false
-headIs test (c ∷ cs) = test c
+unfoldable pub head_is : (ℕ → Bool) → List ℕ → Bool
+head_is test [] = false
+head_is test (c ∷ cs) = test c
 
 -- [144s] LANGTAG behind "@": "[a-zA-Z]+ ('-' [a-zA-Z0-9]+)*", whose first character is known to be a letter: characters that pass the test,
 -- and then hyphens, each with letters or digits behind it.
 unfoldable pub tag : (ℕ → Bool) → List ℕ → Got
 tag test [] = got [] []
 tag test (c ∷ cs) =
-    cond (test c) (push (lowerChar c) (tag test cs))
-    (cond (eqb c (code "-") && headIs isLetterOrDigit cs) (push c (tag isLetterOrDigit cs)) (got [] (c ∷ cs)))
+    cond (test c) (push (lower_char c) (tag test cs))
+    (cond (eqb c (code "-") && head_is is_letter_or_digit cs) (push c (tag is_letter_or_digit cs)) (got [] (c ∷ cs)))
 
 -- "White space (tab U+0009 or space U+0020)" between terminals is passed over.
 unfoldable pub skip : List ℕ → List ℕ
 skip [] = []
-skip (c ∷ cs) = let r = skip cs in cond (isOneOf (codes "\t ") c) r (c ∷ cs)
+skip (c ∷ cs) = let r = skip cs in cond (is_one_of (codes "\t ") c) r (c ∷ cs)

@@ -1,6 +1,6 @@
 -- By computation.
 use mathlib.Core.Path.{refl}
-use Rattle.spec.specs.Tables.{rowAt}
+use Rattle.spec.specs.Tables.{row_at}
 use borrow.Author.Rules.{rules}
 use Rattle.table.proofs.row_at.Statement.{statement}
 use Rattle.table.proofs.row_at.Tie as tie
@@ -36,7 +36,7 @@ shared-slice-read-t14 : tie.Need-shared-slice-read-t14
 shared-slice-read-t14 c = search rules
 
 returns : tie.Need-returns
-unfolding rowAt
+unfolding row_at
 returns c = refl
 
 pub row-at-spec : {M : Type 1} → statement M

@@ -4,19 +4,19 @@ use Prim.Native.Nat.{◌≤◌, ◌-◌}
 use mathlib.Core.Path.{◌≡◌, refl}
 use native.Mathlib.Omega.{arith}
 use lib.ListN.{length, length-set}
-use Rattle.table_change.specs.inside.Words.{movedDown}
-use Rattle.table_change.proofs.Shift.{down-none, down_step}
+use Rattle.table_change.specs.inside.Words.{moved_down}
+use Rattle.table_change.proofs.Shift.{down_none, down_step}
 use Rattle.table_change.proofs.move_down.Statement.{statement}
 use Rattle.table_change.proofs.move_down.Tie as tie
 
 abbrev invariant-loop : tie.invariant-loop
-invariant-loop t₀ a e i₀ t i = (a ≤ i) × (i ≤ e) × (length t ≡ length t₀) × (t ≡ movedDown a i t₀)
+invariant-loop t₀ a e i₀ t i = (a ≤ i) × (i ≤ e) × (length t ≡ length t₀) × (t ≡ moved_down a i t₀)
 
 abbrev decreases-loop : tie.decreases-loop
 decreases-loop t₀ a e i₀ t i = e - i
 
 loop-holds : tie.Need-loop-init invariant-loop decreases-loop
-loop-holds c = (search rules, search rules, refl, down-none _ _)
+loop-holds c = (search rules, search rules, refl, down_none _ _)
 
 add-t : tie.Need-overflow-add-t invariant-loop decreases-loop
 add-t c = search rules

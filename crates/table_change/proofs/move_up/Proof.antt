@@ -4,13 +4,13 @@ use Prim.Native.Nat.{◌≤◌}
 use mathlib.Core.Path.{◌≡◌, refl}
 use native.Mathlib.Omega.{arith}
 use lib.ListN.{length, length-set}
-use Rattle.table_change.specs.inside.Words.{movedUp}
+use Rattle.table_change.specs.inside.Words.{moved_up}
 use Rattle.table_change.proofs.Shift.{up_none, up_step}
 use Rattle.table_change.proofs.move_up.Statement.{statement}
 use Rattle.table_change.proofs.move_up.Tie as tie
 
 abbrev invariant-loop : tie.invariant-loop
-invariant-loop t₀ a e i₀ t i = (a ≤ i) × (i ≤ e) × (length t ≡ length t₀) × (t ≡ movedUp i e t₀)
+invariant-loop t₀ a e i₀ t i = (a ≤ i) × (i ≤ e) × (length t ≡ length t₀) × (t ≡ moved_up i e t₀)
 
 abbrev decreases-loop : tie.decreases-loop
 decreases-loop t₀ a e i₀ t i = i

@@ -1,8 +1,8 @@
--- The words and the support are written as `putRow` and `set` write them.
+-- The words and the support are written as `put_row` and `set` write them.
 use mathlib.Core.Path.{refl}
 use native.Mathlib.Omega.{arith}
 use lib.ListN.{length-set}
-use Rattle.table_change.specs.inside.Words.{putRow}
+use Rattle.table_change.specs.inside.Words.{put_row}
 use borrow.Author.Rules.{rules}
 use Rattle.table_change.proofs.put_entry.Statement.{statement}
 use Rattle.table_change.proofs.put_entry.Tie as tie
@@ -50,7 +50,7 @@ same-length-2 : tie.Need-same-length-2
 same-length-2 c = search rules
 
 returns : tie.Need-returns
-unfolding putRow
+unfolding put_row
 returns c = record { row = refl; support = refl }
 
 pub put-entry-spec : {M : Type 1} → statement M

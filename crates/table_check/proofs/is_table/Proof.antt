@@ -1,10 +1,10 @@
--- By the tests of `isTable`, one by one.
+-- By the tests of `is_table`, one by one.
 use Prim.Native.Nat.{◌≤◌}
 use mathlib.Core.Path.{refl, sym}
 use native.Mathlib.Omega.{arith}
 use Rattle.spec.specs.Tables.{capacity, count}
-use Rattle.table_check.specs.inside.Allowed.{allowedIn}
-use Rattle.spec.proofs.TableFormed.{capacity-fits}
+use Rattle.table_check.specs.inside.Allowed.{allowed_in}
+use Rattle.spec.proofs.TableFormed.{capacity_fits}
 use Rattle.table_check.proofs.Tests.{no_word, too_many, enough}
 use borrow.Author.Rules.{rules}
 use Rattle.table_check.proofs.is_table.Statement.{statement}
@@ -13,7 +13,7 @@ use Rattle.table_check.proofs.is_table.Tie as tie
 returns : tie.Need-returns
 returns c =
     let s = c.before.before in
-    sym (no_word (allowedIn s.args.statements) s.args.most s.args.t.now c.if1.true)
+    sym (no_word (allowed_in s.args.statements) s.args.most s.args.t.now c.if1.true)
 
 shared-slice-read-n : tie.Need-shared-slice-read-n
 shared-slice-read-n c = search rules
@@ -29,7 +29,7 @@ returns-2 c =
     let k = c.before in
     let e = k.before.before in
     let s = e.before.before in
-    sym (too_many (allowedIn s.args.statements) s.args.most s.args.t.now (omega (arith, e.if1.false)) (rw (← k.capacity.ensures s.args.t.now refl) c.if2.true))
+    sym (too_many (allowed_in s.args.statements) s.args.most s.args.t.now (omega (arith, e.if1.false)) (rw (← k.capacity.ensures s.args.t.now refl) c.if2.true))
 
 are-rows-requires : tie.Need-are-rows-requires
 are-rows-requires c κs =
@@ -37,7 +37,7 @@ are-rows-requires c κs =
     let e = k.before.before in
     let s = e.before.before in
     let within : count s.args.t.now ≤ capacity s.args.most s.args.t.now = rw (← k.capacity.ensures s.args.t.now refl) c.if2.false in
-    capacity-fits s.args.most s.args.t.now (count s.args.t.now) (omega (arith, e.if1.false)) within
+    capacity_fits s.args.most s.args.t.now (count s.args.t.now) (omega (arith, e.if1.false)) within
 
 mul-are-words-zero : tie.Need-overflow-mul-are-words-zero
 mul-are-words-zero c =
@@ -46,7 +46,7 @@ mul-are-words-zero c =
     let e = k.before.before in
     let s = e.before.before in
     let within : count s.args.t.now ≤ capacity s.args.most s.args.t.now = rw (← k.capacity.ensures s.args.t.now refl) m.if2.false in
-    omega (arith, capacity-fits s.args.most s.args.t.now (count s.args.t.now) (omega (arith, e.if1.false)) within)
+    omega (arith, capacity_fits s.args.most s.args.t.now (count s.args.t.now) (omega (arith, e.if1.false)) within)
 
 add-are-words-zero : tie.Need-overflow-add-are-words-zero
 add-are-words-zero c =
@@ -55,7 +55,7 @@ add-are-words-zero c =
     let e = k.before.before in
     let s = e.before.before in
     let within : count s.args.t.now ≤ capacity s.args.most s.args.t.now = rw (← k.capacity.ensures s.args.t.now refl) m.if2.false in
-    omega (arith, capacity-fits s.args.most s.args.t.now (count s.args.t.now) (omega (arith, e.if1.false)) within)
+    omega (arith, capacity_fits s.args.most s.args.t.now (count s.args.t.now) (omega (arith, e.if1.false)) within)
 
 are-words-zero-requires : tie.Need-are-words-zero-requires
 are-words-zero-requires c κs = search rules
@@ -69,7 +69,7 @@ returns-3 c =
     let e = k.before.before in
     let s = e.before.before in
     let within : count s.args.t.now ≤ capacity s.args.most s.args.t.now = rw (← k.capacity.ensures s.args.t.now refl) m.if2.false in
-    rw (enough (allowedIn s.args.statements) s.args.most s.args.t.now (omega (arith, e.if1.false)) within, ← a.are-rows.ensures, y.if3.true) c.are-words-zero.ensures
+    rw (enough (allowed_in s.args.statements) s.args.most s.args.t.now (omega (arith, e.if1.false)) within, ← a.are-rows.ensures, y.if3.true) c.are-words-zero.ensures
 
 returns-4 : tie.Need-returns-4
 returns-4 c =
@@ -79,7 +79,7 @@ returns-4 c =
     let e = k.before.before in
     let s = e.before.before in
     let within : count s.args.t.now ≤ capacity s.args.most s.args.t.now = rw (← k.capacity.ensures s.args.t.now refl) m.if2.false in
-    rw (enough (allowedIn s.args.statements) s.args.most s.args.t.now (omega (arith, e.if1.false)) within, ← a.are-rows.ensures, c.if3.false)
+    rw (enough (allowed_in s.args.statements) s.args.most s.args.t.now (omega (arith, e.if1.false)) within, ← a.are-rows.ensures, c.if3.false)
 
 pub is-table-spec : {M : Type 1} → statement M
 is-table-spec =

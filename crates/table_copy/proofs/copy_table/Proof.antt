@@ -1,7 +1,7 @@
 -- The words of the rows are copied, and what is behind them is set to zero.
 use Rattle.spec.specs.Tables.{count}
 use Prim.Native.Nat.{◌+◌, ◌*◌}
-use Rattle.table_copy.proofs.Copied.{copied-padded, copied-layout, laid-room}
+use Rattle.table_copy.proofs.Copied.{copied-padded, copied-layout, laid_room}
 use borrow.Author.Rules.{rules}
 use Rattle.table_copy.proofs.copy_table.Statement.{statement}
 use Rattle.table_copy.proofs.copy_table.Tie as tie
@@ -33,7 +33,7 @@ returns c =
     let m = c.before.before.before.before.before.before.copy-words in
     let z = c.before.before.zero-words in
     copied-layout s.args.old.now s.args.new.now _ s.requires.0
-    (copied-padded s.args.old.now s.args.new.now m.new.1.1.0 z.new.0 (count s.args.old.now * 3 + 1) (laid-room s.args.old.now s.requires.0) s.requires.1 m.ensures z.ensures z.auto.0)
+    (copied-padded s.args.old.now s.args.new.now m.new.1.1.0 z.new.0 (count s.args.old.now * 3 + 1) (laid_room s.args.old.now s.requires.0) s.requires.1 m.ensures z.ensures z.auto.0)
 
 pub copy-table-spec : {M : Type 1} → statement M
 copy-table-spec =

@@ -1,9 +1,9 @@
 -- The first words that differ decide the order of two triples.
 use mathlib.Core.Path.{sym}
-use Rattle.spec.specs.inside.Comparison.{by-subject, by-property}
+use Rattle.spec.specs.inside.Comparison.{by_subject_lem, by_property}
 use Rattle.table_find.specs.declared.Ordering.TheVariants.{Lower, Higher}
-use Rattle.spec.specs.Tables.{rowAt}
-use Rattle.table_find.proofs.Place.{says-ordering, by-objects}
+use Rattle.spec.specs.Tables.{row_at}
+use Rattle.table_find.proofs.Place.{says-ordering, by_objects}
 use borrow.Author.Rules.{rules}
 use Rattle.table_find.proofs.compare_at.Statement.{statement}
 use Rattle.table_find.proofs.compare_at.Tie as tie
@@ -66,24 +66,24 @@ compare-requires-3 : tie.Need-compare-requires-3
 compare-requires-3 c κs = search rules
 
 returns : tie.Need-returns
-unfolding rowAt
-returns c = says-ordering _ _ Lower (by-subject (rw c.enum_told.given.1 at c.before.before.compare.ensures))
+unfolding row_at
+returns c = says-ordering _ _ Lower (by_subject_lem (rw c.enum_told.given.1 at c.before.before.compare.ensures))
 
 returns-2 : tie.Need-returns-2
-unfolding rowAt
-returns-2 c = says-ordering _ _ Higher (by-subject (rw c.enum-told2.given.1 at c.before.before.compare.ensures))
+unfolding row_at
+returns-2 c = says-ordering _ _ Higher (by_subject_lem (rw c.enum-told2.given.1 at c.before.before.compare.ensures))
 
 returns-3 : tie.Need-returns-3
-unfolding rowAt
-returns-3 c = let e = rw c.before.before.before.before.enum-told3.given.1 at c.before.before.before.before.before.before.compare.ensures in says-ordering _ _ Lower (by-property e (rw c.enum-told4.given.1 at c.before.before.compare2.ensures))
+unfolding row_at
+returns-3 c = let e = rw c.before.before.before.before.enum-told3.given.1 at c.before.before.before.before.before.before.compare.ensures in says-ordering _ _ Lower (by_property e (rw c.enum-told4.given.1 at c.before.before.compare2.ensures))
 
 returns-4 : tie.Need-returns-4
-unfolding rowAt
-returns-4 c = let e = rw c.before.before.before.before.enum-told3.given.1 at c.before.before.before.before.before.before.compare.ensures in says-ordering _ _ Higher (by-property (sym e) (rw c.enum-told5.given.1 at c.before.before.compare2.ensures))
+unfolding row_at
+returns-4 c = let e = rw c.before.before.before.before.enum-told3.given.1 at c.before.before.before.before.before.before.compare.ensures in says-ordering _ _ Higher (by_property (sym e) (rw c.enum-told5.given.1 at c.before.before.compare2.ensures))
 
 returns-5 : tie.Need-returns-5
-unfolding rowAt
-returns-5 c = let e = rw c.before.before.before.before.before.before.enum-told3.given.1 at c.before.before.before.before.before.before.before.before.compare.ensures in let f = rw c.before.before.enum-told6.given.1 at c.before.before.before.before.compare2.ensures in let s = c.before.before.before.before.before.before.before.before.before.before.before in let o = c.compare3.result in let t = rowAt s.args.t.now s.args.i in says-ordering t s.args.x o (by-objects t s.args.x o e f c.compare3.ensures)
+unfolding row_at
+returns-5 c = let e = rw c.before.before.before.before.before.before.enum-told3.given.1 at c.before.before.before.before.before.before.before.before.compare.ensures in let f = rw c.before.before.enum-told6.given.1 at c.before.before.before.before.compare2.ensures in let s = c.before.before.before.before.before.before.before.before.before.before.before in let o = c.compare3.result in let t = row_at s.args.t.now s.args.i in says-ordering t s.args.x o (by_objects t s.args.x o e f c.compare3.ensures)
 
 pub compare-at-spec : {M : Type 1} → statement M
 compare-at-spec =

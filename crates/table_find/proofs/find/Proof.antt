@@ -2,7 +2,7 @@
 use mathlib.Core.Path.{sym}
 use native.Mathlib.Omega.{arith}
 use Rattle.table.proofs.SearchLaws.{between-all}
-use Rattle.table_find.proofs.FindLaws.{found_at, found-gap}
+use Rattle.table_find.proofs.FindLaws.{found_at, found_gap}
 use borrow.Author.Rules.{rules}
 use Rattle.table_find.proofs.find.Statement.{statement}
 use Rattle.table_find.proofs.find.Tie as tie
@@ -14,13 +14,13 @@ is-row-requires : tie.Need-is-row-requires
 is-row-requires c κs = search rules
 
 returns : tie.Need-returns
-returns c = sym (found_at c.before.before.before.before.before.args.t.now _ _ c.before.before.before.lower-bound.ensures c.before.before.if1.true (c.before.is_row.ensures.if-true c.if2.true))
+returns c = sym (found_at c.before.before.before.before.before.args.t.now _ _ c.before.before.before.lower-bound.ensures c.before.before.if1.true (c.before.is_row.ensures.if_true c.if2.true))
 
 returns-2 : tie.Need-returns-2
-returns-2 c = sym (found-gap c.before.before.before.before.before.args.t.now _ _ c.before.before.before.lower-bound.ensures (λ _. c.before.is_row.ensures.if-false c.if2.false))
+returns-2 c = sym (found_gap c.before.before.before.before.before.args.t.now _ _ c.before.before.before.lower-bound.ensures (λ _. c.before.is_row.ensures.if_false c.if2.false))
 
 returns-3 : tie.Need-returns-3
-returns-3 c = sym (found-gap c.before.before.before.args.t.now _ _ c.before.lower-bound.ensures (λ h. absurd (omega (arith, c.if1.false))))
+returns-3 c = sym (found_gap c.before.before.before.args.t.now _ _ c.before.lower-bound.ensures (λ h. absurd (omega (arith, c.if1.false))))
 
 pub find_spec : {M : Type 1} → statement M
 find_spec = tie.close (tie.spec lower-bound-requires is-row-requires returns returns-2 returns-3)

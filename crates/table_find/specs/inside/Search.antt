@@ -1,7 +1,7 @@
 -- How a row stands to another, and where it stands among ascending rows. Definitions only.
 use Rattle.std.specs.Prelude.{ℕ, suc, ◌<◌, ◌≡◌, List, [], ◌∷◌}
 use Rattle.spec.specs.declared.Triple.{Triple}
-use Rattle.spec.specs.inside.Comparison.{compareTriples, by_order}
+use Rattle.spec.specs.inside.Comparison.{compare_triples, by_order}
 use Rattle.table_find.specs.declared.Ordering.{Ordering}
 use Rattle.table_find.specs.declared.Ordering.TheVariants.{Lower, Equal, Higher}
 use Rattle.table_find.specs.declared.Found.{Found}
@@ -15,7 +15,7 @@ Says Higher a b = b < a
 
 -- How t stands to u.
 abbrev pub ordering : Triple → Triple → Ordering
-ordering t u = by_order (compareTriples t u) Lower Equal Higher
+ordering t u = by_order (compare_triples t u) Lower Equal Higher
 
 -- The place in a list with one row more in front.
 abbrev pub next : Found → Found
@@ -25,4 +25,4 @@ next (Gap i) = Gap (suc i)
 -- Where t stands in ascending rows, or the gap where it would stand.
 unfoldable pub place : Triple → List Triple → Found
 place t [] = Gap 0
-place t (u ∷ us) = by_order (compareTriples u t) (next (place t us)) (At 0) (Gap 0)
+place t (u ∷ us) = by_order (compare_triples u t) (next (place t us)) (At 0) (Gap 0)

@@ -4,15 +4,15 @@ use Prim.Native.Nat.{◌-◌, ◌≤◌, ◌<◌}
 use mathlib.Core.Path.{◌≡◌, refl, sym, ◌∙◌}
 use native.Mathlib.Omega.{arith}
 use borrow.Author.Tests.{not-true, not-false}
-use Rattle.spec.specs.Terms.{isAllowedFact}
+use Rattle.spec.specs.Terms.{is_allowed_fact}
 use Rattle.spec.proofs.TableAll.{answered}
-use Rattle.table_rows.specs.inside.Rows.{areRowsFrom}
-use Rattle.table_rows.proofs.Scan.{refused, passed, no_row, first_part}
+use Rattle.table_rows.specs.inside.Rows.{are_rows_from}
+use Rattle.table_rows.proofs.Scan.{refused, passed, no_row, first_part_lem}
 use Rattle.table_rows.proofs.are_fact_rows.Statement.{statement}
 use Rattle.table_rows.proofs.are_fact_rows.Tie as tie
 
 abbrev invariant-loop : tie.invariant-loop
-invariant-loop t n i₀ i = (0 < i) × (i ≤ n) × (areRowsFrom isAllowedFact t n 0 ≡ areRowsFrom isAllowedFact t n i)
+invariant-loop t n i₀ i = (0 < i) × (i ≤ n) × (are_rows_from is_allowed_fact t n 0 ≡ are_rows_from is_allowed_fact t n i)
 
 abbrev decreases-loop : tie.decreases-loop
 decreases-loop t n i₀ i = n - i
@@ -20,7 +20,7 @@ decreases-loop t n i₀ i = n - i
 returns : tie.Need-returns invariant-loop decreases-loop
 returns c =
     let s = c.before.before in
-    sym (no_row isAllowedFact s.args.t.now s.args.n 0 (omega (arith, c.if1.true)))
+    sym (no_row is_allowed_fact s.args.t.now s.args.n 0 (omega (arith, c.if1.true)))
 
 row-at-requires : tie.Need-row-at-requires invariant-loop decreases-loop
 row-at-requires c κs = search rules
@@ -31,14 +31,14 @@ is-allowed-fact-requires c κs = search rules
 returns-2 : tie.Need-returns-2 invariant-loop decreases-loop
 returns-2 c =
     let s = c.before.before.before.before.before in
-    let wrong = answered isAllowedFact c.before.before.row_at.ensures c.before.is-allowed-fact.ensures (not-true _ c.if2.true) in
-    sym (refused isAllowedFact s.args.t.now s.args.n 0 (omega (arith, c.before.before.before.if1.false)) wrong)
+    let wrong = answered is_allowed_fact c.before.before.row_at.ensures c.before.is-allowed-fact.ensures (not-true _ c.if2.true) in
+    sym (refused is_allowed_fact s.args.t.now s.args.n 0 (omega (arith, c.before.before.before.if1.false)) wrong)
 
 loop-holds : tie.Need-loop-init invariant-loop decreases-loop
 loop-holds c =
     let s = c.before.before.before.before.before in
-    let right = answered isAllowedFact c.before.before.row_at.ensures c.before.is-allowed-fact.ensures (not-false _ c.if2.false) in
-    (search rules, omega (arith, c.before.before.before.if1.false), passed isAllowedFact s.args.t.now s.args.n 0 refl (omega (arith, c.before.before.before.if1.false)) right)
+    let right = answered is_allowed_fact c.before.before.row_at.ensures c.before.is-allowed-fact.ensures (not-false _ c.if2.false) in
+    (search rules, omega (arith, c.before.before.before.if1.false), passed is_allowed_fact s.args.t.now s.args.n 0 refl (omega (arith, c.before.before.before.if1.false)) right)
 
 add-loop : tie.Need-overflow-add-loop invariant-loop decreases-loop
 add-loop c = search rules
@@ -54,7 +54,7 @@ returns-3 c =
     let b = c.before in
     let l = b.before.before in
     let s = l.before.before.before.before.before.before in
-    sym (l.loop.invariant.2 ∙ first_part isAllowedFact s.args.t.now 64 l.loop.i s.args.n l.loop.invariant.0 b.before.loop-test.true b.are-facts-between.ensures (not-true _ c.if3.true))
+    sym (l.loop.invariant.2 ∙ first_part_lem is_allowed_fact s.args.t.now 64 l.loop.i s.args.n l.loop.invariant.0 b.before.loop-test.true b.are-facts-between.ensures (not-true _ c.if3.true))
 
 add-i : tie.Need-overflow-add-i invariant-loop decreases-loop
 add-i c = search rules
@@ -67,7 +67,7 @@ loop-again c =
     let b = c.before in
     let l = b.before.before in
     let s = l.before.before.before.before.before.before in
-    (search rules, search rules, l.loop.invariant.2 ∙ first_part isAllowedFact s.args.t.now 64 l.loop.i s.args.n l.loop.invariant.0 b.before.loop-test.true b.are-facts-between.ensures (not-false _ c.if3.false))
+    (search rules, search rules, l.loop.invariant.2 ∙ first_part_lem is_allowed_fact s.args.t.now 64 l.loop.i s.args.n l.loop.invariant.0 b.before.loop-test.true b.are-facts-between.ensures (not-false _ c.if3.false))
 
 are-facts-between-requires-2 : tie.Need-are-facts-between-requires-2 invariant-loop decreases-loop
 are-facts-between-requires-2 c κs = search rules

@@ -4,15 +4,15 @@ use Prim.Native.Nat.{◌-◌, ◌≤◌, ◌<◌}
 use mathlib.Core.Path.{◌≡◌, refl, sym, ◌∙◌}
 use mathlib.Core.Bool.{◌&&◌}
 use native.Mathlib.Omega.{arith}
-use Rattle.spec.specs.Terms.{isAllowedFact}
-use Rattle.table_rows.specs.inside.Rows.{areRowsFrom}
+use Rattle.spec.specs.Terms.{is_allowed_fact}
+use Rattle.table_rows.specs.inside.Rows.{are_rows_from}
 use Rattle.table_zeros.proofs.Folds.{fold_end}
-use Rattle.table_rows.proofs.Scan.{no_row, row-fold}
+use Rattle.table_rows.proofs.Scan.{no_row, row_fold}
 use Rattle.table_rows.proofs.are_facts_between.Statement.{statement}
 use Rattle.table_rows.proofs.are_facts_between.Tie as tie
 
 abbrev invariant-loop : tie.invariant-loop
-invariant-loop t a b ok₀ i₀ ok i = (0 < i) × (i ≤ b) × (areRowsFrom isAllowedFact t b a ≡ (ok && areRowsFrom isAllowedFact t b i))
+invariant-loop t a b ok₀ i₀ ok i = (0 < i) × (i ≤ b) × (are_rows_from is_allowed_fact t b a ≡ (ok && are_rows_from is_allowed_fact t b i))
 
 abbrev decreases-loop : tie.decreases-loop
 decreases-loop t a b ok₀ i₀ ok i = b - i
@@ -47,14 +47,14 @@ loop-again c =
     let s = c.before.before.before.before.before.before.before in (
       search rules,
       search rules,
-      l.loop.invariant.2 ∙ row-fold l.loop.ok isAllowedFact s.args.t.now s.args.b l.loop.i c.before.before.before.row_at.ensures c.before.before.is-allowed-fact.ensures c.before.row-at2.ensures c.is-less.ensures l.loop.invariant.0 (omega arith),
+      l.loop.invariant.2 ∙ row_fold l.loop.ok is_allowed_fact s.args.t.now s.args.b l.loop.i c.before.before.before.row_at.ensures c.before.before.is-allowed-fact.ensures c.before.row-at2.ensures c.is-less.ensures l.loop.invariant.0 (omega arith),
     )
 
 returns : tie.Need-returns invariant-loop decreases-loop
 returns c =
     let l = c.before in
     let s = l.before.before in
-    sym (l.loop.invariant.2 ∙ fold_end l.loop.ok (no_row isAllowedFact s.args.t.now s.args.b l.loop.i c.loop-test.false))
+    sym (l.loop.invariant.2 ∙ fold_end l.loop.ok (no_row is_allowed_fact s.args.t.now s.args.b l.loop.i c.loop-test.false))
 
 pub are-facts-between-spec : {M : Type 1} → statement M
 are-facts-between-spec =

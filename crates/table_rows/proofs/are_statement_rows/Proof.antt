@@ -5,10 +5,10 @@ use mathlib.Core.Path.{◌≡◌, refl, sym, ◌∙◌}
 use native.Mathlib.Omega.{arith}
 use borrow.Author.Tests.{not-true, not-false}
 use borrow.Author.Count.{below_more}
-use Rattle.spec.specs.Terms.{isAllowedStatement}
-use Rattle.table_rows.specs.inside.Rows.{areRowsFrom}
+use Rattle.spec.specs.Terms.{is_allowed_statement}
+use Rattle.table_rows.specs.inside.Rows.{are_rows_from}
 use Rattle.spec.proofs.TableAll.{answered}
-use Rattle.table_rows.proofs.Scan.{refused, passed, ascended, not-ascended, no_row, Same, less-before, more-before, same-before}
+use Rattle.table_rows.proofs.Scan.{refused, passed, ascended, not_ascended, no_row, Same, less_before, more_before, same_before}
 use Rattle.table_rows.proofs.are_statement_rows.Statement.{statement}
 use Rattle.table_rows.proofs.are_statement_rows.Tie as tie
 
@@ -19,7 +19,7 @@ abbrev decreases-words : tie.decreases-words
 decreases-words t n i row at before k₀ k = 3 - k
 
 abbrev invariant-rows : tie.invariant-rows
-invariant-rows t n i₀ i = (i ≤ n) × (areRowsFrom isAllowedStatement t n 0 ≡ areRowsFrom isAllowedStatement t n i)
+invariant-rows t n i₀ i = (i ≤ n) × (are_rows_from is_allowed_statement t n 0 ≡ are_rows_from is_allowed_statement t n i)
 
 abbrev decreases-rows : tie.decreases-rows
 decreases-rows t n i₀ i = n - i
@@ -43,7 +43,7 @@ returns c =
     let i = x.before in
     let r = i.before in
     let s = r.before.before in
-    sym (r.rows.invariant.1 ∙ refused isAllowedStatement s.args.t.now s.args.n r.rows.i i.rows-test.true (answered isAllowedStatement x.row_at.ensures a.is-allowed-statement.ensures (not-true _ c.if1.true)))
+    sym (r.rows.invariant.1 ∙ refused is_allowed_statement s.args.t.now s.args.n r.rows.i i.rows-test.true (answered is_allowed_statement x.row_at.ensures a.is-allowed-statement.ensures (not-true _ c.if1.true)))
 
 rows-less : tie.Need-rows-smaller invariant-words decreases-words invariant-rows decreases-rows
 rows-less c = search rules
@@ -56,7 +56,7 @@ rows-again c =
     let i = x.before in
     let r = i.before in
     let s = r.before.before in
-    (search rules, r.rows.invariant.1 ∙ passed isAllowedStatement s.args.t.now s.args.n r.rows.i c.if2.true i.rows-test.true (answered isAllowedStatement x.row_at.ensures a.is-allowed-statement.ensures (not-false _ y.if1.false)))
+    (search rules, r.rows.invariant.1 ∙ passed is_allowed_statement s.args.t.now s.args.n r.rows.i c.if2.true i.rows-test.true (answered is_allowed_statement x.row_at.ensures a.is-allowed-statement.ensures (not-false _ y.if1.false)))
 
 mul_at : tie.Need-overflow-mul-at invariant-words decreases-words invariant-rows decreases-rows
 mul_at c = search rules
@@ -102,8 +102,8 @@ rows-again-2 c =
     let i = x.before in
     let r = i.before in
     let s = r.before.before in
-    let l = less-before s.args.t.now r.rows.i (omega (arith, e.if2.false)) w.words.k w.words.invariant.1 n.words-test.true c.if3.true in
-    (search rules, r.rows.invariant.1 ∙ ascended isAllowedStatement s.args.t.now s.args.n r.rows.i (omega (arith, e.if2.false)) i.rows-test.true (answered isAllowedStatement x.row_at.ensures a.is-allowed-statement.ensures (not-false _ y.if1.false)) l)
+    let l = less_before s.args.t.now r.rows.i (omega (arith, e.if2.false)) w.words.k w.words.invariant.1 n.words-test.true c.if3.true in
+    (search rules, r.rows.invariant.1 ∙ ascended is_allowed_statement s.args.t.now s.args.n r.rows.i (omega (arith, e.if2.false)) i.rows-test.true (answered is_allowed_statement x.row_at.ensures a.is-allowed-statement.ensures (not-false _ y.if1.false)) l)
 
 returns-2 : tie.Need-returns-2 invariant-words decreases-words invariant-rows decreases-rows
 returns-2 c =
@@ -113,8 +113,8 @@ returns-2 c =
     let i = e.before.before.before.before in
     let r = i.before in
     let s = r.before.before in
-    let l = more-before s.args.t.now r.rows.i (omega (arith, e.if2.false)) w.words.k w.words.invariant.1 n.words-test.true c.if4.true in
-    sym (r.rows.invariant.1 ∙ not-ascended isAllowedStatement s.args.t.now s.args.n r.rows.i (omega (arith, e.if2.false)) i.rows-test.true l)
+    let l = more_before s.args.t.now r.rows.i (omega (arith, e.if2.false)) w.words.k w.words.invariant.1 n.words-test.true c.if4.true in
+    sym (r.rows.invariant.1 ∙ not_ascended is_allowed_statement s.args.t.now s.args.n r.rows.i (omega (arith, e.if2.false)) i.rows-test.true l)
 
 add-k : tie.Need-overflow-add-k invariant-words decreases-words invariant-rows decreases-rows
 add-k c = search rules
@@ -135,14 +135,14 @@ returns-3 c =
     let i = e.before.before.before.before in
     let r = i.before in
     let s = r.before.before in
-    let l = same-before s.args.t.now r.rows.i (omega (arith, e.if2.false)) w.words.k w.words.invariant.1 c.words-test.false in
-    sym (r.rows.invariant.1 ∙ not-ascended isAllowedStatement s.args.t.now s.args.n r.rows.i (omega (arith, e.if2.false)) i.rows-test.true l)
+    let l = same_before s.args.t.now r.rows.i (omega (arith, e.if2.false)) w.words.k w.words.invariant.1 c.words-test.false in
+    sym (r.rows.invariant.1 ∙ not_ascended is_allowed_statement s.args.t.now s.args.n r.rows.i (omega (arith, e.if2.false)) i.rows-test.true l)
 
 returns-4 : tie.Need-returns-4 invariant-words decreases-words invariant-rows decreases-rows
 returns-4 c =
     let r = c.before in
     let s = r.before.before in
-    sym (r.rows.invariant.1 ∙ no_row isAllowedStatement s.args.t.now s.args.n r.rows.i c.rows-test.false)
+    sym (r.rows.invariant.1 ∙ no_row is_allowed_statement s.args.t.now s.args.n r.rows.i c.rows-test.false)
 
 pub are-statement-rows-spec : {M : Type 1} → statement M
 are-statement-rows-spec =

@@ -5,15 +5,15 @@ use mathlib.Core.Path.{◌≡◌, refl, sym, ◌∙◌}
 use mathlib.Core.Bool.{◌&&◌}
 use native.Mathlib.Omega.{arith}
 use lib.ListN.{take, drop, get_or}
-use Rattle.spec.specs.Tables.{isSupport}
+use Rattle.spec.specs.Tables.{is_support}
 use Rattle.spec.specs.Lists.{all}
 use Rattle.table_zeros.proofs.Folds.{fold_end}
-use Rattle.table_supports.proofs.Tests.{support-fold, support-end}
+use Rattle.table_supports.proofs.Tests.{support_fold, support_end}
 use Rattle.table_supports.proofs.are_supports.Statement.{statement}
 use Rattle.table_supports.proofs.are_supports.Tie as tie
 
 abbrev invariant-loop : tie.invariant-loop
-invariant-loop u facts n highest ok₀ i₀ ok i = (i ≤ n) × (all (isSupport facts) (take n u) ≡ (ok && all (isSupport facts) (drop i (take n u))))
+invariant-loop u facts n highest ok₀ i₀ ok i = (i ≤ n) × (all (is_support facts) (take n u) ≡ (ok && all (is_support facts) (drop i (take n u))))
 
 abbrev decreases-loop : tie.decreases-loop
 decreases-loop u facts n highest ok₀ i₀ ok i = n - i
@@ -47,13 +47,13 @@ loop-again c =
     let l = c.before.before.before in
     let s = c.before.before.before.before.before.before in
     let same = c.before.before.before.before.highest-support.ensures (get_or s.args.u.now l.loop.i 0) (omega (arith, c.shared-slice-known3.given l.loop.i)) in
-    (search rules, l.loop.invariant.1 ∙ support-fold s.args.facts s.args.n s.args.u.now s.requires l.loop.i l.loop.ok _ (search rules) same)
+    (search rules, l.loop.invariant.1 ∙ support_fold s.args.facts s.args.n s.args.u.now s.requires l.loop.i l.loop.ok _ (search rules) same)
 
 returns : tie.Need-returns invariant-loop decreases-loop
 returns c =
     let l = c.before in
     let s = c.before.before.before.before in
-    sym (l.loop.invariant.1 ∙ fold_end l.loop.ok (support-end s.args.facts s.args.n s.args.u.now s.requires l.loop.i c.loop-test.false))
+    sym (l.loop.invariant.1 ∙ fold_end l.loop.ok (support_end s.args.facts s.args.n s.args.u.now s.requires l.loop.i c.loop-test.false))
 
 pub are-supports-spec : {M : Type 1} → statement M
 are-supports-spec =

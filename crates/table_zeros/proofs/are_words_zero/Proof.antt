@@ -4,14 +4,14 @@ use Prim.Native.Nat.{◌-◌}
 use mathlib.Core.Path.{◌≡◌, refl, sym, ◌∙◌}
 use mathlib.Core.Bool.{◌&&◌}
 use lib.ListN.{length, drop}
-use Rattle.spec.specs.Tables.{areZero}
-use Rattle.spec.proofs.TableAll.{zeros-end}
-use Rattle.table_zeros.proofs.Folds.{fold_end, zeros-fold}
+use Rattle.spec.specs.Tables.{are_zero}
+use Rattle.spec.proofs.TableAll.{zeros_end}
+use Rattle.table_zeros.proofs.Folds.{fold_end, zeros_fold}
 use Rattle.table_zeros.proofs.are_words_zero.Statement.{statement}
 use Rattle.table_zeros.proofs.are_words_zero.Tie as tie
 
 abbrev invariant-loop : tie.invariant-loop
-invariant-loop t from ok₀ i₀ ok i = areZero (drop from t) ≡ (ok && areZero (drop i t))
+invariant-loop t from ok₀ i₀ ok i = are_zero (drop from t) ≡ (ok && are_zero (drop i t))
 
 abbrev decreases-loop : tie.decreases-loop
 decreases-loop t from ok₀ i₀ ok i = length t - i
@@ -34,12 +34,12 @@ loop-less c = search rules
 loop-again : tie.Need-loop-preserved invariant-loop decreases-loop
 loop-again c =
     let l = c.before.before in
-    l.loop.invariant ∙ zeros-fold l.loop.ok l.before.args.t.now l.loop.i (search rules)
+    l.loop.invariant ∙ zeros_fold l.loop.ok l.before.args.t.now l.loop.i (search rules)
 
 returns : tie.Need-returns invariant-loop decreases-loop
 returns c =
     let l = c.before in
-    sym (l.loop.invariant ∙ fold_end l.loop.ok (zeros-end l.before.args.t.now l.loop.i c.loop-test.false))
+    sym (l.loop.invariant ∙ fold_end l.loop.ok (zeros_end l.before.args.t.now l.loop.i c.loop-test.false))
 
 pub are-words-zero-spec : {M : Type 1} → statement M
 are-words-zero-spec =

@@ -1,5 +1,5 @@
 -- The result is the definition's, by what the calls ensure. Assumes nothing.
-use Rattle.spec.specs.Terms.{isAllowedFact}
+use Rattle.spec.specs.Terms.{is_allowed_fact}
 use borrow.Author.Rules.{rules}
 use Rattle.terms.proofs.is_allowed_fact.Statement.{statement}
 use Rattle.terms.proofs.is_allowed_fact.Tie as tie
@@ -11,7 +11,7 @@ is-statement-requires : tie.Need-is-statement-requires
 is-statement-requires c κs = search rules
 
 returns : tie.Need-returns
-unfolding isAllowedFact
+unfolding is_allowed_fact
 returns c = cc
 
 pub is-allowed-fact-spec : {M : Type 1} → statement M

@@ -1,5 +1,5 @@
 -- The result is the definition's, by what the calls ensure. Assumes nothing.
-use Rattle.spec.specs.Terms.{isAllowedStatement}
+use Rattle.spec.specs.Terms.{is_allowed_statement}
 use borrow.Author.Rules.{rules}
 use Rattle.terms.proofs.is_allowed_statement.Statement.{statement}
 use Rattle.terms.proofs.is_allowed_statement.Tie as tie
@@ -14,7 +14,7 @@ are-sides-allowed-requires : tie.Need-are-sides-allowed-requires
 are-sides-allowed-requires c κs = search rules
 
 returns : tie.Need-returns
-unfolding isAllowedStatement
+unfolding is_allowed_statement
 returns c = cc
 
 pub is-allowed-statement-spec : {M : Type 1} → statement M

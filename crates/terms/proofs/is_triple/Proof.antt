@@ -1,5 +1,5 @@
 -- The result is the definition's, by what the calls ensure. Assumes nothing.
-use Rattle.spec.specs.Terms.{isTriple}
+use Rattle.spec.specs.Terms.{is_triple}
 use borrow.Author.Rules.{rules}
 use Rattle.terms.proofs.is_triple.Statement.{statement}
 use Rattle.terms.proofs.is_triple.Tie as tie
@@ -17,7 +17,7 @@ is-literal-requires : tie.Need-is-literal-requires
 is-literal-requires c κs = search rules
 
 returns : tie.Need-returns
-unfolding isTriple
+unfolding is_triple
 returns c = cc
 
 pub is-triple-spec : {M : Type 1} → statement M

@@ -3,8 +3,8 @@ use mathlib.Core.Path.{refl}
 use native.Mathlib.Omega.{arith}
 use Rattle.spec.proofs.TableRows.{length-rows}
 use Rattle.table_find.proofs.Place.{missing_at}
-use Rattle.spec.proofs.TableFormed.{wellFormed-isTable}
-use Rattle.update_fact_at.proofs.Facts.{facts-full, kept-unfit, carried-sought, carried-raisable, fact-added, fact-spare, few-missing}
+use Rattle.spec.proofs.TableFormed.{well_formed-is_table}
+use Rattle.update_fact_at.proofs.Facts.{facts_full, kept-unfit, carried-sought, carried-raisable, fact-added, fact_spare, few-missing}
 use borrow.Author.Rules.{rules}
 use Rattle.update_fact_at.proofs.add_new_fact.Statement.{statement}
 use Rattle.update_fact_at.proofs.add_new_fact.Tie as tie
@@ -22,7 +22,7 @@ returns : tie.Need-returns
 returns c =
     let after-capacity = c.before in
     let start = after-capacity.before.before.before.before.before.before in
-    facts-full start.requires.0 _ start.requires.1.0 start.requires.1.1 (omega (arith, after-capacity.capacity.ensures start.args.facts.now refl, c.if1.true, length-rows start.args.facts.now))
+    facts_full start.requires.0 _ start.requires.1.0 start.requires.1.1 (omega (arith, after-capacity.capacity.ensures start.args.facts.now refl, c.if1.true, length-rows start.args.facts.now))
 
 no-rows-requires : tie.Need-no-rows-requires
 no-rows-requires c κs = search rules
@@ -33,7 +33,7 @@ slice-aggregate-carry c = search rules
 carry-requires : tie.Need-carry-requires
 carry-requires c κs =
     let start = c.before.before.before.before.before.before.before.before.before in
-    (wellFormed-isTable start.requires.0.statements, search rules)
+    (well_formed-is_table start.requires.0.statements, search rules)
 
 slice-aggregate-count-missing : tie.Need-slice-aggregate-count-missing
 slice-aggregate-count-missing c = search rules
@@ -82,7 +82,7 @@ insert-at-requires c κs =
     let else1 = c.before.before.before.before.before.before.before.before.before.before.before.before.before in
     let after-capacity = else1.before in
     let start = after-capacity.before.before.before.before.before.before in
-    (fact-spare start.requires.0 _ start.requires.1.0 (omega (arith, after-capacity.capacity.ensures start.args.facts.now refl, else1.if1.false, length-rows start.args.facts.now)), (missing_at _ _ _ start.requires.1.1).within)
+    (fact_spare start.requires.0 _ start.requires.1.0 (omega (arith, after-capacity.capacity.ensures start.args.facts.now refl, else1.if1.false, length-rows start.args.facts.now)), (missing_at _ _ _ start.requires.1.1).within)
 
 slice-aggregate-raise-all : tie.Need-slice-aggregate-raise-all
 slice-aggregate-raise-all c = search rules

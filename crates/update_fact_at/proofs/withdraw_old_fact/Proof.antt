@@ -1,7 +1,7 @@
 -- Lowering adds no row.
 use Rattle.table_find.proofs.Place.{stands_at}
-use Rattle.spec.proofs.TableFormed.{wellFormed-isTable}
-use Rattle.update_fact_at.proofs.Facts.{carried-lowerable, fact-withdrawn}
+use Rattle.spec.proofs.TableFormed.{well_formed-is_table}
+use Rattle.update_fact_at.proofs.Facts.{carried-lowerable, fact_withdrawn}
 use borrow.Author.Rules.{rules}
 use Rattle.update_fact_at.proofs.withdraw_old_fact.Statement.{statement}
 use Rattle.update_fact_at.proofs.withdraw_old_fact.Tie as tie
@@ -15,7 +15,7 @@ slice-aggregate-carry c = search rules
 carry-requires : tie.Need-carry-requires
 carry-requires c κs =
     let start = c.before.before.before.before.before.before in
-    (wellFormed-isTable start.requires.0.statements, search rules)
+    (well_formed-is_table start.requires.0.statements, search rules)
 
 remove-at-requires : tie.Need-remove-at-requires
 remove-at-requires c κs =
@@ -46,7 +46,7 @@ returns c =
     let after-remove-at = after-lower-all.before.before.before.before.before.before in
     let after-carry = after-remove-at.before.before.before in
     let start = after-carry.before.before.before.before.before.before.before in
-    fact-withdrawn start.requires.0 _ start.requires.1.0 _ _ after-carry.carry.ensures.0 after-carry.carry.ensures.1 start.requires.1.1 after-remove-at.remove-at.ensures after-lower-all.lower-all.ensures
+    fact_withdrawn start.requires.0 _ start.requires.1.0 _ _ after-carry.carry.ensures.0 after-carry.carry.ensures.1 start.requires.1.1 after-remove-at.remove-at.ensures after-lower-all.lower-all.ensures
 
 pub withdraw-old-fact-spec : {M : Type 1} → statement M
 withdraw-old-fact-spec =

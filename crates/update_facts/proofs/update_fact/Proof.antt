@@ -1,6 +1,6 @@
 -- By what the search among the facts found, and by the kind of update.
 use Rattle.update_kept.proofs.Found.{found-place}
-use Rattle.update_fact_at.proofs.Facts.{facts-ready, fact-there, fact-absent}
+use Rattle.update_fact_at.proofs.Facts.{facts_ready, fact_there, fact_absent}
 use borrow.Author.Rules.{rules}
 use Rattle.update_facts.proofs.update_fact.Statement.{statement}
 use Rattle.update_facts.proofs.update_fact.Tie as tie
@@ -14,7 +14,7 @@ cast-n c = search rules
 find-requires : tie.Need-find-requires
 find-requires c κs =
     let start = c.before.before.before.before.before.before in
-    (search rules, facts-ready start.requires.0)
+    (search rules, facts_ready start.requires.0)
 
 enum-known-at : tie.Need-enum-known-at
 enum-known-at c = search rules
@@ -56,7 +56,7 @@ returns c =
     let after-at = c.before.before.before in
     let after-find = after-at.before.before in
     let start = after-find.before.before.before.before.before.before.before in
-    fact-there start.requires.0 _ start.requires.1 c.enum_told.given.1 (found-place _ _ _ _ after-at.at.given.1 after-find.find.ensures)
+    fact_there start.requires.0 _ start.requires.1 c.enum_told.given.1 (found-place _ _ _ _ after-at.at.given.1 after-find.find.ensures)
 
 same-length-2 : tie.Need-same-length-2
 same-length-2 c = search rules
@@ -96,7 +96,7 @@ returns-4 c =
     let after-at2 = c.before.before.before in
     let after-find = after-at2.before.before in
     let start = after-find.before.before.before.before.before.before.before in
-    fact-absent start.requires.0 _ start.requires.1 c.enum-told4.given.1 (found-place _ _ _ _ after-at2.at2.given.1 after-find.find.ensures)
+    fact_absent start.requires.0 _ start.requires.1 c.enum-told4.given.1 (found-place _ _ _ _ after-at2.at2.given.1 after-find.find.ensures)
 
 pub update-fact-spec : {M : Type 1} → statement M
 update-fact-spec =

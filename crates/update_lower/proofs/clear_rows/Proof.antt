@@ -1,5 +1,5 @@
 -- `clear_rows` sets the words and the supports of the places to zero. Assumes nothing.
-use Rattle.update_lower.proofs.Clearing.{places-cleared}
+use Rattle.update_lower.proofs.Clearing.{places_cleared}
 use borrow.Author.Rules.{rules}
 use Rattle.update_lower.proofs.clear_rows.Statement.{statement}
 use Rattle.update_lower.proofs.clear_rows.Tie as tie
@@ -29,7 +29,7 @@ same-length-2 : tie.Need-same-length-2
 same-length-2 c = search rules
 
 returns : tie.Need-returns
-returns c = places-cleared c.before.before.before.before.before.before.before.before.before.before.requires.1 c.before.before.before.before.before.before.before.before.before.before.requires.0 c.before.before.before.before.before.before.zero-words.auto.0 c.before.before.before.before.before.before.zero-words.ensures c.before.before.zero-supports.auto.0 c.before.before.zero-supports.ensures
+returns c = places_cleared c.before.before.before.before.before.before.before.before.before.before.requires.1 c.before.before.before.before.before.before.before.before.before.before.requires.0 c.before.before.before.before.before.before.zero-words.auto.0 c.before.before.before.before.before.before.zero-words.ensures c.before.before.zero-supports.auto.0 c.before.before.zero-supports.ensures
 
 pub clear-rows-spec : {M : Type 1} → statement M
 clear-rows-spec =

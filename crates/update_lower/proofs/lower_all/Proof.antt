@@ -1,7 +1,7 @@
 use mathlib.Core.Path.{refl, ◌∙◌}
 use native.Mathlib.Omega.{arith}
 use lib.ListN.{length-set}
-use Rattle.update_lower.proofs.LowerPass.{gap-count, gap-trans, gap-none, gap-closed}
+use Rattle.update_lower.proofs.LowerPass.{gap-count, gap_trans, gap_none, gap-closed}
 use borrow.Author.Rules.{rules}
 use Rattle.update_lower.proofs.lower_all.Statement.{statement}
 use Rattle.update_lower.proofs.lower_all.Tie as tie
@@ -38,11 +38,11 @@ same-length-2 c = search rules
 
 -- src/kept.rt:239:9
 returns : tie.Need-returns
-returns c = gap-none (gap-count c.before.before.before.before.before.lower-rows.ensures c.before.before.before.before.before.before.before.before.before.before.before.before.before.before.requires.tables.laid.counted) c.if1.true refl
+returns c = gap_none (gap-count c.before.before.before.before.before.lower-rows.ensures c.before.before.before.before.before.before.before.before.before.before.before.before.before.before.requires.tables.laid.counted) c.if1.true refl
 
 -- src/kept.rt:241:9
 move-rest-requires : tie.Need-move-rest-requires
-move-rest-requires c κs = let G = gap-count c.before.before.before.before.before.before.before.lower-rows.ensures c.before.before.before.before.before.before.before.before.before.before.before.before.before.before.before.before.requires.tables.laid.counted in (G.room, (G.write-le, G.read-le))
+move-rest-requires c κs = let G = gap-count c.before.before.before.before.before.before.before.lower-rows.ensures c.before.before.before.before.before.before.before.before.before.before.before.before.before.before.before.before.requires.tables.laid.counted in (G.room, (G.write_le, G.read_le))
 
 -- src/kept.rt:242:5
 clear-rows-requires : tie.Need-clear-rows-requires
@@ -50,7 +50,7 @@ clear-rows-requires c κs = search rules
 
 -- src/kept.rt:243:15
 cast-kept : tie.Need-overflow-cast-kept
-cast-kept c = let G = gap-count c.before.before.before.before.before.before.before.before.before.before.before.before.before.before.before.before.before.before.before.lower-rows.ensures c.before.before.before.before.before.before.before.before.before.before.before.before.before.before.before.before.before.before.before.before.before.before.before.before.before.before.before.before.requires.tables.laid.counted in omega (arith, c.before.before.before.before.before.before.before.before.before.before.before.move-rest.ensures.write-le, c.before.before.before.before.before.before.before.before.before.before.before.before.before.before.before.before.before.before.before.before.before.before.before.before.before.before.before.slice-known.given 0)
+cast-kept c = let G = gap-count c.before.before.before.before.before.before.before.before.before.before.before.before.before.before.before.before.before.before.before.lower-rows.ensures c.before.before.before.before.before.before.before.before.before.before.before.before.before.before.before.before.before.before.before.before.before.before.before.before.before.before.before.before.requires.tables.laid.counted in omega (arith, c.before.before.before.before.before.before.before.before.before.before.before.move-rest.ensures.write_le, c.before.before.before.before.before.before.before.before.before.before.before.before.before.before.before.before.before.before.before.before.before.before.before.before.before.before.before.slice-known.given 0)
 
 -- src/kept.rt:243:5
 slice-write-kept : tie.Need-slice-write-kept
@@ -66,7 +66,7 @@ same-length-4 c = search rules
 
 -- src/kept.rt:229:1
 returns-2 : tie.Need-returns-2
-returns-2 c = gap-closed (gap-trans (gap-count c.before.before.before.before.before.before.before.before.before.before.before.before.before.before.before.before.before.before.before.lower-rows.ensures c.before.before.before.before.before.before.before.before.before.before.before.before.before.before.before.before.before.before.before.before.before.before.before.before.before.before.before.before.requires.tables.laid.counted) c.before.before.before.before.before.before.before.before.before.before.before.move-rest.ensures) c.before.before.before.before.clear-rows.ensures
+returns-2 c = gap-closed (gap_trans (gap-count c.before.before.before.before.before.before.before.before.before.before.before.before.before.before.before.before.before.before.before.lower-rows.ensures c.before.before.before.before.before.before.before.before.before.before.before.before.before.before.before.before.before.before.before.before.before.before.before.before.before.before.before.before.requires.tables.laid.counted) c.before.before.before.before.before.before.before.before.before.before.before.move-rest.ensures) c.before.before.before.before.clear-rows.ensures
 
 pub lower-all-spec : {M : Type 1} → statement M
 lower-all-spec =

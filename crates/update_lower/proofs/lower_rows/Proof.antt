@@ -6,7 +6,7 @@ use native.Mathlib.Omega.{arith}
 use lib.ListN.{length}
 use Rattle.table_find.specs.declared.Ordering.TheVariants.{Lower, Equal, Higher}
 use Rattle.spec.specs.Tables.{rows}
-use Rattle.table_find.proofs.Place.{ordering-says}
+use Rattle.table_find.proofs.Place.{ordering_says}
 use Rattle.update_lower.proofs.LowerPass.{Lowering, lowering-start, lowering-lower, lowering-higher, lowering-stays, lowering-goes, lowering-done, lowering-out}
 use Rattle.update_lower.proofs.lower_rows.Statement.{statement}
 use Rattle.update_lower.proofs.lower_rows.Tie as tie
@@ -85,7 +85,7 @@ loop-again c =
     let in-loop = else1.before in
     let at-loop = in-loop.before in
     let start = at-loop.before.before.before.before.before in
-    lowering-lower _ _ _ _ start.requires.0 at-loop.loop.invariant (omega (arith, else1.if1.false, start.requires.0.tables.laid.counted)) in-loop.loop-test.true after-row-from.row_from.ensures (ordering-says _ _ Lower (sym after-enum-told.enum_told.given.1 ∙ after-compare-at.compare-at.ensures)) after-row-at.row_at.ensures after-put-entry.put-entry.ensures
+    lowering-lower _ _ _ _ start.requires.0 at-loop.loop.invariant (omega (arith, else1.if1.false, start.requires.0.tables.laid.counted)) in-loop.loop-test.true after-row-from.row_from.ensures (ordering_says _ _ Lower (sym after-enum-told.enum_told.given.1 ∙ after-compare-at.compare-at.ensures)) after-row-at.row_at.ensures after-put-entry.put-entry.ensures
 
 enum-told-2 : tie.Need-enum-told-2 invariant-loop decreases-loop
 enum-told-2 c = search rules
@@ -104,7 +104,7 @@ loop-again-2 c =
     let in-loop = else1.before in
     let at-loop = in-loop.before in
     let start = at-loop.before.before.before.before.before in
-    lowering-higher _ _ _ _ start.requires.0 at-loop.loop.invariant (omega (arith, else1.if1.false, start.requires.0.tables.laid.counted)) in-loop.loop-test.true after-row-from.row_from.ensures (ordering-says _ _ Higher (sym c.enum-told2.given.1 ∙ after-compare-at.compare-at.ensures))
+    lowering-higher _ _ _ _ start.requires.0 at-loop.loop.invariant (omega (arith, else1.if1.false, start.requires.0.tables.laid.counted)) in-loop.loop-test.true after-row-from.row_from.ensures (ordering_says _ _ Higher (sym c.enum-told2.given.1 ∙ after-compare-at.compare-at.ensures))
 
 enum-told-3 : tie.Need-enum-told-3 invariant-loop decreases-loop
 enum-told-3 c = search rules
@@ -144,7 +144,7 @@ loop-again-3 c =
     let in-loop = else1.before in
     let at-loop = in-loop.before in
     let start = at-loop.before.before.before.before.before in
-    lowering-stays _ _ _ _ start.requires.0 at-loop.loop.invariant (omega (arith, else1.if1.false, start.requires.0.tables.laid.counted)) in-loop.loop-test.true after-row-from.row_from.ensures (ordering-says _ _ Equal (sym after-enum-told3.enum-told3.given.1 ∙ after-compare-at.compare-at.ensures)) then2.if2.true after-put-entry2.put-entry2.ensures
+    lowering-stays _ _ _ _ start.requires.0 at-loop.loop.invariant (omega (arith, else1.if1.false, start.requires.0.tables.laid.counted)) in-loop.loop-test.true after-row-from.row_from.ensures (ordering_says _ _ Equal (sym after-enum-told3.enum-told3.given.1 ∙ after-compare-at.compare-at.ensures)) then2.if2.true after-put-entry2.put-entry2.ensures
 
 add-i-3 : tie.Need-overflow-add-i-3 invariant-loop decreases-loop
 add-i-3 c = search rules
@@ -164,7 +164,7 @@ loop-again-4 c =
     let in-loop = else1.before in
     let at-loop = in-loop.before in
     let start = at-loop.before.before.before.before.before in
-    lowering-goes _ _ _ _ start.requires.0 at-loop.loop.invariant (omega (arith, else1.if1.false, start.requires.0.tables.laid.counted)) in-loop.loop-test.true after-row-from.row_from.ensures (ordering-says _ _ Equal (sym after-enum-told3.enum-told3.given.1 ∙ after-compare-at.compare-at.ensures)) c.if2.false
+    lowering-goes _ _ _ _ start.requires.0 at-loop.loop.invariant (omega (arith, else1.if1.false, start.requires.0.tables.laid.counted)) in-loop.loop-test.true after-row-from.row_from.ensures (ordering_says _ _ Equal (sym after-enum-told3.enum-told3.given.1 ∙ after-compare-at.compare-at.ensures)) c.if2.false
 
 same-length-3 : tie.Need-same-length-3 invariant-loop decreases-loop
 same-length-3 c = search rules

@@ -6,7 +6,7 @@ use native.Mathlib.Omega.{arith}
 use lib.ListN.{take, drop}
 use Rattle.update_kept.specs.inside.Entries.{entries}
 use Rattle.update_lower.specs.inside.Lowering.{Gapped}
-use Rattle.update_lower.proofs.LowerPass.{gap-start, gap-move, gap-end}
+use Rattle.update_lower.proofs.LowerPass.{gap_start, gap_move, gap_end}
 use Rattle.update_lower.proofs.move_rest.Statement.{statement}
 use Rattle.update_lower.proofs.move_rest.Tie as tie
 
@@ -19,7 +19,7 @@ decreases-loop kept₀ supports₀ from to n i₀ k₀ kept supports i k = n - i
 loop-holds : tie.Need-loop-init invariant-loop decreases-loop
 loop-holds c =
     let start = c.before.before in
-    gap-start _ _ _ _ _ start.requires.0 start.requires.1.0 start.requires.1.1
+    gap_start _ _ _ _ _ start.requires.0 start.requires.1.0 start.requires.1.1
 
 row-at-requires : tie.Need-row-at-requires invariant-loop decreases-loop
 row-at-requires c κs =
@@ -40,7 +40,7 @@ put-entry-requires : tie.Need-put-entry-requires invariant-loop decreases-loop
 put-entry-requires c κs =
     let at-loop = c.before.before.before.before.before.before in
     let G = at-loop.loop.invariant in
-    omega (arith, G.room.words, G.room.places, G.write-le)
+    omega (arith, G.room.words, G.room.places, G.write_le)
 
 add-i : tie.Need-overflow-add-i invariant-loop decreases-loop
 add-i c = search rules
@@ -57,7 +57,7 @@ loop-again c =
     let after-row-at = after-put-entry.before.before.before.before in
     let in-loop = after-row-at.before.before in
     let at-loop = in-loop.before in
-    gap-move at-loop.loop.invariant in-loop.loop-test.true after-row-at.row_at.ensures after-put-entry.put-entry.ensures
+    gap_move at-loop.loop.invariant in-loop.loop-test.true after-row-at.row_at.ensures after-put-entry.put-entry.ensures
 
 same_length : tie.Need-same-length invariant-loop decreases-loop
 same_length c = search rules
@@ -68,7 +68,7 @@ same-length-2 c = search rules
 returns : tie.Need-returns invariant-loop decreases-loop
 returns c =
     let at-loop = c.before in
-    gap-end at-loop.loop.invariant c.loop-test.false
+    gap_end at-loop.loop.invariant c.loop-test.false
 
 pub move-rest-spec : {M : Type 1} → statement M
 move-rest-spec =

@@ -1,8 +1,8 @@
 -- Without rows to lower nothing is passed; else the rows before the first that is not below the first of them.
 use native.Mathlib.Omega.{arith}
 use Rattle.table.proofs.SearchLaws.{between-all}
-use Rattle.update_kept.proofs.Entries.{sought-ready}
-use Rattle.update_lower.proofs.Passed.{first-passed, none_passed}
+use Rattle.update_kept.proofs.Entries.{sought_ready}
+use Rattle.update_lower.proofs.Passed.{first_passed, none_passed}
 use borrow.Author.Rules.{rules}
 use Rattle.update_lower.proofs.start_place.Statement.{statement}
 use Rattle.update_lower.proofs.start_place.Tie as tie
@@ -20,10 +20,10 @@ row-from-requires : tie.Need-row-from-requires
 row-from-requires c κs = search rules
 
 lower-bound-requires : tie.Need-lower-bound-requires
-lower-bound-requires c κs = (record { fits = omega (arith, c.before.before.before.before.before.requires.laid.fits, c.before.before.before.before.before.requires.laid.counted); ascends = sought-ready c.before.before.before.before.before.requires }, between-all _ _ _)
+lower-bound-requires c κs = (record { fits = omega (arith, c.before.before.before.before.before.requires.laid.fits, c.before.before.before.before.before.requires.laid.counted); ascends = sought_ready c.before.before.before.before.before.requires }, between-all _ _ _)
 
 returns-2 : tie.Need-returns-2
-returns-2 c = first-passed _ _ _ _ c.before.row_from.ensures c.lower-bound.ensures
+returns-2 c = first_passed _ _ _ _ c.before.row_from.ensures c.lower-bound.ensures
 
 pub start-place-spec : {M : Type 1} → statement M
 start-place-spec =

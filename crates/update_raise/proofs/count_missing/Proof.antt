@@ -2,8 +2,8 @@
 use borrow.Author.Rules.{rules}
 use Prim.Native.Nat.{◌-◌}
 use native.Mathlib.Omega.{arith}
-use Rattle.update_raise.proofs.Missing.{Counting, counting-start, counting-step, counting-end, absence-bound}
-use Rattle.update_kept.proofs.Entries.{sought-ready}
+use Rattle.update_raise.proofs.Missing.{Counting, counting_start, counting_step, counting_end, absence-bound}
+use Rattle.update_kept.proofs.Entries.{sought_ready}
 use Rattle.update_raise.proofs.count_missing.Statement.{statement}
 use Rattle.update_raise.proofs.count_missing.Tie as tie
 
@@ -20,7 +20,7 @@ cast-n : tie.Need-overflow-cast-n invariant-loop decreases-loop
 cast-n c = search rules
 
 loop-holds : tie.Need-loop-init invariant-loop decreases-loop
-loop-holds c = counting-start _ _ _
+loop-holds c = counting_start _ _ _
 
 row-from-requires : tie.Need-row-from-requires invariant-loop decreases-loop
 row-from-requires c κs = search rules
@@ -28,7 +28,7 @@ row-from-requires c κs = search rules
 absent-requires : tie.Need-absent-requires invariant-loop decreases-loop
 absent-requires c κs =
     let start = c.before.before.before.before.before.before in
-    (search rules, sought-ready start.requires)
+    (search rules, sought_ready start.requires)
 
 add-missing : tie.Need-overflow-add-missing invariant-loop decreases-loop
 add-missing c =
@@ -48,12 +48,12 @@ loop-again c =
     let in-loop = after-row-from.before in
     let at-loop = in-loop.before in
     let start = at-loop.before.before.before.before in
-    counting-step start.requires at-loop.loop.invariant _ _ in-loop.loop-test.true after-row-from.row_from.ensures c.absent.ensures
+    counting_step start.requires at-loop.loop.invariant _ _ in-loop.loop-test.true after-row-from.row_from.ensures c.absent.ensures
 
 returns : tie.Need-returns invariant-loop decreases-loop
 returns c =
     let at-loop = c.before in
-    counting-end at-loop.loop.invariant c.loop-test.false
+    counting_end at-loop.loop.invariant c.loop-test.false
 
 pub count-missing-spec : {M : Type 1} → statement M
 count-missing-spec =

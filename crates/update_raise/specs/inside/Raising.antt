@@ -6,9 +6,9 @@ use Rattle.table_find.specs.declared.Ordering.{Ordering}
 use Rattle.table_find.specs.declared.Ordering.TheVariants.{Lower}
 use Rattle.table_find.specs.declared.Found.{Found}
 use Rattle.table_find.specs.declared.Found.TheVariants.{At, Gap}
-use Rattle.spec.specs.Tables.{rowAt, firstRows, rows, keptOf}
+use Rattle.spec.specs.Tables.{row_at, first_rows, rows, kept_of}
 use Rattle.table_find.specs.inside.Search.{ordering}
-use Rattle.spec.specs.Saturation.{raiseAll}
+use Rattle.spec.specs.Saturation.{raise_all}
 use Rattle.update_kept.specs.inside.Entries.{KeptTables}
 
 -- 1 where a row is missing, else 0.
@@ -20,15 +20,15 @@ absence (Gap i) = 1
 -- missing, and there is room for those.
 pub record Raisable (ws us rs : List ℕ) (c missing : ℕ) : Type 0 where
   pub tables : KeptTables ws us
-  pub below-most : (p : ℕ) → p < length (rows ws) → get_or us p 0 < 65535
+  pub below_most : (p : ℕ) → p < length (rows ws) → get_or us p 0 < 65535
   pub listed : c * 3 ≤ length rs
-  pub raised-ascend : Ascending (firstRows c rs)
-  pub counted : missing + length (rows ws) ≡ length (raiseAll (firstRows c rs) (keptOf ws us))
+  pub raised_ascend : Ascending (first_rows c rs)
+  pub counted : missing + length (rows ws) ≡ length (raise_all (first_rows c rs) (kept_of ws us))
   pub words : (length (rows ws) + missing) * 3 < length ws
   pub places : length (rows ws) + missing ≤ length us
   pub countable : length (rows ws) + missing < 2 ^ 32
 
 -- How the row before place i stands to x. Where there is none, it is lower.
-unfoldable pub lastOrdering : ℕ → List ℕ → Triple → Ordering
-lastOrdering zero ws x = Lower
-lastOrdering (suc i) ws x = ordering (rowAt ws i) x
+unfoldable pub last_ordering : ℕ → List ℕ → Triple → Ordering
+last_ordering zero ws x = Lower
+last_ordering (suc i) ws x = ordering (row_at ws i) x

@@ -3,8 +3,8 @@ use mathlib.Core.Path.{refl}
 use native.Mathlib.Omega.{arith}
 use Rattle.spec.proofs.TableRows.{length-rows}
 use Rattle.table_find.proofs.Place.{missing_at}
-use Rattle.spec.proofs.TableFormed.{wellFormed-isTable}
-use Rattle.update_statement_at.proofs.Statements.{kept-room, statements-full, statement-spare, with-table, with-laid, statement-added, statement-unfit}
+use Rattle.spec.proofs.TableFormed.{well_formed-is_table}
+use Rattle.update_statement_at.proofs.Statements.{kept_room, statements_full, statement_spare, with-table, with-laid, statement-added, statement-unfit}
 use borrow.Author.Rules.{rules}
 use Rattle.update_statement_at.proofs.add_new_statement.Statement.{statement}
 use Rattle.update_statement_at.proofs.add_new_statement.Tie as tie
@@ -19,16 +19,16 @@ capacity-requires : tie.Need-capacity-requires
 capacity-requires c κs = search rules
 
 returns : tie.Need-returns
-returns c = statements-full c.before.before.before.before.before.before.before.requires.0 _ c.before.before.before.before.before.before.before.requires.1.0 c.before.before.before.before.before.before.before.requires.1.1 (omega (arith, c.before.capacity.ensures c.before.before.before.before.before.before.before.args.statements.now refl, c.if1.true, length-rows c.before.before.before.before.before.before.before.args.statements.now))
+returns c = statements_full c.before.before.before.before.before.before.before.requires.0 _ c.before.before.before.before.before.before.before.requires.1.0 c.before.before.before.before.before.before.before.requires.1.1 (omega (arith, c.before.capacity.ensures c.before.before.before.before.before.before.before.args.statements.now refl, c.if1.true, length-rows c.before.before.before.before.before.before.before.args.statements.now))
 
 kept-capacity-requires : tie.Need-kept-capacity-requires
 kept-capacity-requires c κs = search rules
 
 insert-at-requires : tie.Need-insert-at-requires
-insert-at-requires c κs = (statement-spare c.before.before.before.before.before.before.before.before.before.before.before.requires.0 _ c.before.before.before.before.before.before.before.before.before.before.before.requires.1.0 (omega (arith, c.before.before.before.before.before.capacity.ensures c.before.before.before.before.before.before.before.before.before.before.before.args.statements.now refl, c.before.before.before.before.if1.false, length-rows c.before.before.before.before.before.before.before.before.before.before.before.args.statements.now)), (missing_at _ _ _ c.before.before.before.before.before.before.before.before.before.before.before.requires.1.1).within)
+insert-at-requires c κs = (statement_spare c.before.before.before.before.before.before.before.before.before.before.before.requires.0 _ c.before.before.before.before.before.before.before.before.before.before.before.requires.1.0 (omega (arith, c.before.before.before.before.before.capacity.ensures c.before.before.before.before.before.before.before.before.before.before.before.args.statements.now refl, c.before.before.before.before.if1.false, length-rows c.before.before.before.before.before.before.before.before.before.before.before.args.statements.now)), (missing_at _ _ _ c.before.before.before.before.before.before.before.before.before.before.before.requires.1.1).within)
 
 saturate-requires : tie.Need-saturate-requires
-saturate-requires c κs = (with-table c.before.before.before.before.before.before.before.before.before.before.before.before.before.before.before.before.before.requires.0 _ c.before.before.before.before.before.before.before.before.before.before.before.before.before.before.before.before.before.requires.1.0 c.before.before.before.before.before.before.before.before.before.before.before.before.before.before.before.before.before.requires.1.1 (omega (arith, c.before.before.before.before.before.before.before.before.before.before.before.capacity.ensures c.before.before.before.before.before.before.before.before.before.before.before.before.before.before.before.before.before.args.statements.now refl, c.before.before.before.before.before.before.before.before.before.before.if1.false, length-rows c.before.before.before.before.before.before.before.before.before.before.before.before.before.before.before.before.before.args.statements.now)) c.before.before.before.before.before.insert-at.ensures, (wellFormed-isTable c.before.before.before.before.before.before.before.before.before.before.before.before.before.before.before.before.before.requires.0.facts, kept-room c.before.before.before.before.before.before.before.before.before.before.before.before.before.before.before.before.before.requires.0 _ c.before.before.before.before.before.before.before.kept-capacity.ensures))
+saturate-requires c κs = (with-table c.before.before.before.before.before.before.before.before.before.before.before.before.before.before.before.before.before.requires.0 _ c.before.before.before.before.before.before.before.before.before.before.before.before.before.before.before.before.before.requires.1.0 c.before.before.before.before.before.before.before.before.before.before.before.before.before.before.before.before.before.requires.1.1 (omega (arith, c.before.before.before.before.before.before.before.before.before.before.before.capacity.ensures c.before.before.before.before.before.before.before.before.before.before.before.before.before.before.before.before.before.args.statements.now refl, c.before.before.before.before.before.before.before.before.before.before.if1.false, length-rows c.before.before.before.before.before.before.before.before.before.before.before.before.before.before.before.before.before.args.statements.now)) c.before.before.before.before.before.insert-at.ensures, (well_formed-is_table c.before.before.before.before.before.before.before.before.before.before.before.before.before.before.before.before.before.requires.0.facts, kept_room c.before.before.before.before.before.before.before.before.before.before.before.before.before.before.before.before.before.requires.0 _ c.before.before.before.before.before.before.before.kept-capacity.ensures))
 
 same_length : tie.Need-same-length
 same_length c = search rules

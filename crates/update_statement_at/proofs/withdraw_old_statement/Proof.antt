@@ -1,6 +1,6 @@
 -- By the answer to question 5, as the code counts it. Assumes nothing.
-use Rattle.spec.proofs.TableFormed.{wellFormed-isTable}
-use Rattle.update_statement_at.proofs.Statements.{kept-room, statement-laid, without-table, without-spare, statement-withdrawn, withdrawal-unfit}
+use Rattle.spec.proofs.TableFormed.{well_formed-is_table}
+use Rattle.update_statement_at.proofs.Statements.{kept_room, statement_laid, without-table, without-spare, statement-withdrawn, withdrawal-unfit}
 use borrow.Author.Rules.{rules}
 use Rattle.update_statement_at.proofs.withdraw_old_statement.Statement.{statement}
 use Rattle.update_statement_at.proofs.withdraw_old_statement.Tie as tie
@@ -9,10 +9,10 @@ kept-capacity-requires : tie.Need-kept-capacity-requires
 kept-capacity-requires c κs = search rules
 
 remove-at-requires : tie.Need-remove-at-requires
-remove-at-requires c κs = statement-laid c.before.before.before.before.before.before.before.before.requires.0 _ c.before.before.before.before.before.before.before.before.requires.1.0 c.before.before.before.before.before.before.before.before.requires.1.1
+remove-at-requires c κs = statement_laid c.before.before.before.before.before.before.before.before.requires.0 _ c.before.before.before.before.before.before.before.before.requires.1.0 c.before.before.before.before.before.before.before.before.requires.1.1
 
 saturate-requires : tie.Need-saturate-requires
-saturate-requires c κs = (without-table c.before.before.before.before.before.before.before.before.before.before.before.before.before.before.requires.0 _ c.before.before.before.before.before.before.before.before.before.before.before.before.before.before.requires.1.0 c.before.before.before.before.before.before.before.before.before.before.before.before.before.before.requires.1.1 c.before.before.before.before.before.remove-at.ensures, (wellFormed-isTable c.before.before.before.before.before.before.before.before.before.before.before.before.before.before.requires.0.facts, kept-room c.before.before.before.before.before.before.before.before.before.before.before.before.before.before.requires.0 _ c.before.before.before.before.before.before.before.kept-capacity.ensures))
+saturate-requires c κs = (without-table c.before.before.before.before.before.before.before.before.before.before.before.before.before.before.requires.0 _ c.before.before.before.before.before.before.before.before.before.before.before.before.before.before.requires.1.0 c.before.before.before.before.before.before.before.before.before.before.before.before.before.before.requires.1.1 c.before.before.before.before.before.remove-at.ensures, (well_formed-is_table c.before.before.before.before.before.before.before.before.before.before.before.before.before.before.requires.0.facts, kept_room c.before.before.before.before.before.before.before.before.before.before.before.before.before.before.requires.0 _ c.before.before.before.before.before.before.before.kept-capacity.ensures))
 
 same_length : tie.Need-same-length
 same_length c = search rules

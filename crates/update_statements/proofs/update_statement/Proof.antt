@@ -1,6 +1,6 @@
 -- By what the search among the statements found, and by the kind of update. Assumes nothing.
 use Rattle.update_kept.proofs.Found.{found-place}
-use Rattle.update_statement_at.proofs.Statements.{statements-ready, statement-there, statement-absent}
+use Rattle.update_statement_at.proofs.Statements.{statements_ready, statement_there, statement_absent}
 use borrow.Author.Rules.{rules}
 use Rattle.update_statements.proofs.update_statement.Statement.{statement}
 use Rattle.update_statements.proofs.update_statement.Tie as tie
@@ -14,7 +14,7 @@ cast-n c = search rules
 find-requires : tie.Need-find-requires
 find-requires c κs =
     let start = c.before.before.before.before.before.before in
-    (search rules, statements-ready start.requires.0 _ start.requires.1)
+    (search rules, statements_ready start.requires.0 _ start.requires.1)
 
 enum-known-at : tie.Need-enum-known-at
 enum-known-at c = search rules
@@ -56,7 +56,7 @@ returns c =
     let after-at = c.before.before.before in
     let after-find = after-at.before.before in
     let start = after-find.before.before.before.before.before.before.before in
-    statement-there start.requires.0 _ start.requires.1 c.enum_told.given.1 (found-place _ _ _ _ after-at.at.given.1 after-find.find.ensures)
+    statement_there start.requires.0 _ start.requires.1 c.enum_told.given.1 (found-place _ _ _ _ after-at.at.given.1 after-find.find.ensures)
 
 same-length-2 : tie.Need-same-length-2
 same-length-2 c = search rules
@@ -96,7 +96,7 @@ returns-4 c =
     let after-at2 = c.before.before.before in
     let after-find = after-at2.before.before in
     let start = after-find.before.before.before.before.before.before.before in
-    statement-absent start.requires.0 _ start.requires.1 c.enum-told4.given.1 (found-place _ _ _ _ after-at2.at2.given.1 after-find.find.ensures)
+    statement_absent start.requires.0 _ start.requires.1 c.enum-told4.given.1 (found-place _ _ _ _ after-at2.at2.given.1 after-find.find.ensures)
 
 pub update-statement-spec : {M : Type 1} → statement M
 update-statement-spec =

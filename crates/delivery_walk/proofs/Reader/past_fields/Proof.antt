@@ -42,7 +42,7 @@ use denote.Triple.Table.{entered, cited}
 use denote.Triple.Walked.{says, needs, Stays, stay_none, walk_of, Goes-none, Walks, ends_at, walked, walk_Meets}
 use denote.Exit.{yes}
 use denote.Triple.Clauses.{ensured, lasts}
-use Rattle.delivery_walk.specs.inside.Walked.{countedEnd}
+use Rattle.delivery_walk.specs.inside.Walked.{counted_end}
 use Rattle.delivery_walk.specs.declared.Reader.{Reader}
 use Rattle.delivery_walk.specs.contracts.Reader as T
 use Rattle.delivery_walk.proofs.Reader.TheLaws as T'
@@ -79,7 +79,7 @@ module _ {M : Type 1} {𝓤 : Ura M} (𝓛 : Logic 𝓤) (mem : Memory → SProp
 
   -- the cursor behind the fields, and the reader with a cursor m
   abbrev found : ℕ
-  found = countedEnd d.bytes.now d.at
+  found = counted_end d.bytes.now d.at
 
   abbrev moved : ℕ → Reader
   moved m = record { bytes = d.bytes; at = m }
@@ -177,4 +177,4 @@ past-fields-spec 𝓤 𝓛 𝓜 𝓡 =
     entered 𝓤 𝓛.H (triple_of 𝓛 past.signature (past.spec 𝓛 𝓜.mem 𝓡.run))
     (tables 𝓤 𝓛.H 𝓜 𝓡 code.env).C (tables 𝓤 𝓛.H 𝓜 𝓡 code.env).Λ #past-fields code.function (code.unfolded 𝓤 𝓛.H 𝓜 𝓡)
     (past-meets 𝓛 𝓜.mem 𝓡.run (tables_of 𝓤 𝓛.H 𝓜 (tables 𝓤 𝓛.H 𝓜 𝓡 code.env))
-    (cited 𝓤 𝓛.H (CountedEnd 𝓛 𝓜.mem 𝓡.run) 𝓜 𝓡 code.env #counted-end counted-def.routine code.calls-delivery-walk::counted-end (counted-thm.met 𝓤 𝓛 𝓜 𝓡)))
+    (cited 𝓤 𝓛.H (CountedEnd 𝓛 𝓜.mem 𝓡.run) 𝓜 𝓡 code.env #counted-end counted-def.routine code.calls-delivery-walk::counted_end_lem (counted-thm.met 𝓤 𝓛 𝓜 𝓡)))

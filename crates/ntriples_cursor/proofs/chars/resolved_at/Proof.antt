@@ -6,11 +6,11 @@ use native.Mathlib.Nat.{one-le-pow}
 use borrow.Author.Rules.{rules}
 use borrow.Author.Tests.{lt-ltb, le-ltb, eq-eqb, ne_eqb}
 use lib.ListN.{length}
-use Rattle.spec_ntriples.specs.Characters.{codes, isOneOf, hexValue, echar}
+use Rattle.spec_ntriples.specs.Characters.{codes, is_one_of, hex_value, echar}
 use Rattle.spec_ntriples.specs.computed.Terminals.{State, Step, digits, slash, outside}
 use Rattle.ntriples_bytes.proofs.Marking.{between}
 use Rattle.ntriples_cursor.specs.inside.Readers.{IsReader, Reads, DigitsDue}
-use Rattle.ntriples_cursor.proofs.Readers.{reads-within, reads-utf8, digits_step, digits-reads, digits-end, digits-first, value-more, value-fits, slash-short, slash-long, slash-letter, outside-escape, outside-plain, gives-later, gives-before}
+use Rattle.ntriples_cursor.proofs.Readers.{reads-within, reads-utf8, digits_step, digits_reads, digits_end, digits_first, value_more, value_fits, slash-short, slash_long, slash-letter, outside-escape, outside-plain, gives_later, gives_before}
 use Rattle.ntriples_cursor.proofs.chars.resolved_at.Statement.{statement}
 use Rattle.ntriples_cursor.proofs.chars.resolved_at.Tie as tie
 use Rattle.ntriples_cursor.proofs.chars.resolved_at.Reads as reads
@@ -28,7 +28,7 @@ escape-at-requires c κs = record { step = c.before.before.before.before.require
 
 -- src/chars.rt:105:9
 returns : tie.Need-returns
-returns c = λ step close ds rest R D n. gives-before c.before.before.before.before.before.args.line.now c.before.before.before.before.before.args.at c.before.before.before.char-at.result.next step ds rest _ c.before.before.before.char-at.ensures.after (c.escape-at.ensures step close ds rest R (outside-escape c.before.before.before.before.before.args.line.now step close R ds rest c.before.before.before.before.before.args.at c.before.before.before.char-at.result c.before.before.before.char-at.ensures D c.before.if1.true))
+returns c = λ step close ds rest R D n. gives_before c.before.before.before.before.before.args.line.now c.before.before.before.before.before.args.at c.before.before.before.char-at.result.next step ds rest _ c.before.before.before.char-at.ensures.after (c.escape-at.ensures step close ds rest R (outside-escape c.before.before.before.before.before.args.line.now step close R ds rest c.before.before.before.before.before.args.at c.before.before.before.char-at.result c.before.before.before.char-at.ensures D c.before.if1.true))
 
 -- src/chars.rt:99:1
 returns-2 : tie.Need-returns-2

@@ -2,12 +2,12 @@ use mathlib.Core.Path.{◌≡◌, refl, sym, ◌∙◌, ap}
 use native.Mathlib.Omega.{arith}
 use borrow.Author.Rules.{rules}
 use borrow.Author.Tests.{lt-ltb, le-ltb, eq-eqb, ne_eqb}
-use Rattle.spec_ntriples.specs.Utf8.{encodeChar}
-use Rattle.spec_ntriples.specs.Texts.{canonicalChar}
+use Rattle.spec_ntriples.specs.Utf8.{encode_char}
+use Rattle.spec_ntriples.specs.Texts.{canonical_char}
 use Rattle.spec_ntriples.specs.Characters.{codes}
-use Rattle.ntriples_cursor.specs.inside.Letters.{letterOf}
+use Rattle.ntriples_cursor.specs.inside.Letters.{letter_of}
 use Rattle.ntriples_cursor.specs.inside.Coming.{Holds}
-use Rattle.ntriples_cursor.proofs.Escaped.{letter-canonical, plain-canonical}
+use Rattle.ntriples_cursor.proofs.Escaped.{letter_canonical, plain_canonical}
 use Rattle.ntriples_cursor.proofs.pieces.canonical.Statement.{statement}
 use Rattle.ntriples_cursor.proofs.pieces.canonical.Tie as tie
 use Rattle.ntriples_cursor.proofs.pieces.canonical.Reads as reads
@@ -26,7 +26,7 @@ double-requires c κs = search rules
 
 -- src/pieces.rt:107:9
 returns : tie.Need-returns
-returns c = letter-canonical c.before.before.before.args.c _ _ _ c.before.before.letter-of.ensures c.before.if1.true c.double.ensures
+returns c = letter_canonical c.before.before.before.args.c _ _ _ c.before.before.letter-of.ensures c.before.if1.true c.double.ensures
 
 -- src/pieces.rt:109:5
 encoded-requires : tie.Need-encoded-requires
@@ -34,7 +34,7 @@ encoded-requires c κs = search rules
 
 -- src/pieces.rt:101:1
 returns-2 : tie.Need-returns-2
-returns-2 c = plain-canonical c.before.before.before.args.c _ _ _ c.before.before.letter-of.ensures c.before.if1.false c.encoded.ensures
+returns-2 c = plain_canonical c.before.before.before.args.c _ _ _ c.before.before.letter-of.ensures c.before.if1.false c.encoded.ensures
 
 pub canonical-spec : {M : Type 1} → statement M
 canonical-spec =

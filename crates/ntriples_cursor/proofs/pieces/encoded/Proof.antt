@@ -2,12 +2,12 @@ use mathlib.Core.Path.{◌≡◌, refl, sym, ◌∙◌, ap}
 use native.Mathlib.Omega.{arith}
 use borrow.Author.Rules.{rules}
 use borrow.Author.Tests.{lt-ltb, le-ltb, eq-eqb, ne_eqb}
-use Rattle.spec_ntriples.specs.Utf8.{encodeChar}
-use Rattle.spec_ntriples.specs.Texts.{canonicalChar}
+use Rattle.spec_ntriples.specs.Utf8.{encode_char}
+use Rattle.spec_ntriples.specs.Texts.{canonical_char}
 use Rattle.spec_ntriples.specs.Characters.{codes}
-use Rattle.ntriples_cursor.specs.inside.Letters.{letterOf}
+use Rattle.ntriples_cursor.specs.inside.Letters.{letter_of}
 use Rattle.ntriples_cursor.specs.inside.Coming.{Holds}
-use Rattle.ntriples_cursor.proofs.Escaped.{letter-canonical, plain-canonical}
+use Rattle.ntriples_cursor.proofs.Escaped.{letter_canonical, plain_canonical}
 use Rattle.ntriples_cursor.proofs.pieces.encoded.Statement.{statement}
 use Rattle.ntriples_cursor.proofs.pieces.encoded.Tie as tie
 use Rattle.ntriples_cursor.proofs.pieces.encoded.Reads as reads
@@ -26,7 +26,7 @@ single-requires c κs = search rules
 
 -- src/pieces.rt:59:9
 returns : tie.Need-returns
-unfolding encodeChar
+unfolding encode_char
 returns c = rw (lt-ltb _ _ c.before.if1.true) c.single.ensures
 
 -- src/pieces.rt:61:17
@@ -51,7 +51,7 @@ double-requires c κs = search rules
 
 -- src/pieces.rt:63:9
 returns-2 : tie.Need-returns-2
-unfolding encodeChar
+unfolding encode_char
 returns-2 c = rw (le-ltb _ _ c.before.before.if1.false, lt-ltb _ _ c.before.if2.true) c.double.ensures
 
 -- src/pieces.rt:65:18
@@ -76,7 +76,7 @@ triple-requires c κs = search rules
 
 -- src/pieces.rt:67:9
 returns-3 : tie.Need-returns-3
-unfolding encodeChar
+unfolding encode_char
 returns-3 c = rw (le-ltb _ _ c.before.before.before.if1.false, le-ltb _ _ c.before.before.if2.false, lt-ltb _ _ c.before.if3.true) c.triple.ensures
 
 -- src/pieces.rt:71:14
@@ -97,7 +97,7 @@ cast-t19 c = search rules
 
 -- src/pieces.rt:54:1
 returns-4 : tie.Need-returns-4
-unfolding encodeChar
+unfolding encode_char
 returns-4 c = record { bytes = rw (le-ltb _ _ c.before.before.if1.false, le-ltb _ _ c.before.if2.false, le-ltb _ _ c.if3.false); leads = refl; few = omega arith; four = omega arith }
 
 pub encoded-spec : {M : Type 1} → statement M

@@ -6,20 +6,20 @@ use native.Mathlib.Omega.{arith}
 use borrow.Author.Rules.{rules}
 use borrow.Author.Tests.{not-true, not-false}
 use Rattle.spec_ntriples.specs.Characters.{codes}
-use Rattle.spec_ntriples.specs.Texts.{isSameText, lowerChar}
+use Rattle.spec_ntriples.specs.Texts.{is_same_text, lower_char}
 use lib.ListN.{length, take, drop}
-use Rattle.spec_ntriples.specs.computed.Terminals.{skip, outside, iriStep, stringStep}
+use Rattle.spec_ntriples.specs.computed.Terminals.{skip, outside, iri_step, string_step}
 use Rattle.ntriples_bytes.specs.inside.Places.{At, Utf8From, Marks}
-use Rattle.ntriples_bytes.proofs.Decoding.{some_at, at-within}
+use Rattle.ntriples_bytes.proofs.Decoding.{some_at, at_within}
 use Rattle.ntriples_bytes.proofs.Marking.{between}
-use Rattle.ntriples_cursor.specs.inside.Coming.{Typed, Follows, IriComing, typeTail}
-use Rattle.ntriples_cursor.proofs.Readers.{reads-within, reads-utf8, iri-reader, string-reader, not-closed}
-use Rattle.ntriples_cursor.proofs.Widths.{char-small}
+use Rattle.ntriples_cursor.specs.inside.Coming.{Typed, Follows, IriComing, type_tail}
+use Rattle.ntriples_cursor.proofs.Readers.{reads-within, reads-utf8, iri_reader, string_reader, not_closed}
+use Rattle.ntriples_cursor.proofs.Widths.{char_small}
 use Rattle.spec_ntriples.specs.Utf8.{utf8}
-use Rattle.ntriples_cursor.proofs.Literals.{type-coming, literal-end, mark-within, literal-tag, found_type, literal-string, literal-type}
-use Rattle.ntriples_cursor.proofs.Comparing.{piece-long, piece-same, pieces_end, IriLeft, iri-first, iri-again, iri-stop}
-use Rattle.ntriples_cursor.proofs.Following.{mark-front, inner-place, behind-skip}
-use Rattle.ntriples_cursor.proofs.Stepping.{string-closed, string-behind, string-more, iri-closed, iri-more, label-more, tag_small, lower-small, tag-more, shown-type, type-more, tag-first, term-literal, term-iri, term-colon, term-blank}
+use Rattle.ntriples_cursor.proofs.Literals.{type-coming, literal_end, mark-within, literal-tag, found_type, literal-string, literal-type}
+use Rattle.ntriples_cursor.proofs.Comparing.{piece_long, piece_same, pieces_end, IriLeft, iri_first, iri_again, iri_stop}
+use Rattle.ntriples_cursor.proofs.Following.{mark_front, inner-place, behind-skip}
+use Rattle.ntriples_cursor.proofs.Stepping.{string-closed, string_behind, string_more, iri-closed, iri_more, label_more, tag_small, lower_small, tag_more, shown_type, type_more, tag_first, term-literal, term_iri, term_colon, term_blank}
 use Rattle.ntriples_cursor.proofs.steps.behind_string.Statement.{statement}
 use Rattle.ntriples_cursor.proofs.steps.behind_string.Tie as tie
 use Rattle.ntriples_cursor.proofs.steps.behind_string.Reads as reads
@@ -31,7 +31,7 @@ use Rattle.ntriples_terminals.proofs.skip.Reads as skip-reads
 
 -- src/steps.rt:141:9
 returns : tie.Need-returns
-returns c = λ cs rest more A E F. literal-end c.before.before.args.line.now c.before.before.args.end c.before.before.args.place cs rest more A E F c.if1.true
+returns c = λ cs rest more A E F. literal_end c.before.before.args.line.now c.before.before.args.end c.before.before.args.place cs rest more A E F c.if1.true
 
 -- src/steps.rt:146:9
 skip-requires : tie.Need-skip-requires

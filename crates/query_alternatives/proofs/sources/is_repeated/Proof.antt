@@ -1,14 +1,14 @@
 -- The first statement has none before it; else the two subjects are compared. Assumes nothing.
 use mathlib.Core.Path.{sym}
 use native.Mathlib.Omega.{arith}
-use Rattle.spec.proofs.Lists.{true-not-false}
+use Rattle.spec.proofs.Lists.{true-not_false}
 use Rattle.query_alternatives.proofs.GatherLaws.{repeated}
 use borrow.Author.Rules.{rules}
 use Rattle.query_alternatives.proofs.sources.is_repeated.Statement.{statement}
 use Rattle.query_alternatives.proofs.sources.is_repeated.Tie as tie
 
 returns : tie.Need-returns
-returns c = λ h. absurd (true-not-false (sym h))
+returns c = λ h. absurd (true-not_false (sym h))
 
 sub-row-at : tie.Need-overflow-sub-row-at
 sub-row-at c = search rules

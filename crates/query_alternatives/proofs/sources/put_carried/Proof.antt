@@ -1,7 +1,7 @@
 -- The rows read are those that the fact carries. Assumes nothing.
 use Rattle.spec.specs.Tables.{rows}
 use Rattle.spec.specs.computed.Carried.{carried}
-use Rattle.query_alternatives.proofs.GatherLaws.{carried_rows, carried-fits}
+use Rattle.query_alternatives.proofs.GatherLaws.{carried_rows, carried_fits}
 use borrow.Author.Rules.{rules}
 use Rattle.query_alternatives.proofs.sources.put_carried.Statement.{statement}
 use Rattle.query_alternatives.proofs.sources.put_carried.Tie as tie
@@ -22,7 +22,7 @@ put-rows-requires : tie.Need-put-rows-requires
 put-rows-requires c κs =
     let a = c.before.before.before.before.before.before.before.before.args in
     let k = c.before.before.before.carry in
-    (carried-fits k.result k.new.1.1.0 (carried (rows a.statements.now) a.fact) k.ensures.0 k.ensures.1, c.before.before.before.before.before.before.before.before.requires.1)
+    (carried_fits k.result k.new.1.1.0 (carried (rows a.statements.now) a.fact) k.ensures.0 k.ensures.1, c.before.before.before.before.before.before.before.before.requires.1)
 
 same_length : tie.Need-same-length
 same_length c = search rules

@@ -5,14 +5,14 @@ use mathlib.Core.Path.{◌≡◌, refl}
 use mathlib.Core.List.{flat_map}
 use native.Mathlib.Omega.{arith}
 use lib.ListN.{length}
-use Rattle.spec.specs.Tables.{firstRows}
+use Rattle.spec.specs.Tables.{first_rows}
 use Rattle.query_alternatives.specs.inside.Putting.{Puts, given}
-use Rattle.query_alternatives.proofs.PutLaws.{puts-start, puts-more}
+use Rattle.query_alternatives.proofs.PutLaws.{puts_start, puts_more}
 use Rattle.query_alternatives.proofs.sources.put_rows.Statement.{statement}
 use Rattle.query_alternatives.proofs.sources.put_rows.Tie as tie
 
 abbrev invariant-loop : tie.invariant-loop
-invariant-loop out₀ atom source list n c₀ i₀ out c i = (i ≤ n) × ((length out ≡ length out₀) × Puts (flat_map (given atom source) (firstRows i list)) out₀ c₀ out c)
+invariant-loop out₀ atom source list n c₀ i₀ out c i = (i ≤ n) × ((length out ≡ length out₀) × Puts (flat_map (given atom source) (first_rows i list)) out₀ c₀ out c)
 
 abbrev decreases-loop : tie.decreases-loop
 decreases-loop out₀ atom source list n c₀ i₀ out c i = n - i
@@ -20,7 +20,7 @@ decreases-loop out₀ atom source list n c₀ i₀ out c i = n - i
 loop-holds : tie.Need-loop-init invariant-loop decreases-loop
 loop-holds c =
     let a = c.before.before.args in
-    (omega arith, (refl, puts-start (given a.atom a.source) a.list.now c.before.before.requires.1))
+    (omega arith, (refl, puts_start (given a.atom a.source) a.list.now c.before.before.requires.1))
 
 mul-atom-at : tie.Need-overflow-mul-atom-at invariant-loop decreases-loop
 mul-atom-at c = search rules
@@ -41,7 +41,7 @@ loop-again : tie.Need-loop-preserved invariant-loop decreases-loop
 loop-again c =
     let a = c.before.before.before.before.before.before.before.before.before.args in
     let l = c.before.before.before.before.before.before.loop in
-    (search rules, (search rules, puts-more (given a.atom a.source) a.list.now l.i l.invariant.1.1 c.before.before.before.before.atom-at.result c.before.before.before.before.atom-at.ensures c.before.before.put-given.ensures))
+    (search rules, (search rules, puts_more (given a.atom a.source) a.list.now l.i l.invariant.1.1 c.before.before.before.before.atom-at.result c.before.before.before.before.atom-at.ensures c.before.before.put-given.ensures))
 
 same_length : tie.Need-same-length invariant-loop decreases-loop
 same_length c = search rules

@@ -1,5 +1,5 @@
 -- A repeated subject gives nothing new. Assumes nothing.
-use Rattle.query_alternatives.proofs.GatherLaws.{statement-within, subject-plain, below_more, below_again}
+use Rattle.query_alternatives.proofs.GatherLaws.{statement-within, subject_plain, below_more, below_again}
 use borrow.Author.Rules.{rules}
 use Rattle.query_alternatives.proofs.sources.put_statement.Statement.{statement}
 use Rattle.query_alternatives.proofs.sources.put_statement.Tie as tie
@@ -24,7 +24,7 @@ put-source-requires : tie.Need-put-source-requires
 put-source-requires c κs =
     let a = c.before.before.before.before.before.before.args in
     let p = c.before.before.before.before.before.before.requires in
-    (p.0, (subject-plain a.statements.now p.0 a.i c.before.row_at.result p.1.0 c.before.row_at.ensures, p.1.1))
+    (p.0, (subject_plain a.statements.now p.0 a.i c.before.row_at.result p.1.0 c.before.row_at.ensures, p.1.1))
 
 same_length : tie.Need-same-length
 same_length c = search rules

@@ -4,22 +4,22 @@ use Prim.Native.Nat.{◌≤◌, ◌-◌}
 use mathlib.Core.Path.{◌≡◌, refl}
 use native.Mathlib.Omega.{arith}
 use lib.ListN.{length}
-use Rattle.spec.specs.Terms.{isAllowedStatement}
-use Rattle.spec.specs.Tables.{count, mostStatements}
+use Rattle.spec.specs.Terms.{is_allowed_statement}
+use Rattle.spec.specs.Tables.{count, most_statements}
 use Rattle.spec.proofs.TableFormed.{some_word}
-use Rattle.query_alternatives.specs.inside.Putting.{Puts, alternativesBelow}
-use Rattle.query_alternatives.proofs.GatherLaws.{below-start}
+use Rattle.query_alternatives.specs.inside.Putting.{Puts, alternatives_below}
+use Rattle.query_alternatives.proofs.GatherLaws.{below_start}
 use Rattle.query_alternatives.proofs.sources.put_statements.Statement.{statement}
 use Rattle.query_alternatives.proofs.sources.put_statements.Tie as tie
 
 abbrev invariant-loop : tie.invariant-loop
-invariant-loop out₀ statements atom n c₀ i₀ out c i = (i ≤ n) × ((length out ≡ length out₀) × Puts (alternativesBelow statements atom i) out₀ c₀ out c)
+invariant-loop out₀ statements atom n c₀ i₀ out c i = (i ≤ n) × ((length out ≡ length out₀) × Puts (alternatives_below statements atom i) out₀ c₀ out c)
 
 abbrev decreases-loop : tie.decreases-loop
 decreases-loop out₀ statements atom n c₀ i₀ out c i = n - i
 
 shared-slice-read-n : tie.Need-shared-slice-read-n invariant-loop decreases-loop
-shared-slice-read-n c = omega (arith, some_word isAllowedStatement mostStatements c.before.before.before.args.statements.now c.before.before.before.requires.0)
+shared-slice-read-n c = omega (arith, some_word is_allowed_statement most_statements c.before.before.before.args.statements.now c.before.before.before.requires.0)
 
 cast-n : tie.Need-overflow-cast-n invariant-loop decreases-loop
 cast-n c = omega (arith, c.shared-slice-known2.given 0)
@@ -27,7 +27,7 @@ cast-n c = omega (arith, c.shared-slice-known2.given 0)
 loop-holds : tie.Need-loop-init invariant-loop decreases-loop
 loop-holds c =
     let a = c.before.before.before.args in
-    (omega arith, (refl, below-start a.statements.now a.atom c.before.before.before.requires.1))
+    (omega arith, (refl, below_start a.statements.now a.atom c.before.before.before.requires.1))
 
 put-statement-requires : tie.Need-put-statement-requires invariant-loop decreases-loop
 put-statement-requires c κs = (c.before.before.before.before.before.before.requires.0, (c.before.loop-test.true, c.before.before.loop.invariant.1.1.within))

@@ -1,5 +1,5 @@
 -- The result is the definition's, by what the calls ensure. Assumes nothing.
-use Rattle.spec.specs.Terms.{isBlank}
+use Rattle.spec.specs.Terms.{is_blank}
 use borrow.Author.Rules.{rules}
 use Rattle.terms.proofs.Term.is_blank.Statement.{statement}
 use Rattle.terms.proofs.Term.is_blank.Tie as tie
@@ -11,7 +11,7 @@ number-requires : tie.Need-number-requires
 number-requires c κs = search rules
 
 returns : tie.Need-returns
-unfolding isBlank
+unfolding is_blank
 returns c = cc
 
 pub is-blank-spec : {M : Type 1} → statement M

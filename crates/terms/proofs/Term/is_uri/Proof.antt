@@ -1,5 +1,5 @@
 -- The result is the definition's, by what the calls ensure. Assumes nothing.
-use Rattle.spec.specs.Terms.{isUri}
+use Rattle.spec.specs.Terms.{is_uri}
 use borrow.Author.Rules.{rules}
 use Rattle.terms.proofs.Term.is_uri.Statement.{statement}
 use Rattle.terms.proofs.Term.is_uri.Tie as tie
@@ -11,7 +11,7 @@ number-requires : tie.Need-number-requires
 number-requires c κs = search rules
 
 returns : tie.Need-returns
-unfolding isUri
+unfolding is_uri
 returns c = cc
 
 pub is-uri-spec : {M : Type 1} → statement M

@@ -1,5 +1,5 @@
 -- The result is the definition's, by what the calls ensure. Assumes nothing.
-use Rattle.spec.specs.Terms.{isVariable}
+use Rattle.spec.specs.Terms.{is_variable}
 use borrow.Author.Rules.{rules}
 use Rattle.terms.proofs.Term.is_variable.Statement.{statement}
 use Rattle.terms.proofs.Term.is_variable.Tie as tie
@@ -11,7 +11,7 @@ number-requires : tie.Need-number-requires
 number-requires c κs = search rules
 
 returns : tie.Need-returns
-unfolding isVariable
+unfolding is_variable
 returns c = cc
 
 pub is-variable-spec : {M : Type 1} → statement M
