@@ -58,7 +58,7 @@ module _ (d : Change) {c : Contents} {T : Tables} (X : Fitting c T) (H : Worded 
   held_refused e = update_no_triple d (put c T) t (put_formed X H) e
 
   held_passes : is_triple t ≡ true → Passes (put c T) t
-  held_passes e = record { formed = put_formed X H; is_triple_lem = e; sides = rw s refl }
+  held_passes e = record { formed = put_formed X H; is_triple = e; sides = rw s refl }
 
   -- What changes nothing is idle.
   pub held_idle : is_triple t ≡ true → is_change d t c.explicit ≡ false → update d (put c T) t ≡ outcome Idle (put c T)

@@ -25,7 +25,7 @@ ran T₀ words bytes replies replies' S F K U T R a b c d e g =
     let k : ℕ = length T₀.kept in
     let u : ℕ = length T₀.supports in
     let D = history s f k u R.statement_words R.fact-words R.kept_words (encoded words bytes) in
-    let few : length (reply_words (store_run s f k u (encoded words bytes)).given) ≤ length replies = omega (arith, R.reply_words_lem, replies-length words bytes 0 (length words / 4) (empty_store s f k u)) in
+    let few : length (reply_words (store_run s f k u (encoded words bytes)).given) ≤ length replies = omega (arith, R.reply_words, replies-length words bytes 0 (length words / 4) (empty_store s f k u)) in
     let w : replies' ≡ reply_words (store_run s f k u (encoded words bytes)).given ++ drop (length (reply_words (store_run s f k u (encoded words bytes)).given)) replies = (rw (a, b, c, d) at g) ∙ sets_front (reply_words (store_run s f k u (encoded words bytes)).given) replies few in
     let left : T ≡ (store_run s f k u (encoded words bytes)).after = rw (a, b, c, d) at e in
     record {

@@ -25,13 +25,13 @@ no_yes n b qs e = rw e refl
 -- Questions 1 to 3 are passed.
 pub record Passes (T : Tables) (t : Triple) : Type 0 where
   pub formed : are_formed T ≡ true
-  pub is_triple_lem : is_triple t ≡ true
+  pub is_triple : is_triple t ≡ true
   pub sides : cond (is_statement t) (are_sides_allowed t) true ≡ true
 
 three_passed : {T : Tables} {t : Triple} → Passes T t → (qs : List (ℕ × Bool)) → first_refusal ((1, are_formed T) ∷ (triple_checks t ++ qs)) ≡ first_refusal qs
 three_passed {T} {t} P qs =
     no_yes 1 (are_formed T) (triple_checks t ++ qs) P.formed
-    ∙ no_yes 2 (is_triple t) ((3, cond (is_statement t) (are_sides_allowed t) true) ∷ qs) P.is_triple_lem
+    ∙ no_yes 2 (is_triple t) ((3, cond (is_statement t) (are_sides_allowed t) true) ∷ qs) P.is_triple
     ∙ no_yes 3 (cond (is_statement t) (are_sides_allowed t) true) qs P.sides
 
 -- ---- questions 1 to 3

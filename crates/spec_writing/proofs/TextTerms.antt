@@ -179,8 +179,8 @@ module _ (d : List ℕ) (h : is_dictionary d ≡ true) where
   text_term w s = (term_right w s).back
 
   -- and the text of a text's term is the text.
-  pub term_text_lem : (t : List ℕ) → 0 < term_of (entries d) t → text_of (entries d) (term_of (entries d) t) ≡ t
-  term_text_lem t p = let F = formed d h in word_text (entries d) t F.numbered (numbers_enough (entries d) F.numbers) p
+  pub term_text : (t : List ℕ) → 0 < term_of (entries d) t → text_of (entries d) (term_of (entries d) t) ≡ t
+  term_text t p = let F = formed d h in word_text (entries d) t F.numbered (numbers_enough (entries d) F.numbers) p
 
   -- A term's text is canonical,
   pub text_canonical : (w : ℕ) → has_text (entries d) w ≡ true → is_canonical (text_of (entries d) w) ≡ true

@@ -98,7 +98,7 @@ member_true t L = (is_in_iff t (set_of t L)).0
 
 -- The answers to the questions of an update, where all are yes and it changes something.
 pub record Asked (d : Change) (t : Triple) (T : Tables) : Type 0 where
-  pub is_triple_lem : is_triple t ≡ true
+  pub is_triple : is_triple t ≡ true
   pub passed : first_refusal (triple_checks t) ≡ 0
   pub admitted : is_admitted (capacities_of T) d t (contents_of T).explicit ≡ true
   pub few : length (contents_after d t (contents_of T)).kept ≤ (capacities_of T).kept
@@ -125,7 +125,7 @@ asked d t T e b =
     let q₄ = yes_first 3 admitted ((5, fits) ∷ []) q₃.1 in
     let q₅ = yes_first 4 fits [] q₄.1 in
     record {
-      is_triple_lem = q₂.0;
+      is_triple = q₂.0;
       passed = rw (q₂.0, q₃.0) refl;
       admitted = q₄.0;
       few = fitting_le (contents_after d t c) T (or_right (not (is_change d t c.explicit)) (is_kept_fitting (contents_after d t c) T) q₅.0 (rw b refl));
@@ -170,7 +170,7 @@ add_fitting T t e A b =
     let n = member_false t (contents_of T).explicit (not-true (is_member t (contents_of T).explicit) b) in
     by_test (is_statement t)
     (λ s. statement_fitting Addition T t e s A b)
-    (λ s. fact_enters (formed_fitting T e) t A.passed s (fact_allowed t A.is_triple_lem s) (rw s at n) b A.admitted A.few)
+    (λ s. fact_enters (formed_fitting T e) t A.passed s (fact_allowed t A.is_triple s) (rw s at n) b A.admitted A.few)
 
 -- and any update of a saturated store.
 update_fitting : (d : Change) (T : Tables) (t : Triple) → are_formed T ≡ true → Saturated (contents_of T) → Asked d t T → is_change d t (contents_of T).explicit ≡ true → Fitting (contents_after d t (contents_of T)) T

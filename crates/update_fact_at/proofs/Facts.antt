@@ -59,7 +59,7 @@ module _ {S F K U : List ℕ} (W : FormedStore S F K U) (t : Triple) (a : is_all
 
   passes : Passes (tables S F K U) t
   unfolding is_allowed_fact
-  passes = record { formed = formed_is_store W; is_triple_lem = and_left _ _ a; sides = rw no_statement refl }
+  passes = record { formed = formed_is_store W; is_triple = and_left _ _ a; sides = rw no_statement refl }
 
   -- Whether it is there, by what a search found.
   present : {i : ℕ} → place t (rows F) ≡ At i → is_member t (contents_of (tables S F K U)).explicit ≡ true

@@ -87,7 +87,7 @@ module _ {S F K U : List ℕ} (W : FormedStore S F K U) (t : Triple) (a : is_all
 
   passes : Passes (tables S F K U) t
   unfolding is_allowed_statement
-  passes = record { formed = formed_is_store W; is_triple_lem = and_left _ _ a; sides = rw is_statement_lem (and_right (is_statement t) (are_sides_allowed t) (and_right (is_triple t) _ a)) }
+  passes = record { formed = formed_is_store W; is_triple = and_left _ _ a; sides = rw is_statement_lem (and_right (is_statement t) (are_sides_allowed t) (and_right (is_triple t) _ a)) }
 
   present : {i : ℕ} → place t (rows S) ≡ At i → is_member t (contents_of (tables S F K U)).explicit ≡ true
   unfolding contents_of

@@ -10,7 +10,7 @@ pub record Runnable (T : Tables) (ws replies : List ℕ) : Type 0 where
   pub statement_words : 0 < length T.statements
   pub fact-words : 0 < length T.facts
   pub kept_words : 0 < length T.kept
-  pub reply_words_lem : length ws / 4 * 5 ≤ length replies
+  pub reply_words : length ws / 4 * 5 ≤ length replies
 
 -- A run of encoded calls over what was lent as tables of s, f, k and u words: the replies begin with what the calls gave, the words behind them
 -- being as they were, and demand 3 holds of it.
