@@ -1,4 +1,6 @@
 // Answers, deliveries' results and replies as the numbers that the exported library gives (include/families.h).
+#![tactic(auto)]
+
 ghost use Rattle.std.specs.Prelude.{◌≡◌};
 ghost use Rattle.spec.specs.Outputs.{reply_number, reply_count};
 ghost use Rattle.spec.specs.Updates.{answer_number};

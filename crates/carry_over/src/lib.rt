@@ -1,4 +1,6 @@
 // A store of document 01's form carried over into lent tables of the new form (document 02, slip 5).
+#![tactic(auto)]
+
 ghost use Rattle.std.specs.Prelude.{◌≡◌, length};
 ghost use Rattle.spec.specs.Tables.{tables};
 ghost use Rattle.old_store.specs.CarryingOver.{lengths, zero_tables, carried_tables, carried, carry_over};

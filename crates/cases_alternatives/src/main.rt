@@ -1,4 +1,6 @@
 // Runs document 01's cases about alternatives: prints each reply, and every word of the output, which was all 7 before the call.
+#![tactic(auto)]
+
 ghost use Rattle.std.specs.Prelude.{◌≡◌, ◌≤◌, length, replicate};
 
 use cases_printing::print_replied;

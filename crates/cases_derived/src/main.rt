@@ -1,5 +1,7 @@
 // Prints what each of the two facts of document 01's worked example carries under its five statements: the fact, and below it
 // each row, in decimal.
+#![tactic(auto)]
+
 ghost use Rattle.std.specs.Prelude.{◌*◌, ◌≤◌, length};
 
 use spec::Triple;

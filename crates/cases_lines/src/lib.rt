@@ -1,4 +1,6 @@
 // The lines in which programs with stored output state their cases: where a part of a line ends, and the words that it has.
+#![tactic(auto)]
+
 ghost use Rattle.std.specs.Prelude.{◌≤◌, length};
 
 // Where a byte comes first, from a place on: the end of the text, if it does not come.

@@ -1,4 +1,6 @@
 // Runs cases about listings: prints each reply, and every word of the output, which was all 7 before the call.
+#![tactic(auto)]
+
 ghost use Rattle.std.specs.Prelude.{◌≤◌};
 
 use cases_printing::print_replied;

@@ -1,5 +1,7 @@
 // Runs cases about reading N-Triples (document 02, slip 1): prints each reply, and every byte of the dictionary and of the delivery, which
 // was all 7 before the call.
+#![tactic(auto)]
+
 ghost use Rattle.std.specs.Prelude.{◌≤◌, length};
 
 use cases_lines::{find, read_words};

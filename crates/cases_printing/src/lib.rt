@@ -1,4 +1,6 @@
 // What the programs of cases print of a call: its reply, and every word or byte of what was lent to it for output.
+#![tactic(auto)]
+
 ghost use Rattle.std.specs.Prelude.{◌<◌};
 
 use spec::Reply;

@@ -1,5 +1,7 @@
 // Runs the cases of documents 01 and 02 about questions, by both ways: prints each reply, and every word of the output, which
 // was all 7 before the call.
+#![tactic(auto)]
+
 ghost use Rattle.std.specs.Prelude.{◌≤◌};
 
 use cases_lines::{find, read_words};

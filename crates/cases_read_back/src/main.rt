@@ -1,5 +1,7 @@
 // Runs cases about rows that are read, kept, written as N-Triples and read back (document 02, slip 3): prints each reply, and every byte of each
 // delivery, which was all 7 before the call.
+#![tactic(auto)]
+
 ghost use Rattle.std.specs.Prelude.{◌≤◌, length};
 
 use cases_printing::print_filled;

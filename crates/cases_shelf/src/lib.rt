@@ -1,4 +1,5 @@
 // The tables of document 01's worked example, for programs with stored output.
+#![tactic(auto)]
 
 // Its statements.
 pub const STATEMENTS: [u32; 16] = [5, 16, 2, 17, 17, 2, 18, 19, 3, 20, 20, 4, 17, 20, 5, 16];

@@ -1,9 +1,11 @@
 // A store's three tables, each written as N-Triples, for programs with stored output.
+#![tactic(auto)]
+
 use ntriples_write::{write_facts, write_kept, write_statements};
 use spec_ntriples::ByteReply;
 
 // The tables whose rows are written.
-#[derive(Drop)]
+#[derive(Clone, Copy)]
 pub enum Rows {
     Statements,
     Facts,

@@ -1,4 +1,6 @@
 // Runs document 01's cases about updates: prints each answer, and the kept rows with their supports after each case.
+#![tactic(auto)]
+
 ghost use Rattle.std.specs.Prelude.{◌*◌, ◌≤◌};
 
 use report_store::{no_facts, no_kept, no_statements, no_supports};

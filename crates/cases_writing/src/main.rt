@@ -1,5 +1,7 @@
 // Runs cases about rows written as N-Triples (document 02, slip 3): prints each reply, and every byte of the output, which was all 7 before the
 // call.
+#![tactic(auto)]
+
 ghost use Rattle.std.specs.Prelude.{◌≤◌};
 
 use cases_lines::{find, read_words};

@@ -1,4 +1,6 @@
 // The words of a closure before its bits written: the counts and the terms of the columns.
+#![tactic(auto)]
+
 ghost use Rattle.std.specs.Prelude.{◌≡◌, ℕ, ◌^◌, ◌≤◌, ◌<◌, length, get_or};
 ghost use Rattle.closure_words.specs.inside.Layout.{classes_of, columns_of, bit_at};
 ghost use Rattle.closure_columns.specs.inside.Headed.{Headed};

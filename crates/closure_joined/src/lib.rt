@@ -1,4 +1,6 @@
 // All that the subject of a subclass or subproperty statement leads to, gathered from words that hold the closed pairs.
+#![tactic(auto)]
+
 ghost use Rattle.std.specs.Prelude.{◌≡◌, List, ℕ, ◌≤◌, ◌<◌, length};
 ghost use Rattle.closure_words.specs.inside.Layout.{Shaped};
 ghost use Rattle.closure_words.specs.inside.Closure.{IsStated, IsClosure};

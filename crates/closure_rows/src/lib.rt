@@ -1,4 +1,6 @@
 // Rows of bits in the words of a closure: what a row gains, and a row that gets it, 32 columns at a time.
+#![tactic(auto)]
+
 ghost use Rattle.std.specs.Prelude.{◌≡◌, ◌≤◌, ◌<◌, length};
 ghost use Rattle.saturate_schema.specs.inside.Squares.{Joined, Gained};
 ghost use Rattle.closure_words.specs.inside.Layout.{bit_at};

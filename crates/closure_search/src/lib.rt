@@ -1,4 +1,6 @@
 // The column of a term, looked up in words that hold the closed pairs.
+#![tactic(auto)]
+
 ghost use Rattle.closure_words.specs.inside.Layout.{first_column, end_column, Shaped};
 ghost use Rattle.closure_search.specs.inside.Search.{Placed, ColumnFor};
 

@@ -1,5 +1,7 @@
 // The rows of a closure closed, one statement at a time: which columns each statement's subject leads to by one or more subclass or
 // subproperty statements.
+#![tactic(auto)]
+
 ghost use Rattle.std.specs.Prelude.{◌≡◌, ℕ, ◌+◌, ◌*◌, ◌≤◌, ◌<◌, length};
 ghost use Rattle.table.specs.inside.Bounds.{Tells};
 ghost use Rattle.saturate_schema.specs.inside.Nodes.{edges, Columns};

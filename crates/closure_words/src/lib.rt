@@ -1,5 +1,7 @@
 // What the subject of a subclass or subproperty statement leads to, looked up in words that hold the closed pairs: how many columns are
 // classes, how many there are, the terms of the columns, and for each statement a bit for each column.
+#![tactic(auto)]
+
 ghost use Rattle.std.specs.Prelude.{◌≡◌, ◌<◌, length};
 ghost use Rattle.table.specs.inside.Bounds.{Tells};
 ghost use Rattle.closure_words.specs.inside.Layout.{bit_at, first_column, end_column, Shaped};

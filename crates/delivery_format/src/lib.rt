@@ -1,4 +1,6 @@
 // Deliveries as bytes (document 01, "Deliveries").
+#![tactic(auto)]
+
 ghost use Rattle.std.specs.Prelude.{◌≡◌, true, ◌+◌, ◌*◌, ◌^◌, ◌≤◌, ◌<◌, length, get_or};
 ghost use Rattle.spec.specs.Lists.{all};
 ghost use Rattle.spec.specs.Deliveries.{are_sections_right};

@@ -1,4 +1,6 @@
 // The delivery number, among the extra fields of a delivery's bytes (document 01, "Deliveries").
+#![tactic(auto)]
+
 ghost use Rattle.std.specs.Prelude.{◌≡◌, true, ◌≤◌};
 ghost use Rattle.spec.specs.Deliveries.{number_fields, is_number_right, number_of};
 ghost use Rattle.spec.specs.computed.Decoded.{fields_end, read, is_whole};
@@ -12,7 +14,7 @@ pub const NUMBER_TAG: usize = 1;
 pub const NUMBER_LENGTH: usize = 4;
 
 // Some extra fields: the index where the first begins, and how many there are.
-#[derive(Drop)]
+#[derive(Clone, Copy)]
 pub struct Fields {
     pub at: usize,
     pub count: usize,

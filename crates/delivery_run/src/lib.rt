@@ -1,4 +1,6 @@
 // Deliveries run over a store in lent tables (document 01, "Deliveries").
+#![tactic(auto)]
+
 ghost use Rattle.std.specs.Prelude.{◌≡◌, true};
 ghost use Rattle.spec.specs.inside.Laid.{FormedStore};
 ghost use Rattle.spec.specs.Tables.{tables};

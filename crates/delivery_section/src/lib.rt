@@ -1,4 +1,6 @@
 // The entries of a section, run in order (document 01, "Deliveries").
+#![tactic(auto)]
+
 ghost use Rattle.std.specs.Prelude.{◌≡◌, true};
 ghost use Rattle.spec.specs.Tables.{tables, are_formed};
 ghost use Rattle.spec.specs.Lists.{all};

@@ -1,4 +1,6 @@
 // The highest support of a store's kept facts.
+#![tactic(auto)]
+
 ghost use Rattle.std.specs.Prelude.{◌≡◌, ◌≤◌, ◌<◌, max, length, take};
 ghost use Rattle.delivery_supports.specs.inside.Highest.{highest};
 

@@ -1,4 +1,6 @@
 // Tallies that rise as entries of a delivery are dealt with (document 01, "Deliveries").
+#![tactic(auto)]
+
 ghost use Rattle.std.specs.Prelude.{◌≡◌, ◌+◌, ◌^◌, ◌<◌};
 ghost use Rattle.spec.specs.Deliveries.{tally, tallied};
 ghost use Rattle.delivery_tally.specs.inside.Totals.{total};

@@ -1,4 +1,6 @@
 // Question 9: whether a delivery is whole, by a reader that walks the extra fields (document 01, "Deliveries").
+#![tactic(auto)]
+
 ghost use Rattle.std.specs.Prelude.{◌≡◌, ◌^◌, ◌<◌};
 ghost use Rattle.spec.specs.computed.Decoded.{fields_end, is_whole};
 ghost use Rattle.delivery_walk.specs.inside.Walked.{counted_end};
@@ -32,7 +34,7 @@ fn counted_end(bytes: &[u8], at: usize) -> usize
 }
 
 // A reader of a delivery: its bytes, and the cursor, the index of the byte that is read next.
-#[derive(Drop)]
+#[derive(Clone, Copy)]
 struct Reader<'a> {
     bytes: &'a [u8],
     at: usize,

@@ -1,4 +1,6 @@
 // A section of facts that are withdrawn: each can spoil the store.
+#![tactic(auto)]
+
 ghost use Rattle.std.specs.Prelude.{◌≡◌, true, ◌≤◌, take};
 ghost use Rattle.spec.specs.Tables.{tables, are_formed, count};
 ghost use Rattle.spec.specs.Lists.{all};
@@ -15,7 +17,7 @@ use delivery_tally::{refused, tallied};
 use spec::{Answer, Change, Tally, Triple};
 
 // A fact's withdrawal: its answer, a bound of the supports after it, and whether the store is well formed still.
-#[derive(Drop)]
+#[derive(Clone, Copy)]
 struct WithdrawnFact {
     pub answer: Answer,
     pub bound: usize,
@@ -23,7 +25,7 @@ struct WithdrawnFact {
 }
 
 // Facts' withdrawals: the tallies after them, and whether the store is well formed still.
-#[derive(Drop)]
+#[derive(Clone, Copy)]
 pub struct Withdrawals {
     pub counted: Tally,
     pub formed: bool,

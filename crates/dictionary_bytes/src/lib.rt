@@ -1,4 +1,6 @@
 // Texts and entries in the bytes of a dictionary.
+#![tactic(auto)]
+
 ghost use Rattle.std.specs.Prelude.{◌≡◌, ◌+◌, ◌^◌, ◌≤◌, ◌<◌, length, take, drop};
 ghost use Rattle.spec_ntriples.specs.Texts.{is_same_text};
 ghost use Rattle.spec_ntriples.specs.Dictionary.{bytes_number, front_term};
@@ -8,7 +10,7 @@ ghost use Rattle.dictionary_bytes.specs.inside.Entries.{length_at, text_at};
 pub const HEADER: usize = 12;
 
 // How far a dictionary is filled: the index behind its last entry, and the next number of each kind.
-#[derive(Drop)]
+#[derive(Clone, Copy)]
 pub struct Filled {
     pub end: usize,
     pub uris: u32,

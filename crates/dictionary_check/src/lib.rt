@@ -1,4 +1,6 @@
 // Question 1 for a dictionary: whether lent bytes are one, and how far it is filled.
+#![tactic(auto)]
+
 ghost use Rattle.std.specs.Prelude.{◌≡◌, drop};
 ghost use Rattle.spec.specs.Tables.{are_zero};
 ghost use Rattle.dictionary_walk.specs.inside.Walked.{Walked};

@@ -1,4 +1,6 @@
 // Whether the texts of a dictionary's entries differ: segment by segment, each against the entries behind it, without comparing all pairs.
+#![tactic(auto)]
+
 ghost use Rattle.std.specs.Prelude.{◌<◌};
 ghost use Rattle.dictionary_index.specs.inside.Index.{AreEntries};
 ghost use Rattle.dictionary_distinct.specs.inside.Distinct.{IsApart, AreDistinct};
@@ -8,7 +10,7 @@ use dictionary_repeats::are_repeated;
 use dictionary_slots::no_slots;
 
 // What is found of a segment of entries: a text that repeats, or the index behind it, where no text of it stands in an entry behind.
-#[derive(Drop)]
+#[derive(Clone, Copy)]
 pub enum Apart {
     Repeated,
     Until(usize),

@@ -1,4 +1,6 @@
 // The hashes of texts, and the slots of an index where searches begin.
+#![tactic(auto)]
+
 ghost use Rattle.std.specs.Prelude.{◌≡◌, ◌+◌, ◌≤◌, ◌<◌, length, take, drop};
 ghost use Rattle.dictionary_hash.specs.inside.Hashes.{hash_on, hash_from, slot_of};
 

@@ -1,4 +1,6 @@
 // The index of a segment of a dictionary's entries: words that lead from a text to its entry, by open addressing without wrapping around.
+#![tactic(auto)]
+
 ghost use Rattle.std.specs.Prelude.{◌≡◌, ℕ, ◌+◌, ◌≤◌, length, take, drop};
 ghost use Rattle.spec_ntriples.specs.Texts.{Text, is_same_text};
 ghost use Rattle.ntriples_bytes.specs.inside.Places.{HasText};
@@ -11,7 +13,7 @@ use dictionary_hash::{hash_from, slot_of};
 use ntriples_text_same::is_text;
 
 // Where a search ends: at the entry that has the text, at an empty slot, or past the last slot.
-#[derive(Drop)]
+#[derive(Clone, Copy)]
 pub enum Search {
     Found(usize),
     Free(usize),
@@ -19,7 +21,7 @@ pub enum Search {
 }
 
 // What entering an entry does: its text is new; an entry at a byte index has it already; or no slot is left for it.
-#[derive(Drop)]
+#[derive(Clone, Copy)]
 pub enum Entered {
     New,
     Known(usize),
@@ -27,7 +29,7 @@ pub enum Entered {
 }
 
 // A segment of a dictionary's entries: how many there are, the index behind the last, and whether the entry there repeats a text.
-#[derive(Drop)]
+#[derive(Clone, Copy)]
 pub struct Segment {
     pub count: usize,
     pub end: usize,

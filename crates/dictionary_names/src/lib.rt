@@ -1,4 +1,6 @@
 // The terms of texts: one text against the last segment of a dictionary, in which it is entered if it is new.
+#![tactic(auto)]
+
 ghost use Rattle.std.specs.Prelude.{◌≡◌, List, ℕ, ◌+◌, ◌≤◌, ◌<◌, leb};
 ghost use Rattle.spec_ntriples.specs.Texts.{Text};
 ghost use Rattle.spec_ntriples.specs.Dictionary.{Entry};
@@ -17,7 +19,7 @@ use ntriples_text_kind::kind_of;
 
 // What naming a text gives: the term of an entry that has it; a new term, and how far the dictionary is filled then; that a new segment has to
 // begin; or that there is no space for the text.
-#[derive(Drop)]
+#[derive(Clone, Copy)]
 pub enum Named {
     Known(u32),
     New(u32, Filled),

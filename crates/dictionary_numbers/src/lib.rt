@@ -1,4 +1,6 @@
 // The next numbers of a dictionary's kinds, while entries are added or asked.
+#![tactic(auto)]
+
 ghost use Rattle.std.specs.Prelude.{◌≡◌, ◌<◌, ◌^◌};
 ghost use Rattle.dictionary_numbers.specs.inside.Numbers.{number_of, raised};
 

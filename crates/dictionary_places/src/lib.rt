@@ -1,5 +1,7 @@
 // The entries of a dictionary by their terms. For each kind the byte indexes of 16,384 entries at most are kept, one for every so many, and the
 // entry of a term is found by a walk from the last kept one of its kind that is not behind it.
+#![tactic(auto)]
+
 ghost use Rattle.std.specs.Prelude.{◌≡◌, true, ◌+◌, ◌≤◌, ◌<◌, length};
 ghost use Rattle.spec_ntriples.specs.Dictionary.{entries, is_dictionary};
 ghost use Rattle.spec_ntriples.specs.Sights.{text_in};

@@ -1,5 +1,7 @@
 // Which terms have entries in a dictionary, and which slot is for the place of a term's entry. For each kind 16,384 places at most are kept, one
 // for every so many entries.
+#![tactic(auto)]
+
 ghost use Rattle.std.specs.Prelude.{◌≡◌, true, List, ℕ, ◌≤◌, ◌<◌, ltb, length};
 ghost use Rattle.spec.specs.Terms.{kind, number};
 ghost use Rattle.spec_ntriples.specs.Dictionary.{entries, is_dictionary, first_number};

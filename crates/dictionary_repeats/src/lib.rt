@@ -1,4 +1,6 @@
 // Whether the texts of entries stand in an indexed segment before them.
+#![tactic(auto)]
+
 ghost use Rattle.std.specs.Prelude.{ℕ, ◌+◌, ◌≤◌, length};
 ghost use Rattle.dictionary_bytes.specs.inside.Entries.{length_at};
 ghost use Rattle.dictionary_index.specs.inside.Index.{LeadWithin, Index, AreEntries};

@@ -1,4 +1,6 @@
 // A text searched for in the index of one segment of a dictionary's entries, and the term of the entry that has it.
+#![tactic(auto)]
+
 ghost use Rattle.std.specs.Prelude.{◌≡◌, List};
 ghost use Rattle.spec_ntriples.specs.Texts.{Text};
 ghost use Rattle.spec_ntriples.specs.Dictionary.{Entry, term_in};

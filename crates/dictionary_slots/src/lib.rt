@@ -1,4 +1,6 @@
 // The slots of an index of no entries.
+#![tactic(auto)]
+
 ghost use Rattle.std.specs.Prelude.{◌≡◌, length};
 ghost use Rattle.dictionary_index.specs.inside.Index.{AreZero};
 

@@ -1,4 +1,6 @@
 // Question 1 for a dictionary, one entry at a time: whether the entry that comes behind those that are right is right too.
+#![tactic(auto)]
+
 ghost use Rattle.std.specs.Prelude.{◌≤◌, length};
 ghost use Rattle.dictionary_step.specs.inside.Filling.{Filling, Comes, IsEntry, IsStep};
 
@@ -7,7 +9,7 @@ use dictionary_numbers::{NUMBERS, filled_on, number_of};
 use dictionary_texts::{is_own_text, text_kind};
 
 // What question 1 says of bytes: they are no dictionary, or they are, filled so far.
-#[derive(Drop)]
+#[derive(Clone, Copy)]
 pub enum Checked {
     Wrong,
     Right(Filled),

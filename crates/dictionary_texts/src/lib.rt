@@ -1,4 +1,6 @@
 // The texts of a dictionary's entries: whether a text is canonical, its kind, and whether it is one of the vocabulary.
+#![tactic(auto)]
+
 ghost use Rattle.std.specs.Prelude.{◌≡◌, true, ◌&&◌, eqb};
 ghost use Rattle.spec_ntriples.specs.Dictionary.{vocabulary_of, kind_of};
 ghost use Rattle.spec_ntriples.specs.computed.Canonical.{is_canonical};

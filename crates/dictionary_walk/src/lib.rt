@@ -1,4 +1,6 @@
 // The entries of a dictionary asked one by one, and how far it is filled by them.
+#![tactic(auto)]
+
 ghost use Rattle.dictionary_walk.specs.inside.Walked.{IsWalk};
 
 use dictionary_bytes::Filled;

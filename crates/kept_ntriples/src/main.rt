@@ -1,5 +1,7 @@
 // Reads N-Triples on standard input and delivers their triples to an empty store. Prints the kept facts as N-Triples, and on standard error
 // the delivery's result or why there is none (document 02, slips 1 and 3).
+#![tactic(auto)]
+
 use libc::{STDERR_FILENO, STDIN_FILENO, STDOUT_FILENO};
 
 fn main() {

@@ -1,4 +1,6 @@
 // One call, encoded in lent words, run over lent tables by the store's own entries (document 01, "The ledger").
+#![tactic(auto)]
+
 ghost use Rattle.std.specs.Prelude.{◌≡◌, min, take, drop};
 ghost use Rattle.spec.specs.Tables.{tables};
 ghost use Rattle.spec.specs.Deliveries.{deliver};

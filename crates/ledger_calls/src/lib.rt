@@ -1,4 +1,6 @@
 // Calls, encoded in lent words, run one after the other over lent tables, with their replies written to lent words.
+#![tactic(auto)]
+
 ghost use Rattle.std.specs.Prelude.{◌≡◌, ◌+◌, ◌*◌, ◌/◌, ◌≤◌, length};
 ghost use Rattle.std.proofs.lemmas.List.Edits.{sets};
 ghost use Rattle.spec.specs.Tables.{tables};

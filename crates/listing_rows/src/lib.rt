@@ -1,4 +1,6 @@
 // The rows of a table written with their columns in one of the six orders, and sorted.
+#![tactic(auto)]
+
 ghost use Rattle.std.specs.Prelude.{◌≡◌, map, ◌+◌, ◌*◌, ◌≤◌, ◌<◌, length, replicate};
 ghost use Rattle.spec.specs.Tables.{count, rows};
 ghost use Rattle.spec.specs.Outputs.{filled};

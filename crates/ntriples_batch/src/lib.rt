@@ -1,4 +1,6 @@
 // The lines of a document that have a triple: where they begin, and the places of their terms.
+#![tactic(auto)]
+
 ghost use Rattle.std.specs.Prelude.{◌≡◌, List, ◌+◌, ◌-◌, ◌≤◌, ◌<◌, length, take, drop};
 ghost use Rattle.spec_ntriples.specs.computed.Decoded.{decode};
 ghost use Rattle.spec_ntriples.specs.Texts.{TextTriple};
@@ -11,7 +13,7 @@ use ntriples_document::line_of;
 use ntriples_lines::{Line, Token, Tokens, read_line};
 
 // Some lines of a document that have a triple: how many, and where the line behind them begins.
-#[derive(Drop)]
+#[derive(Clone, Copy)]
 pub struct Batch {
     pub count: usize,
     pub next: usize,

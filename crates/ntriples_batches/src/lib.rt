@@ -1,4 +1,6 @@
 // The lines of a whole file against a dictionary, batch by batch.
+#![tactic(auto)]
+
 ghost use Rattle.std.specs.Prelude.{◌≡◌, List, length};
 ghost use Rattle.spec_ntriples.specs.Texts.{TextTriple};
 ghost use Rattle.spec_ntriples.specs.computed.Lines.{triples, document};

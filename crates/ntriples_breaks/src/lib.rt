@@ -1,4 +1,6 @@
 // The lines of some bytes: where one ends, and where the next begins.
+#![tactic(auto)]
+
 ghost use Rattle.std.specs.Prelude.{◌≡◌, ◌+◌, ◌≤◌, length, drop};
 ghost use Rattle.ntriples_breaks.specs.inside.Breaks.{line_length, IsNext};
 

@@ -1,4 +1,6 @@
 // Characters in bytes of UTF-8.
+#![tactic(auto)]
+
 ghost use Rattle.std.specs.Prelude.{◌≡◌, List, ◌∷◌, ℕ, ◌<◌, length, get_or};
 ghost use Rattle.spec_ntriples.specs.computed.Decoded.{decode, decode_from, first_byte};
 ghost use Rattle.ntriples_bytes.specs.inside.Places.{Utf8From, Marks};
@@ -13,14 +15,14 @@ const LOWEST: u8 = 0x80;
 const HIGHEST: u8 = 0xBF;
 
 // The character that stands at an index, and the index behind it.
-#[derive(Drop)]
+#[derive(Clone, Copy)]
 pub struct Mark {
     pub code: u32,
     pub next: usize,
 }
 
 // What is open inside a character: that it is broken; or how many bytes are due, and the range of the next.
-#[derive(Drop)]
+#[derive(Clone, Copy)]
 pub enum Open {
     Broken,
     Due(u8, u8, u8),

@@ -1,4 +1,6 @@
 // The sets of characters in the grammar of N-Triples (RDF 1.1 N-Triples, section 7), and of schemes.
+#![tactic(auto)]
+
 ghost use Rattle.std.specs.Prelude.{◌≡◌, ◌||◌, ◌≤◌};
 ghost use Rattle.spec_ntriples.specs.Utf8.{is_scalar};
 ghost use Rattle.spec_ntriples.specs.Characters.{is_one_of, codes, is_letter, is_digit, is_letter_or_digit, is_iri_char, is_string_char, is_pn_chars_base, is_pn_chars_u, is_pn_chars, hex_value, no_char, echar};

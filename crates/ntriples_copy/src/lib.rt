@@ -1,4 +1,6 @@
 // Lent bytes written: texts copied from other bytes, those of the vocabulary, and zeros behind them.
+#![tactic(auto)]
+
 ghost use Rattle.std.specs.Prelude.{◌≡◌, ◌+◌, ◌-◌, ◌≤◌, length, take, drop, replicate};
 ghost use Rattle.std.proofs.lemmas.List.Edits.{sets};
 ghost use Rattle.ntriples_copy.specs.inside.Vocabulary.{vocabulary_text};

@@ -1,4 +1,6 @@
 // The delivery that a reading gives: additions, from the terms of the lines' triples.
+#![tactic(auto)]
+
 ghost use Rattle.std.specs.Prelude.{◌≡◌, ◌+◌, ◌*◌, ◌≤◌, length};
 ghost use Rattle.spec.specs.Tables.{first_rows};
 ghost use Rattle.spec.specs.Lists.{padded};

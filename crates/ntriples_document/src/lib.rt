@@ -1,4 +1,6 @@
 // A document of N-Triples in bytes: whether its lines are right, and how many triples they have.
+#![tactic(auto)]
+
 ghost use Rattle.std.specs.Prelude.{◌≡◌};
 ghost use Rattle.spec_ntriples.specs.computed.Decoded.{decode};
 ghost use Rattle.spec_ntriples.specs.computed.Lines.{document};
@@ -10,7 +12,7 @@ use ntriples_bytes::is_utf8;
 use ntriples_lines::{Line, read_line};
 
 // A document: refused, or with so many triples.
-#[derive(Drop)]
+#[derive(Clone, Copy)]
 pub enum Counted {
     Refused,
     Triples(usize),

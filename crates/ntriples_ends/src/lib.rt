@@ -1,4 +1,6 @@
 // Where the terms of N-Triples end in bytes of UTF-8.
+#![tactic(auto)]
+
 ghost use Rattle.std.specs.Prelude.{List, ℕ};
 ghost use Rattle.spec_ntriples.specs.computed.Terminals.{outside, string_step, scan, skip};
 ghost use Rattle.spec_ntriples.specs.Texts.{Text};

@@ -1,4 +1,6 @@
 // What is asked of rows before they are written with a dictionary's texts: that each of their terms has one.
+#![tactic(auto)]
+
 ghost use Rattle.std.specs.Prelude.{◌≡◌, true, List, ℕ};
 ghost use Rattle.spec.specs.Lists.{all};
 ghost use Rattle.spec.specs.Tables.{rows};

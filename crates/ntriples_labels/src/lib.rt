@@ -1,4 +1,6 @@
 // The labels of blank nodes and the tags of languages in bytes of UTF-8: where each ends.
+#![tactic(auto)]
+
 ghost use Rattle.std.specs.Prelude.{◌≡◌, true, ◌||◌};
 ghost use Rattle.spec_ntriples.specs.Characters.{is_digit, is_pn_chars_u};
 ghost use Rattle.spec_ntriples.specs.computed.Terminals.{label, head_is, tag};

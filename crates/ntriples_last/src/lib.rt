@@ -1,4 +1,6 @@
 // A batch of lines against the last segment of a dictionary: the terms of its texts, and an entry for each that has none.
+#![tactic(auto)]
+
 ghost use Rattle.std.specs.Prelude.{List};
 ghost use Rattle.spec_ntriples.specs.Texts.{TextTriple};
 ghost use Rattle.spec_ntriples.specs.Dictionary.{Entry};
@@ -11,7 +13,7 @@ use ntriples_naming::{Last, Progress};
 use ntriples_terms::find_terms;
 
 // What naming a batch in a segment gives: all texts have terms; or one has no space; or the next segment begins at an index.
-#[derive(Drop)]
+#[derive(Clone, Copy)]
 pub enum Step {
     Done(Filled),
     Lacks(Filled),

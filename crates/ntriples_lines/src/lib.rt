@@ -1,4 +1,6 @@
 // A line of N-Triples in bytes of UTF-8: whether it is wrong, empty or has a triple, and where the triple's terms stand.
+#![tactic(auto)]
+
 ghost use Rattle.std.specs.Prelude.{◌≡◌, true, List, ℕ};
 ghost use Rattle.spec_ntriples.specs.computed.Decoded.{decoded, decode};
 ghost use Rattle.spec_ntriples.specs.computed.Terminals.{skip};
@@ -12,14 +14,14 @@ use ntriples_ends::{object_end, subject_end};
 use ntriples_terminals::{Found, iri_end, mark_end, skip};
 
 // The place of a term in a line: from its first byte to the one behind its last.
-#[derive(Drop)]
+#[derive(Clone, Copy)]
 pub struct Token {
     pub from: usize,
     pub end: usize,
 }
 
 // The places of a triple's terms.
-#[derive(Drop)]
+#[derive(Clone, Copy)]
 pub struct Tokens {
     pub subject: Token,
     pub property: Token,
@@ -27,7 +29,7 @@ pub struct Tokens {
 }
 
 // A line: one that breaks the grammar, one with no triple, or one with a triple.
-#[derive(Drop)]
+#[derive(Clone, Copy)]
 pub enum Line {
     Wrong,
     Empty,

@@ -1,4 +1,6 @@
 // The texts of the lines of a batch get their terms in the last segment of a dictionary, in the order of the lines.
+#![tactic(auto)]
+
 ghost use Rattle.std.specs.Prelude.{◌≡◌, List, ◌+◌, ◌*◌, ◌<◌, length, get_or};
 ghost use Rattle.spec_ntriples.specs.Texts.{TextTriple};
 ghost use Rattle.spec_ntriples.specs.Dictionary.{Entry};

@@ -1,4 +1,6 @@
 // The texts of a line get their terms in the last segment of a dictionary, in order: subject, property, object.
+#![tactic(auto)]
+
 ghost use Rattle.std.specs.Prelude.{◌≡◌, List, ◌+◌, ◌≤◌, ◌<◌, length, get_or};
 ghost use Rattle.spec_ntriples.specs.Texts.{Text};
 ghost use Rattle.spec_ntriples.specs.Dictionary.{Entry};
@@ -11,14 +13,14 @@ use dictionary_names::{Named, name_text};
 use ntriples_lines::{Token, Tokens};
 
 // The last segment of a dictionary: how many entries it has, and how far the dictionary is filled.
-#[derive(Drop)]
+#[derive(Clone, Copy)]
 pub struct Last {
     pub count: usize,
     pub filled: Filled,
 }
 
 // How far naming came: it goes on; it stopped at a text that finds the segment full; or at one that has no space in the dictionary.
-#[derive(Drop)]
+#[derive(Clone, Copy)]
 pub enum Progress {
     Going(Last),
     Full(Last),

@@ -1,4 +1,6 @@
 // Bytes of IRIs and strings that stand for themselves in canonical text, as most do.
+#![tactic(auto)]
+
 ghost use Rattle.std.specs.Prelude.{◌≡◌};
 ghost use Rattle.ntriples_own.specs.inside.Own.{is_but, is_own};
 

@@ -1,4 +1,6 @@
 // The characters of IRIs and strings in bytes, escapes resolved.
+#![tactic(auto)]
+
 ghost use Rattle.std.specs.Prelude.{◌≡◌, true, ◌&&◌, cond, ℕ, ◌≤◌, ◌<◌, length, ltb};
 ghost use Rattle.spec_ntriples.specs.Utf8.{is_scalar};
 ghost use Rattle.spec_ntriples.specs.computed.Terminals.{State, outside, slash, digits, scan};
@@ -12,7 +14,7 @@ use ntriples_chars::{
 
 // What stands at an index of an IRI or a string: nothing that may; its closing mark, with the index behind; or a character, as it is or
 // as an escape, with the index behind.
-#[derive(Drop)]
+#[derive(Clone, Copy)]
 pub enum Piece {
     Broken,
     Ends(usize),

@@ -1,4 +1,6 @@
 // N-Triples read with a dictionary into a delivery.
+#![tactic(auto)]
+
 ghost use Rattle.std.specs.Prelude.{◌≡◌, ◌+◌, ◌*◌, min, length, leb};
 ghost use Rattle.spec.specs.Messages.{most_bytes};
 ghost use Rattle.spec_ntriples.specs.Reading.{read_file, read_nTriples};

@@ -1,4 +1,6 @@
 // The texts and ends of lines, put into an output where they fit.
+#![tactic(auto)]
+
 ghost use Rattle.std.specs.Prelude.{◌++◌, ◌+◌, ◌≤◌, length};
 ghost use Rattle.spec_ntriples.specs.Characters.{codes};
 ghost use Rattle.dictionary_bytes.specs.inside.Entries.{length_at, text_at};

@@ -1,5 +1,7 @@
 // Rows written as lines of N-Triples: the texts of their terms, copied from a dictionary. Each text is looked up once, so that whether the lines fit
 // is seen only as they are written.
+#![tactic(auto)]
+
 ghost use Rattle.std.specs.Prelude.{◌≡◌, true, ◌++◌, ◌≤◌, length};
 ghost use Rattle.spec.specs.Lists.{all};
 ghost use Rattle.spec.specs.Tables.{rows};

@@ -1,4 +1,6 @@
 // A section of the delivery that a reading gives: the statements or the facts among the lines' triples.
+#![tactic(auto)]
+
 mod bytes; // bytes.rt: numbers, words and entries written as bytes
 
 ghost use Rattle.std.specs.Prelude.{◌≡◌, ◌+◌, ◌*◌, ◌≤◌, length};

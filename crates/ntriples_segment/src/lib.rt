@@ -1,4 +1,6 @@
 // A batch of lines against one segment of a dictionary.
+#![tactic(auto)]
+
 ghost use Rattle.std.specs.Prelude.{List};
 ghost use Rattle.spec_ntriples.specs.Texts.{TextTriple};
 ghost use Rattle.spec_ntriples.specs.Dictionary.{Entry};

@@ -1,4 +1,6 @@
 // A batch of lines against a whole dictionary, segment by segment: the terms of its texts, and an entry for each that has none.
+#![tactic(auto)]
+
 ghost use Rattle.std.specs.Prelude.{List};
 ghost use Rattle.spec_ntriples.specs.Texts.{TextTriple};
 ghost use Rattle.spec_ntriples.specs.Dictionary.{Entry};
@@ -12,7 +14,7 @@ use ntriples_segment::name_segment;
 use ntriples_terms::name_vocabulary;
 
 // What naming a batch gives: how far the dictionary is filled; or, where a text has no space, how far it was filled before that.
-#[derive(Drop)]
+#[derive(Clone, Copy)]
 pub enum Batched {
     Named(Filled),
     NoSpace(Filled),

@@ -1,4 +1,6 @@
 // The terminals of N-Triples in bytes of UTF-8: where each ends.
+#![tactic(auto)]
+
 ghost use Rattle.std.specs.Prelude.{true, false, ◌<◌, eqb};
 ghost use Rattle.spec_ntriples.specs.computed.Terminals.{outside, string_step, scan, skip};
 ghost use Rattle.spec_ntriples.specs.Texts.{is_scheme, is_absolute};
@@ -12,7 +14,7 @@ use ntriples_chars::{is_letter, is_scheme_char};
 use ntriples_pieces::{Piece, is_plain, piece_at};
 
 // Where something ends; or nothing, where it does not stand there.
-#[derive(Drop)]
+#[derive(Clone, Copy)]
 pub enum Found {
     Nothing,
     End(usize),

@@ -1,4 +1,6 @@
 // The terms of the lines of a batch: those of the vocabulary, and those found in a segment of a dictionary.
+#![tactic(auto)]
+
 ghost use Rattle.std.specs.Prelude.{◌≡◌, List};
 ghost use Rattle.spec_ntriples.specs.Texts.{Text, TextTriple};
 ghost use Rattle.spec_ntriples.specs.Dictionary.{Entry, vocabulary_of};

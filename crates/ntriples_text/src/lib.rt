@@ -1,4 +1,6 @@
 // The canonical text of a term that stands in a line: its length and its hash.
+#![tactic(auto)]
+
 ghost use Rattle.std.specs.Prelude.{◌≡◌, ◌+◌, ◌≤◌, ◌<◌, length, take};
 ghost use Rattle.spec_ntriples.specs.Texts.{Text};
 ghost use Rattle.ntriples_bytes.specs.inside.Places.{HasText};

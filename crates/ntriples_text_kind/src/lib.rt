@@ -1,4 +1,6 @@
 // The kind of a term that stands in a line, and the vocabulary URI that it is.
+#![tactic(auto)]
+
 ghost use Rattle.std.specs.Prelude.{◌≡◌};
 ghost use Rattle.spec_ntriples.specs.Texts.{Text};
 ghost use Rattle.spec_ntriples.specs.Dictionary.{vocabulary_of};

@@ -1,4 +1,6 @@
 // Whether the canonical text of a term that stands in a line is a text.
+#![tactic(auto)]
+
 ghost use Rattle.std.specs.Prelude.{◌≡◌, true, ◌&&◌, List, ◌∷◌, ℕ, ◌+◌, ◌-◌, ◌≤◌, length, take, drop};
 ghost use Rattle.spec_ntriples.specs.Texts.{Text, is_same_text};
 ghost use Rattle.ntriples_bytes.specs.inside.Places.{HasText};

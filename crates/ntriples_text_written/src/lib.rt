@@ -1,4 +1,6 @@
 // The canonical text of a term that stands in a line, written into bytes.
+#![tactic(auto)]
+
 ghost use Rattle.std.specs.Prelude.{◌≡◌, ◌+◌, ◌≤◌, length, take};
 ghost use Rattle.std.proofs.lemmas.List.Edits.{sets};
 ghost use Rattle.spec_ntriples.specs.Texts.{Text};

@@ -1,4 +1,6 @@
 // The three words of a triple: written as a row, and whether each is there.
+#![tactic(auto)]
+
 ghost use Rattle.std.specs.Prelude.{◌≡◌, [], ◌∷◌, ◌+◌, ◌*◌, ◌≤◌, length};
 ghost use Rattle.std.proofs.lemmas.List.Edits.{sets};
 ghost use Rattle.ntriples_words.specs.inside.Named.{is_named};

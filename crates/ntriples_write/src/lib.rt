@@ -1,4 +1,6 @@
 // Rows of a table written as canonical N-Triples, with the texts of a dictionary.
+#![tactic(auto)]
+
 ghost use Rattle.std.specs.Prelude.{◌≡◌, true, length, replicate};
 ghost use Rattle.spec.specs.inside.Laid.{Laid};
 ghost use Rattle.spec_ntriples.specs.declared.ByteReply.TheVariants.{Refused};

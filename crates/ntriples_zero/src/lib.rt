@@ -1,4 +1,6 @@
 // Bytes set to zero.
+#![tactic(auto)]
+
 ghost use Rattle.std.specs.Prelude.{◌≡◌, length, replicate};
 
 // Sets all bytes to zero.

@@ -1,5 +1,7 @@
 // What a store of document 01's form is, with its limits and with supports of 16 bits, and what is asked before it is carried over into lent tables
 // of the new form (document 02, slip 5).
+#![tactic(auto)]
+
 ghost use Rattle.std.specs.Prelude.{◌≡◌};
 ghost use Rattle.spec.specs.Refusals.{first_refusal};
 ghost use Rattle.spec.specs.Tables.{tables};
@@ -16,7 +18,7 @@ const OLD_FACTS: usize = 65535;
 const OLD_KEPT: usize = 262143;
 
 // How many words the new tables have, and how many support places.
-#[derive(Drop)]
+#[derive(Clone, Copy)]
 pub struct Lengths {
     pub statements: usize,
     pub facts: usize,

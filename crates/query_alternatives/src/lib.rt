@@ -1,4 +1,6 @@
 // Alternatives of an atom (document 01, "Questions and their rewriting").
+#![tactic(auto)]
+
 ghost use Rattle.std.specs.Prelude.{◌≡◌, true, length, replicate};
 ghost use Rattle.spec.specs.Tables.{is_statement_table};
 ghost use Rattle.spec.specs.Outputs.{replied};

@@ -1,4 +1,6 @@
 // By what number words are refused before a question is answered (document 01, "Questions and their rewriting").
+#![tactic(auto)]
+
 ghost use Rattle.std.specs.Prelude.{◌≡◌};
 ghost use Rattle.query_refusal.specs.inside.Refusing.{refusal_of};
 

@@ -1,4 +1,6 @@
 // Whether a property or a class leads to a target, worked out from the statements.
+#![tactic(auto)]
+
 ghost use Rattle.std.specs.Prelude.{◌≡◌, true, ◌≤◌, length};
 ghost use Rattle.spec.specs.Tables.{rows, is_statement_table};
 ghost use Rattle.rdfs_reach.specs.inside.Marks.{Within};

@@ -1,4 +1,6 @@
 // What a fact carries (document 01, "What follows").
+#![tactic(auto)]
+
 ghost use Rattle.std.specs.Prelude.{◌≡◌, true, ℕ, ◌*◌, ◌<◌, ◌≤◌, length, get_or, take};
 ghost use Rattle.spec.specs.Tables.{triple_from, rows, flatten, is_statement_table};
 ghost use Rattle.spec.specs.computed.Carried.{carried};

@@ -1,4 +1,6 @@
 // The properties of a fact, and the classes of its subject and of its object.
+#![tactic(auto)]
+
 ghost use Rattle.std.specs.Prelude.{◌≡◌, cond, ◌↔◌, ℕ, ◌+◌, ◌<◌, ◌≤◌, length, get_or, drop, eqb};
 ghost use mathlib.Core.List.{[], ◌∷◌, Memᴰ};
 ghost use Rattle.spec.specs.Terms.{type, sub_class_of, sub_property_of, domain, range};

@@ -1,4 +1,6 @@
 // The terms that the conclusions from a fact are made of (document 01, "What follows").
+#![tactic(auto)]
+
 ghost use Rattle.std.specs.Prelude.{◌≡◌, ◌≤◌, length, drop, replicate};
 ghost use Rattle.spec.specs.Tables.{first_rows};
 ghost use Rattle.rdfs_reach.specs.inside.Marks.{Statements};
@@ -10,7 +12,7 @@ use spec::Triple;
 use table::MOST_STATEMENTS;
 
 // Where a fact's properties, its subject's classes and its object's classes end in the terms found.
-#[derive(Drop)]
+#[derive(Clone, Copy)]
 pub struct Ends {
     pub properties: usize,
     pub subject: usize,

@@ -1,5 +1,7 @@
 // What a fact has and gives, by what its property or its class leads to. Each answer is worked out once for each property or class that is
 // met, and remembered.
+#![tactic(auto)]
+
 ghost use Rattle.std.specs.Prelude.{◌≡◌, true};
 ghost use mathlib.Core.List.{[], Memᴰ};
 ghost use Rattle.spec.specs.Tables.{rows, is_statement_table};

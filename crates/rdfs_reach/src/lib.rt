@@ -1,5 +1,7 @@
 // What is reached by steps of a property: a work list of terms, found, and for each statement a mark once its object is there.
 // The words st hold m statements, ascending, after their count.
+#![tactic(auto)]
+
 ghost use Rattle.std.specs.Prelude.{◌≡◌, ◌↔◌, ℕ, ◌+◌, ◌*◌, ◌<◌, ◌≤◌, length, get_or, replicate};
 ghost use Rattle.table.specs.inside.Bounds.{Tells};
 ghost use Rattle.rdfs_reach.specs.inside.Marks.{Statements, HasSubject, Begins, Within, Unused, Room, ObjectOf, ReachedFrom, Grown, Extended};

@@ -1,4 +1,6 @@
 // What can be asked of a property or a class, and a memory of the answers: each is remembered at a place that its question determines.
+#![tactic(auto)]
+
 ghost use Rattle.std.specs.Prelude.{◌≡◌, true, List, ◌+◌, ◌*◌, ◌≤◌, ◌<◌, length, get_or, eqb};
 ghost use Rattle.spec.specs.declared.Triple.{Triple};
 ghost use Rattle.table.specs.inside.Bounds.{Tells};

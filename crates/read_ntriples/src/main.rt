@@ -1,4 +1,6 @@
 // Reads N-Triples on standard input, and prints the delivery of their triples, or on standard error why there is none (document 02, slip 1).
+#![tactic(auto)]
+
 use libc::{STDERR_FILENO, STDIN_FILENO, STDOUT_FILENO};
 use report_reading::Printed;
 

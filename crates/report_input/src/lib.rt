@@ -1,4 +1,6 @@
 // The file of N-Triples that a program reads: its most bytes, room for it, and what is printed for one that is longer.
+#![tactic(auto)]
+
 ghost use Rattle.std.specs.Prelude.{◌≡◌, ◌+◌, ◌≤◌, length};
 ghost use Rattle.report_text.specs.inside.Appended.{Appended};
 ghost use Rattle.report_input.specs.Input.{most_input, too_long};

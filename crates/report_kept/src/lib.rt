@@ -1,4 +1,6 @@
 // What the program `kept_ntriples` prints: the kept facts of a file of N-Triples, as N-Triples, or why there are none.
+#![tactic(auto)]
+
 ghost use Rattle.std.specs.Prelude.{◌≡◌, ◌≤◌, length, take};
 ghost use Rattle.spec.specs.Deliveries.{deliver};
 ghost use Rattle.report_text.specs.inside.Appended.{head_room};

@@ -1,4 +1,6 @@
 // The lines of the kept facts that a delivery led to, as the program `kept_ntriples` prints them, and the delivery's result.
+#![tactic(auto)]
+
 ghost use Rattle.std.specs.Prelude.{◌≡◌, ◌≤◌, length, take};
 ghost use Rattle.spec_writing.specs.Writing.{write_kept};
 ghost use Rattle.report_text.specs.inside.Appended.{head_room};

@@ -1,4 +1,6 @@
 // The rooms of the program `kept_ntriples`: for what it prints, and for the store, which is empty; its statements are those of `report_store`.
+#![tactic(auto)]
+
 ghost use Rattle.std.specs.Prelude.{◌≡◌, length, replicate};
 ghost use Rattle.report_text.specs.inside.Appended.{head_room};
 

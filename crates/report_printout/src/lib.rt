@@ -1,4 +1,6 @@
 // What the program `kept_ntriples` prints on standard output and on standard error, by its lengths; and a refusal.
+#![tactic(auto)]
+
 ghost use Rattle.std.specs.Prelude.{◌≡◌, ◌≤◌, length};
 ghost use Rattle.report_text.specs.Text.{refusal_text};
 ghost use Rattle.report_text.specs.inside.Appended.{Appended, head_room};
@@ -6,7 +8,7 @@ ghost use Rattle.report_text.specs.inside.Appended.{Appended, head_room};
 use report_text::write_labelled;
 
 // How many bytes are printed: on standard output, and on standard error.
-#[derive(Drop)]
+#[derive(Clone, Copy)]
 pub struct Lengths {
     pub output: usize,
     pub errors: usize,

@@ -1,4 +1,6 @@
 // What the program `read_ntriples` prints: the delivery of a file of N-Triples, or why there is none.
+#![tactic(auto)]
+
 ghost use Rattle.std.specs.Prelude.{◌≡◌, ◌≤◌, length};
 ghost use Rattle.spec.specs.Messages.{most_bytes};
 ghost use Rattle.report_reading.specs.Printing.{printed, printed_length, printed_for};
@@ -10,7 +12,7 @@ use report_text::write_labelled;
 use spec_ntriples::ByteReply;
 
 // How many bytes are printed: on standard output, or on standard error.
-#[derive(Drop)]
+#[derive(Clone, Copy)]
 pub enum Printed {
     Output(usize),
     Errors(usize),

@@ -1,4 +1,6 @@
 // The rooms of a program that reads N-Triples: for the delivery, and for its dictionary, which has no entry.
+#![tactic(auto)]
+
 ghost use Rattle.std.specs.Prelude.{◌≡◌, length, replicate};
 ghost use Rattle.spec.specs.Messages.{most_bytes};
 

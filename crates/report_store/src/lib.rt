@@ -1,4 +1,6 @@
 // The empty store of a program, of the capacities that document 01 names ("Shelf examples").
+#![tactic(auto)]
+
 ghost use Rattle.std.specs.Prelude.{◌≡◌, replicate};
 
 // How many statements the store of a program holds,

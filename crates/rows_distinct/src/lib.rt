@@ -1,4 +1,6 @@
 // Rows collected in a lent output: one more added, and all settled.
+#![tactic(auto)]
+
 ghost use Rattle.std.specs.Prelude.{◌≡◌, true, ℕ, ◌+◌, ◌*◌, ◌<◌, ◌≤◌, length, replicate};
 ghost use mathlib.Core.List.{List, [], ◌∷◌, Memᴰ};
 ghost use Rattle.rows.specs.inside.Rows as sorted-rows;
@@ -9,7 +11,7 @@ use rows_single::{is_same, write_row};
 use rows_sort::merge_distinct;
 
 // How many sorted rows stand in front, how many added ones behind them, and whether more distinct rows were put than fit.
-#[derive(Drop)]
+#[derive(Clone, Copy)]
 pub struct Collected {
     pub sorted: usize,
     pub added: usize,

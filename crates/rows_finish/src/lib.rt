@@ -1,4 +1,6 @@
 // The rows collected in a lent output, given.
+#![tactic(auto)]
+
 ghost use Rattle.std.specs.Prelude.{◌≡◌, List, ℕ, ◌<◌, length};
 ghost use Rattle.spec.specs.Outputs.{replied};
 ghost use Rattle.rows_distinct.specs.inside.Collected.{Collects, gathered};

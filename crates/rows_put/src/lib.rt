@@ -1,4 +1,6 @@
 // A row put among those collected in a lent output.
+#![tactic(auto)]
+
 ghost use Rattle.std.specs.Prelude.{◌≡◌, true, false, List, ◌∷◌, ℕ, ◌<◌, ◌≤◌, length};
 ghost use Rattle.rows.specs.inside.Rows as sorted-rows;
 ghost use Rattle.rows_distinct.specs.inside.Collected.{Collects};

@@ -1,4 +1,6 @@
 // A row in a slice of its own, beside rows of an output: whether it is one of them, and written as one of them.
+#![tactic(auto)]
+
 ghost use Rattle.std.specs.Prelude.{◌≡◌, true, ◌+◌, ◌*◌, ◌≤◌, length};
 ghost use Rattle.spec.specs.Rows.{less};
 ghost use Rattle.rows.specs.inside.Rows as sorted-rows;

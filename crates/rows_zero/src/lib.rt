@@ -1,4 +1,6 @@
 // Words and supports set to zero.
+#![tactic(auto)]
+
 ghost use Rattle.std.specs.Prelude.{◌≤◌, length};
 ghost use Rattle.rows_zero.specs.inside.Effects.{WordsZeroed};
 

@@ -1,6 +1,8 @@
 // The kept facts and their supports, worked out afresh from the statements and the facts. Each statement's subject is compiled into rows of
 // bits that say which classes and properties it leads to; then the rows of each subject are put in order, from its facts and from those of
 // which it is the object. The same run counts the rows and, where they fit, writes them. About linear in facts times columns.
+#![tactic(auto)]
+
 ghost use Rattle.std.specs.Prelude.{◌≡◌, true, ℕ, ◌*◌, ◌≤◌, ◌<◌, length};
 ghost use Rattle.spec.specs.Tables.{is_statement_table, is_fact_table, count};
 ghost use Rattle.saturate_schema.specs.inside.Nodes.{Columns};

@@ -1,4 +1,6 @@
 // The facts of one subject: the blocks of one property, those of them that lead to a column, and those that are put as they are.
+#![tactic(auto)]
+
 ghost use Rattle.std.specs.Prelude.{◌≡◌, ℕ, ◌+◌, ◌-◌, ◌*◌, ◌^◌, ◌≤◌, ◌<◌, length, get_or, eqb};
 ghost use Rattle.saturate_merge.specs.inside.Output.{output, put_all};
 ghost use Rattle.saturate_merge.specs.inside.Streams.{streams, AllRising};

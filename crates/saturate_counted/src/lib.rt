@@ -1,5 +1,7 @@
 // Rows with their supports, merged from ascending objects and counted keys, and put one after the other.
 // What is put is said of every list K of kept facts whose supports are those that the function sees: it puts a part of K.
+#![tactic(auto)]
+
 ghost use Rattle.std.specs.Prelude.{◌≡◌, ℕ, ◌-◌, ◌*◌, ◌^◌, ◌≤◌, ◌<◌, length};
 ghost use Rattle.spec.specs.Terms.{triple};
 ghost use Rattle.spec.specs.Saturation.{Kept};
@@ -14,7 +16,7 @@ use table::{MOST_STATEMENTS, WORDS, object_at, wide};
 use terms::Term;
 
 // Rows of a table that have one subject: from one, and below another.
-#[derive(Drop)]
+#[derive(Clone, Copy)]
 pub struct Own {
     pub subject: u32,
     pub from: usize,

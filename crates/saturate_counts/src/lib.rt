@@ -1,4 +1,6 @@
 // What the facts about a thing add to the counts of the columns: the classes that they give it, and the properties that they lead to.
+#![tactic(auto)]
+
 ghost use Rattle.std.specs.Prelude.{◌≡◌, cond, ℕ, ◌+◌, ◌-◌, ◌*◌, ◌^◌, ◌≤◌, ◌<◌, length, get_or};
 ghost use Rattle.saturate_schema.specs.inside.Squares.{at};
 ghost use Rattle.saturate_schema.specs.inside.Groups.{Statements};
@@ -15,7 +17,7 @@ use terms::Term;
 
 // A thing, with its facts: those between first and end, of which it is the subject, and those of which it is the object, at the places
 // of the index between from and to.
-#[derive(Drop)]
+#[derive(Clone, Copy)]
 pub struct Subject {
     pub term: u32,
     pub first: usize,

@@ -1,4 +1,6 @@
 // The statements of a class or a property, found in the table of statements.
+#![tactic(auto)]
+
 ghost use Rattle.saturate_schema.specs.inside.Nodes.{property_node, subject_node, Found};
 ghost use Rattle.saturate_schema.specs.inside.Groups.{Statements, Group};
 

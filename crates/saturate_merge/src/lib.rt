@@ -1,5 +1,7 @@
 // Rows with their supports, put one after the other: merged from ascending streams of objects.
 // What a function puts is said of every list K of kept facts whose supports are those that the function sees: it puts a part of K.
+#![tactic(auto)]
+
 ghost use Rattle.std.specs.Prelude.{◌≡◌, ℕ, ◌+◌, ◌-◌, ◌*◌, ◌^◌, ◌≤◌, ◌<◌, length, get_or};
 ghost use Rattle.spec.specs.Terms.{triple};
 ghost use Rattle.spec.specs.Saturation.{Kept};

@@ -1,4 +1,6 @@
 // The next subject of a row, and the ends of the facts that have it as their subject, and as their object.
+#![tactic(auto)]
+
 ghost use Rattle.std.specs.Prelude.{◌≡◌, ◌+◌, ◌*◌, ◌≤◌, ◌<◌, length, get_or};
 ghost use Rattle.saturate_schema.specs.inside.Compiled.{subject_at};
 ghost use Rattle.saturate_index.specs.inside.Index.{object_of, Index};

@@ -1,4 +1,6 @@
 // The run over the subjects, ascending: the subjects of facts, and the objects that are no literals.
+#![tactic(auto)]
+
 ghost use Rattle.std.specs.Prelude.{◌≡◌, ◌*◌, ◌^◌, ◌≤◌, ◌<◌, length};
 ghost use Rattle.spec.specs.Tables.{count};
 ghost use Rattle.spec.specs.Saturation.{Kept};

@@ -1,4 +1,6 @@
 // The squares of the compiled statements: bits that say which columns each statement's subject leads to.
+#![tactic(auto)]
+
 ghost use Rattle.std.specs.Prelude.{◌≡◌, ◌⊎◌, ◌↔◌, ℕ, ◌+◌, ◌*◌, ◌≤◌, ◌<◌, length, get_or};
 ghost use Rattle.table.specs.inside.Bounds.{Tells};
 ghost use Rattle.saturate_schema.specs.inside.Nodes.{edges, Columns, word};

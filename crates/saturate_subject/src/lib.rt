@@ -1,5 +1,7 @@
 // The rows of one subject, worked out from its facts, from the facts of which it is the object, and from the compiled statements, and put in
 // their order.
+#![tactic(auto)]
+
 ghost use Rattle.std.specs.Prelude.{◌≡◌, ℕ, ◌+◌, ◌*◌, ◌^◌, ◌≤◌, ◌<◌, length, false};
 ghost use Rattle.spec.specs.Terms.{triple, is_literal};
 ghost use Rattle.spec.specs.Tables.{count};
@@ -27,7 +29,7 @@ const AFTER_TYPE: u64 = 2;
 
 // What is put for a column, for a subject: its facts between from and to, which have the column's key as their property, and those of its
 // facts between first and end whose property leads to the column.
-#[derive(Drop)]
+#[derive(Clone, Copy)]
 pub struct Column {
     pub column: usize,
     pub key: u32,
@@ -86,7 +88,7 @@ fn column_rows(
 }
 
 // A subject whose rows are to be put, and the output so far: how many rows fit, and how many there are.
-#[derive(Drop)]
+#[derive(Clone, Copy)]
 pub struct Task {
     pub sizes: Sizes,
     pub own: Subject,

@@ -1,4 +1,6 @@
 // The kept facts written in two passes over the subjects: the first counts their rows, and where they fit, the second writes them.
+#![tactic(auto)]
+
 ghost use Rattle.std.specs.Prelude.{◌≡◌, ◌*◌, ◌≤◌, ◌<◌, length};
 ghost use Rattle.spec.specs.Tables.{count};
 ghost use Rattle.spec.specs.Saturation.{Kept};

@@ -10,7 +10,7 @@ use borrow.Author.Tests.{lt-ltb, le-ltb, eq-eqb, ne_eqb}
 use Rattle.spec.specs.declared.Triple.{Triple}
 use Rattle.spec.specs.Rows.{less, words}
 use Rattle.spec.specs.Order.{is_less, is_same, is_in}
-use Rattle.spec.specs.inside.Comparison.{Less, by_subject_lem, by_property, by_object_lem, Trichotomy, less as is-less, same as is_same, more as is-more, compare_triples, equal_triples}
+use Rattle.spec.specs.inside.Comparison.{Less, by_subject_lem, by_property, by_object_lem, Trichotomy, less as is-less, same as is-same, more as is-more, compare_triples, equal_triples}
 use Rattle.spec.proofs.Lists.{true-not_false, cond_elim, by_test, any_in, any_out}
 use Rattle.spec.proofs.Order.{of_subject, of_property, of_object}
 use Rattle.spec.proofs.RowOrder as rows
@@ -45,7 +45,7 @@ is_less_true t u h = by (compare_triples t u)
   where
     by : Trichotomy t u → Less t u
     by (is-less l) = l
-    by (is_same e) = absurd (true-not_false (sym h ∙ same-is_less e))
+    by (is-same e) = absurd (true-not_false (sym h ∙ same-is_less e))
     by (is-more l) = absurd (true-not_false (sym h ∙ more-is_less l))
 
 pub is_less_false : (t u : Triple) → ¬ Less t u → is_less t u ≡ false
@@ -76,7 +76,7 @@ is_same_no t u n = by (compare_triples t u)
   where
     by : Trichotomy t u → is_same t u ≡ false
     by (is-less l) = less-is_same l
-    by (is_same e) = absurd (n e)
+    by (is-same e) = absurd (n e)
     by (is-more l) = more-is_same l
 
 pub is_same_true : (t u : Triple) → is_same t u ≡ true → t ≡ u
@@ -111,7 +111,7 @@ order_elim Q t u {x} {y} {z} f g k = by (compare_triples t u)
   where
     by : Trichotomy t u → Q (cond (is_less t u) x (cond (is_same t u) y z))
     by (is-less l) = rw (less-is_less l) (f l)
-    by (is_same e) = rw (same-is_less e, is_same_yes t u e) (g e)
+    by (is-same e) = rw (same-is_less e, is_same_yes t u e) (g e)
     by (is-more l) = rw (more-is_less l, more-is_same l) (k l)
 
 -- ---- membership

@@ -1,8 +1,9 @@
 // The types that the definitions of specs/ speak of: triples as words (document 01, "Terms and triples"), and what updates, questions and
 // deliveries answer.
+#![tactic(auto)]
 
 // A subject, a property and an object, as words.
-#[derive(Drop)]
+#[derive(Clone, Copy)]
 pub struct Triple {
     pub subject: u32,
     pub property: u32,
@@ -10,14 +11,14 @@ pub struct Triple {
 }
 
 // The two kinds of updates.
-#[derive(Drop)]
+#[derive(Clone, Copy)]
 pub enum Change {
     Addition,
     Withdrawal,
 }
 
 // The answer of an update.
-#[derive(Drop)]
+#[derive(Clone, Copy)]
 pub enum Answer {
     Applied,
     Idle,
@@ -25,14 +26,14 @@ pub enum Answer {
 }
 
 // The reply of a question, of alternatives or of a listing: the number of rows given, or the number that refused.
-#[derive(Drop)]
+#[derive(Clone, Copy)]
 pub enum Reply {
     Rows(usize),
     Refused(u32),
 }
 
 // How many entries were applied, idle and refused.
-#[derive(Drop)]
+#[derive(Clone, Copy)]
 pub struct Tally {
     pub applied: u32,
     pub idle: u32,
@@ -40,7 +41,7 @@ pub struct Tally {
 }
 
 // The result of a delivery: 0 or the number that refused the whole, the delivery number, and the tallies.
-#[derive(Drop)]
+#[derive(Clone, Copy)]
 pub struct Delivered {
     pub refusal: u32,
     pub number: u32,

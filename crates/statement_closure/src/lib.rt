@@ -1,5 +1,7 @@
 // The closed pairs of a table of statements, compiled once into lent words: what each subject of a subclass or subproperty statement leads to
 // by one or more steps. They are never held as rows, and worked out in the words themselves.
+#![tactic(auto)]
+
 ghost use Rattle.std.specs.Prelude.{◌≡◌, true, ◌*◌, ◌≤◌, ◌<◌, length};
 ghost use Rattle.spec.specs.Tables.{is_statement_table};
 ghost use Rattle.saturate_schema.specs.inside.Nodes.{Columns};

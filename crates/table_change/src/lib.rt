@@ -1,4 +1,6 @@
 // Rows put into tables in lent words, and taken out of them.
+#![tactic(auto)]
+
 ghost use Rattle.std.specs.Prelude.{◌≡◌, ◌+◌, ◌*◌, ◌≤◌, ◌<◌, length};
 ghost use Rattle.spec.specs.Tables.{rows, layout};
 ghost use Rattle.spec.specs.inside.Laid.{Laid, Spare};

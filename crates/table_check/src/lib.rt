@@ -1,4 +1,6 @@
 // Question 1: whether lent words are well-formed tables (document 01, "Tables").
+#![tactic(auto)]
+
 ghost use Rattle.std.specs.Prelude.{◌≡◌, ◌*◌, ◌<◌, length};
 ghost use Rattle.spec.specs.Tables.{is_table, is_statement_table, is_fact_table, is_kept_table, tables, are_formed};
 ghost use Rattle.table_rows.specs.inside.Rows.{are_rows_from};

@@ -1,4 +1,6 @@
 // Tables copied into lent tables of another length: the rows and zeros to the end, and the supports of rows, which come in 16 bits.
+#![tactic(auto)]
+
 ghost use Rattle.std.specs.Prelude.{◌≡◌, ◌++◌, ◌+◌, ◌*◌, ◌≤◌, length, take, drop};
 ghost use Rattle.spec.specs.Lists.{padded};
 ghost use Rattle.spec.specs.Tables.{count, rows, layout};

@@ -1,4 +1,6 @@
 // Where a row stands in a table, or would stand, and how a row stands to another.
+#![tactic(auto)]
+
 ghost use Rattle.std.specs.Prelude.{◌≡◌, true, ◌+◌, ◌*◌, ◌<◌, length, drop};
 ghost use Rattle.spec.specs.Order.{is_ascending};
 ghost use Rattle.spec.specs.Tables.{row_at, first_rows};
@@ -9,7 +11,7 @@ use spec::Triple;
 use table::lower_bound;
 
 // How one row stands to another.
-#[derive(Drop)]
+#[derive(Clone, Copy)]
 pub enum Ordering {
     Lower,
     Equal,
@@ -17,7 +19,7 @@ pub enum Ordering {
 }
 
 // Where a row stands, or the gap where it would stand.
-#[derive(Drop)]
+#[derive(Clone, Copy)]
 pub enum Found {
     At(usize),
     Gap(usize),

@@ -1,4 +1,6 @@
 // Whether the first rows of a table may stand in it and ascend: rows of statements, and rows of facts.
+#![tactic(auto)]
+
 ghost use Rattle.std.specs.Prelude.{◌≡◌, ◌*◌, ◌≤◌, ◌<◌, length};
 ghost use Rattle.spec.specs.Terms.{is_allowed_statement, is_allowed_fact};
 ghost use Rattle.spec.specs.Order.{is_less};

@@ -1,4 +1,6 @@
 // Whether lent numbers are the well-formed supports of the kept rows (document 01, "Tables").
+#![tactic(auto)]
+
 ghost use Rattle.std.specs.Prelude.{◌≡◌, ℕ, ◌^◌, ◌≤◌, ◌<◌, length, take, leb};
 ghost use Rattle.spec.specs.Tables.{is_support, is_support_table};
 ghost use Rattle.spec.specs.Lists.{all};

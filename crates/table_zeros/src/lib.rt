@@ -1,4 +1,6 @@
 // Whether lent words are zero from an index on: what stands behind the rows of a table, and behind their supports.
+#![tactic(auto)]
+
 ghost use Rattle.std.specs.Prelude.{◌≡◌, drop};
 ghost use Rattle.spec.specs.Tables.{are_zero};
 

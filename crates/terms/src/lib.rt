@@ -1,11 +1,13 @@
 // Terms and triples as words (document 01, "Terms and triples"): made, and told apart.
+#![tactic(auto)]
+
 ghost use Rattle.std.specs.Prelude.{◌≡◌, ◌+◌, ◌*◌, ◌^◌, ◌<◌};
 ghost use Rattle.spec.specs.Terms.{kind, number, is_uri, is_blank, is_literal, is_variable, is_vocabulary, is_resource, is_triple, is_statement, is_class, is_property, are_sides_allowed, is_allowed_statement, is_allowed_fact};
 
 use spec::Triple;
 
 // A term: a URI, a blank node, a literal or a variable, as one word.
-#[derive(Drop)]
+#[derive(Clone, Copy)]
 pub struct Term {
     pub word: u32,
 }

@@ -1,4 +1,6 @@
 // A fact added at the gap where it would stand, and one withdrawn at its place, once questions 1 to 3 are passed (document 01, "Tables").
+#![tactic(auto)]
+
 ghost use Rattle.std.specs.Prelude.{◌≡◌, true};
 ghost use Rattle.spec.specs.Terms.{is_allowed_fact};
 ghost use Rattle.table_find.specs.declared.Found.TheVariants.{At, Gap};

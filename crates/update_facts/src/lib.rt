@@ -1,4 +1,6 @@
 // Additions and withdrawals of facts, once questions 1 to 3 are passed (document 01, "Tables").
+#![tactic(auto)]
+
 ghost use Rattle.std.specs.Prelude.{◌≡◌, true};
 ghost use Rattle.spec.specs.Terms.{is_allowed_fact};
 ghost use Rattle.spec.specs.Tables.{tables};

@@ -1,4 +1,6 @@
 // How many kept facts fit their two tables, of rows and of supports (document 01, "Tables"); definitions and laws of what these hold.
+#![tactic(auto)]
+
 ghost use Rattle.std.specs.Prelude.{◌≡◌, min, length};
 ghost use Rattle.spec.specs.Tables.{capacity, most_kept};
 

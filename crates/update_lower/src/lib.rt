@@ -1,4 +1,6 @@
 // Supports of kept facts lowered in place, a row at 0 going (document 01, "Tables").
+#![tactic(auto)]
+
 ghost use Rattle.std.specs.Prelude.{◌++◌, ◌*◌, ◌≤◌, ◌<◌, length, take, drop};
 ghost use Rattle.spec.specs.Tables.{first_rows, rows, kept_of};
 ghost use Rattle.spec.specs.Saturation.{lower_all};
@@ -11,7 +13,7 @@ use table_change::put_entry;
 use table_find::Ordering;
 
 // Where lowering stands: the rows before place write are done, and those from place read on stand as they did.
-#[derive(Drop)]
+#[derive(Clone, Copy)]
 pub struct Moved {
     pub read: usize,
     pub write: usize,

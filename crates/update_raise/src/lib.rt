@@ -1,4 +1,6 @@
 // Supports of kept facts raised in place, missing rows entering with 1 (document 01, "Tables").
+#![tactic(auto)]
+
 ghost use Rattle.std.specs.Prelude.{◌≡◌, true, ◌+◌, ◌*◌, ◌<◌, length, drop};
 ghost use Rattle.spec.specs.Order.{is_ascending};
 ghost use Rattle.spec.specs.Tables.{first_rows, rows, kept_of};
