@@ -32,4 +32,4 @@ get_or-member (u ∷ us) (suc i) d h = Memᴰ.tail (get_or-member us i d (omega 
 pub member-get_or : {x : Triple} (us : List Triple) → Memᴰ x us → (i : ℕ) × (i < length us) × ((d : Triple) → get_or us i d ≡ x)
 member-get_or [] m = absurd (Memᴰ.not-nil m)
 member-get_or {x} (u ∷ us) m =
-    ⊎_elim (λ (e : x ≡ u). (0, omega arith, λ d. sym e)) (λ j. let r = member-get_or us j in (suc r.0, omega (arith, r.1), r.2)) (Memᴰ.cases_cons m)
+    ⊎_elim (λ (e : x ≡ u). (0, omega arith, λ d. sym e)) (λ j. let r = member-get_or {x = x} us j in (suc r.0, omega (arith, r.1), r.2)) (Memᴰ.cases_cons m)

@@ -1,0 +1,17 @@
+-- The row is of the node, or has its column, or neither.
+use mathlib.Core.Path.{sym, ◌∙◌}
+use mathlib.Core.Logic.{inl}
+use Rattle.table.proofs.SearchLaws.{tells_true}
+use Rattle.saturate_schema.proofs.Closing.{leads_bit, leads-not}
+use Rattle.closure_words.specs.inside.Layout.{bit_at}
+use borrow.Author.Rules.{rules}
+use Rattle.closure_walks.proofs.leads.Goals as goal
+
+pub returns-then-subject_node-s : goal.returns-then-subject_node-s
+returns-then-subject_node-s c = tells_true (inl (sym c.subject_node.ensures ∙ c.if-subject_node-s.true))
+
+pub returns-then-ss-ns : goal.returns-then-ss-ns
+returns-then-ss-ns c = leads_bit c.args.statements.now (bit_at c.args.closure.now) _ _ _ _ _ (λ e. c.if-subject_node-s.false (c.subject_node.ensures ∙ e)) c.if-ss-ns.true c.is_set.ensures
+
+pub returns : goal.returns
+returns c = leads-not c.args.statements.now (bit_at c.args.closure.now) _ _ _ _ (λ e. c.if-subject_node-s.false (c.subject_node.ensures ∙ e)) c.if-ss-ns.false

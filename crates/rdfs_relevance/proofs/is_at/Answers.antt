@@ -1,0 +1,7 @@
+-- Each word is compared. Assumes nothing.
+use Rattle.rdfs_relevance.proofs.MemoryLaws.{same_question}
+use borrow.Author.Rules.{rules}
+use Rattle.rdfs_relevance.proofs.is_at.Goals as goal
+
+pub returns : goal.returns
+returns c = same_question _ _ _ _ _ _

@@ -1,0 +1,7 @@
+-- The byte stands at its place. Assumes nothing.
+use Rattle.report_text.proofs.Appending.{byte_appended}
+use borrow.Author.Rules.{rules}
+use Rattle.report_text.proofs.write_byte.Goals as goal
+
+pub returns : goal.returns
+returns c = byte_appended c.args.byte c.args.out.now c.args.at c.requires

@@ -1,0 +1,15 @@
+-- `less_words` returns what `less` says of the two rows: the order of the words from word k on is the order of the rows.
+use mathlib.Core.Path.{◌≡◌, sym, ◌∙◌}
+use Prim.Native.Nat.{◌+◌, ◌-◌, ◌≤◌}
+use native.Mathlib.Nat.{add-zero, sub-zero}
+use native.Mathlib.Omega.{arith}
+use Rattle.spec.specs.Rows.{less}
+use Rattle.rows.specs.inside.Rows.{row}
+use Rattle.rows.proofs.RowWords.{less-between_more, less-between_stop, less-between_none}
+use Rattle.rows_single.proofs.less_words.Given as goal
+
+abbrev pub invariant-loop-k : goal.invariant-loop-k
+invariant-loop-k l = (l.k ≤ l.m) × (less (row (l.m - l.k) (l.p + l.k) l.t) (row (l.m - l.k) (l.q + l.k) l.u) ≡ less (row l.m l.p l.t) (row l.m l.q l.u))
+
+abbrev pub decreases-loop-k : goal.decreases-loop-k
+decreases-loop-k l = l.m - l.k

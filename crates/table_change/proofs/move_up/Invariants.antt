@@ -1,0 +1,14 @@
+-- The invariant: the words from i to e are moved already.
+use Prim.Native.Nat.{◌≤◌}
+use mathlib.Core.Path.{◌≡◌, refl}
+use native.Mathlib.Omega.{arith}
+use lib.ListN.{length, length-set}
+use Rattle.table_change.specs.inside.Words.{moved_up}
+use Rattle.table_change.proofs.Shift.{up_none, up_step}
+use Rattle.table_change.proofs.move_up.Given as goal
+
+abbrev pub invariant-loop-i : goal.invariant-loop-i
+invariant-loop-i l = (l.a ≤ l.i) × (l.i ≤ l.e) × (length l.t ≡ length l.initial.t) × (l.t ≡ moved_up l.i l.e l.initial.t)
+
+abbrev pub decreases-loop-i : goal.decreases-loop-i
+decreases-loop-i l = l.i

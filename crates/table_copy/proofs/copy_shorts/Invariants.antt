@@ -1,0 +1,14 @@
+-- The invariant: the first numbers, up to a place, are copied, and the other words are as they were.
+use Prim.Native.Nat.{ℕ, ◌-◌, ◌≤◌}
+use mathlib.Core.Path.{◌≡◌, refl, ap, ◌∙◌}
+use mathlib.Core.List.{List, ◌++◌}
+use native.Mathlib.Omega.{arith}
+use lib.ListN.{length, get_or, take, drop, set, length-set}
+use Rattle.table_copy.proofs.Copied.{copied_more}
+use Rattle.table_copy.proofs.copy_shorts.Given as goal
+
+abbrev pub invariant-loop-place : goal.invariant-loop-place
+invariant-loop-place l = (l.place ≤ l.n) × (length l.new ≡ length l.initial.new) × (l.new ≡ take l.place l.old ++ drop l.place l.initial.new)
+
+abbrev pub decreases-loop-place : goal.decreases-loop-place
+decreases-loop-place l = l.n - l.place

@@ -1,0 +1,14 @@
+-- The invariant: the first i words are copied, and the others are as they were.
+use Prim.Native.Nat.{ℕ, ◌-◌, ◌≤◌}
+use mathlib.Core.Path.{◌≡◌, refl, ap, ◌∙◌}
+use mathlib.Core.List.{List, ◌++◌}
+use native.Mathlib.Omega.{arith}
+use lib.ListN.{length, get_or, take, drop, set, length-set}
+use Rattle.table_copy.proofs.Copied.{copied_more}
+use Rattle.table_copy.proofs.copy_words.Given as goal
+
+abbrev pub invariant-loop-i : goal.invariant-loop-i
+invariant-loop-i l = (l.i ≤ l.n) × (length l.new ≡ length l.initial.new) × (l.new ≡ take l.i l.old ++ drop l.i l.initial.new)
+
+abbrev pub decreases-loop-i : goal.decreases-loop-i
+decreases-loop-i l = l.n - l.i

@@ -1,0 +1,6 @@
+-- The result is the definition's, by what the calls ensure. Assumes nothing.
+use borrow.Author.Rules.{rules}
+use Rattle.terms.proofs.Term.is_resource.Goals as goal
+
+pub returns : goal.returns
+returns c = cc

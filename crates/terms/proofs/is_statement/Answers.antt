@@ -1,0 +1,7 @@
+-- The result is the definition's, by what the calls ensure. Assumes nothing.
+use Rattle.spec.specs.Terms.{is_statement}
+use Rattle.terms.proofs.is_statement.Goals as goal
+
+pub returns : goal.returns
+unfolding is_statement
+returns c = cc

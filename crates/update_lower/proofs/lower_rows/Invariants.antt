@@ -1,0 +1,16 @@
+-- The invariant is `Lowering`: what is done, and what is left with the rows left lowered in it, make the kept facts lowered.
+use Prim.Native.Nat.{◌+◌, ◌-◌}
+use mathlib.Core.Path.{sym, ◌∙◌}
+use native.Mathlib.Omega.{arith}
+use lib.ListN.{length}
+use Rattle.table_find.specs.declared.Ordering.TheVariants.{Lower, Equal, Higher}
+use Rattle.spec.specs.Tables.{rows}
+use Rattle.table_find.proofs.Place.{ordering_says}
+use Rattle.update_lower.proofs.LowerPass.{Lowering, lowering-start, lowering-lower, lowering-higher, lowering-stays, lowering-goes, lowering-done, lowering-out}
+use Rattle.update_lower.proofs.lower_rows.Given as goal
+
+abbrev pub invariant-loop-j : goal.invariant-loop-j
+invariant-loop-j l = Lowering l.initial.kept l.initial.supports l.list l.c l.kept l.supports l.i l.j l.k
+
+abbrev pub decreases-loop-j : goal.decreases-loop-j
+decreases-loop-j l = length (rows l.initial.kept) - l.i + (l.c - l.j)
