@@ -31,7 +31,7 @@ pub enum Open {
 // ---- whether bytes are characters
 
 // What the first byte of a character leaves due.
-fn first_byte_lem(b: u8) -> Open
+fn first_byte(b: u8) -> Open
     ensures { (bs : List ℕ) → are_chars (decode_from bs (first_byte b)) ≡ are_chars_from bs result }
 {
     if b < BEHIND_ASCII {
@@ -69,7 +69,7 @@ fn next_byte(left: u8, low: u8, high: u8, b: u8) -> Open
     ensures { (bs : List ℕ) → are_chars_from (b ∷ bs) (Open.Due left low high) ≡ are_chars_from bs result }
 {
     if left == 0 {
-        return first_byte_lem(b);
+        return first_byte(b);
     }
     if b < low {
         return Open::Broken;

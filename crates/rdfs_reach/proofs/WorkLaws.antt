@@ -150,7 +150,7 @@ close_end {st} {used₀} {found₀} {used} {found} {m} {k} {from} {n} {e} l u t 
   λ w. on w.start (within_wider (omega arith) t.done.grown.grows (within_kept n t.done.grown.kept (omega arith) w.holds)) w.path,
 )
   where
-    on : {c : ℕ} (a : ℕ) → Within found from e a → Reach (first_rows m (drop 1 st)) k a c → Within found from e c
+    on : (a : ℕ) {c : ℕ} → Within found from e a → Reach (first_rows m (drop 1 st)) k a c → Within found from e c
     on a w stay = w
     on a w (step {b} {c} p s) = within_wider l (omega arith) (stated_in u t.done b c (on a w p) s)
 

@@ -9,7 +9,7 @@ ghost use Rattle.saturate_schema.specs.inside.Nodes.{Columns};
 ghost use Rattle.saturate_schema.specs.inside.Squares.{at};
 ghost use Rattle.saturate_index.specs.inside.Index.{Index, Once, Sorted};
 ghost use Rattle.saturate_counts.specs.inside.Prepared.{Facts};
-ghost use Rattle.saturate_write.specs.inside.Written.{result};
+ghost use Rattle.saturate_write.specs.inside.Written.{result_of};
 ghost use Rattle.saturate.specs.inside.Saturated.{saturated, Domains, Ranges};
 
 use saturate_schema::{MOST_COLUMNS, Sizes};
@@ -26,35 +26,35 @@ const PLACES: usize = MOST_FACTS + 1;
 // A square of bits of 0. Large arrays come as zeros out of functions of their own and are lent to those that fill them: an array that is
 // computed and returned would be copied on the stack.
 fn no_bits() -> [u8; SQUARE]
-    ensures* { λ r. ⌜ (length r ≡ 262144) × ((i c : ℕ) → at r i c ≡ 0) ⌝ }
+    ensures { (length result ≡ 262144) × ((i c : ℕ) → at result i c ≡ 0) }
 {
     [0u8; SQUARE]
 }
 
 // Room for the places of the facts.
 fn no_places() -> [u32; PLACES]
-    ensures* { λ r. ⌜ length r ≡ 65536 ⌝ }
+    ensures { length result ≡ 65536 }
 {
     [0u32; PLACES]
 }
 
 // Room for the columns.
 fn no_columns() -> [u64; MOST_COLUMNS]
-    ensures* { λ r. ⌜ length r ≡ 512 ⌝ }
+    ensures { length result ≡ 512 }
 {
     [0u64; MOST_COLUMNS]
 }
 
 // Room for the terms of the columns.
 fn no_keys() -> [u32; MOST_COLUMNS]
-    ensures* { λ r. ⌜ length r ≡ 512 ⌝ }
+    ensures { length result ≡ 512 }
 {
     [0u32; MOST_COLUMNS]
 }
 
 // Room for what a row gains.
 fn no_gain() -> [u8; MOST_COLUMNS]
-    ensures* { λ r. ⌜ length r ≡ 512 ⌝ }
+    ensures { length result ≡ 512 }
 {
     [0u8; MOST_COLUMNS]
 }
@@ -71,7 +71,7 @@ fn fill_square(
     requires columns { Columns statements.now m columns.now ns }
     requires m_in_bounds { (m * 3 < length statements.now) × (ns ≤ length columns.now) }
     requires square_len { (length square.old ≡ 262144) × ((i c : ℕ) → at square.old i c ≡ 0) }
-    ensures* { λ _. ⌜ Ranges statements.now m columns.now ns via square.new ⌝ }
+    ensures { Ranges statements.now m columns.now ns via square.new }
 {
     let mut gain = no_gain();
     saturate_squares::close(statements, m, columns, ns, via, square, &mut gain);
@@ -82,7 +82,7 @@ fn fill_domains(statements: &[u32], m: usize, columns: &[u64], ns: usize, square
     requires columns { Columns statements.now m columns.now ns }
     requires m_in_bounds { (m * 3 < length statements.now) × (ns ≤ length columns.now) }
     requires square_len { (length square.old ≡ 262144) × ((i c : ℕ) → at square.old i c ≡ 0) }
-    ensures* { λ _. ⌜ Domains statements.now m columns.now ns square.new ⌝ }
+    ensures { Domains statements.now m columns.now ns square.new }
 {
     fill_square(statements, m, columns, ns, Term::DOMAIN, square);
     saturate_squares::clear_own(statements, m, columns, ns, square);
@@ -92,7 +92,7 @@ fn fill_domains(statements: &[u32], m: usize, columns: &[u64], ns: usize, square
 fn fill_places(facts: &[u32], ix: &mut [u32])
     requires facts { Facts facts.now (count facts.now) }
     requires ix_len { length ix.old ≡ 65536 }
-    ensures* { λ _. ⌜ Index facts.now ix.new (count facts.now) × Once (count facts.now) ix.new × Sorted facts.now ix.new (count facts.now) ⌝ }
+    ensures { Index facts.now ix.new (count facts.now) × Once (count facts.now) ix.new × Sorted facts.now ix.new (count facts.now) }
 {
     saturate_index::by_object(facts, ix, facts[0] as usize);
 }
@@ -108,7 +108,7 @@ pub fn saturate(
     requires statements_value { is_statement_table statements.now ≡ true }
     requires facts_value { is_fact_table facts.now ≡ true }
     requires room_in_bounds { (room * 3 < length kept.old) × (room ≤ length supports.old) × (room ≤ 262143) }
-    ensures* { λ r. ⌜ result r kept.new supports.new ≡ saturated statements.now facts.now room kept.old supports.old ⌝ }
+    ensures { result_of result kept.new supports.new ≡ saturated statements.now facts.now room kept.old supports.old }
 {
     let m = statements[0] as usize;
     let mut columns = no_columns();

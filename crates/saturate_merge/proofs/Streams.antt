@@ -1,6 +1,6 @@
 -- Laws of streams of objects. Assumes nothing.
 use mathlib.Core.Path.{◌≡◌, refl, sym, ap, ap₂, ◌∙◌}
-use mathlib.Core.Bool.{true, false}
+use mathlib.Core.Bool.{Bool, true, false, cond}
 use mathlib.Core.List.{List, [], ◌∷◌}
 use mathlib.Core.Logic.{by_cases}
 use Prim.Native.Nat.{ℕ, zero, suc, ◌+◌, ◌-◌, ◌*◌, ◌^◌, ◌≤◌, ◌<◌}
@@ -93,8 +93,14 @@ unfolding least_of hits
 hits_least [] h = absurd (omega arith)
 hits_least (l ∷ ls) h =
     by_cases (dec_lt (front_of l) (least_of ls))
-    (λ lt. rw (lt-ltb (front_of l) (least_of ls) lt) (omega (arith, front-hit l (omega (arith, least_small ls)))))
-    (λ n. let k : least_of ls ≤ front_of l = omega arith in rw (le-ltb (front_of l) (least_of ls) k) (omega (arith, hits_least ls (rw (le-ltb (front_of l) (least_of ls) k) at h))))
+    (λ lt. let m : least_of (l ∷ ls) ≡ front_of l = ap (λ (b : Bool). cond b (front_of l) (least_of ls)) (lt-ltb (front_of l) (least_of ls) lt) in
+      let e : hit (least_of (l ∷ ls)) l ≡ 1 = ap (λ (x : ℕ). hit x l) m ∙ front-hit l (omega (arith, least_small ls)) in
+      omega (arith, e))
+    (λ n. let k : least_of ls ≤ front_of l = omega arith in
+      let m : least_of (l ∷ ls) ≡ least_of ls = ap (λ (b : Bool). cond b (front_of l) (least_of ls)) (le-ltb (front_of l) (least_of ls) k) in
+      let p : 0 < hits (least_of ls) ls = hits_least ls (omega (arith, m)) in
+      let e : hits (least_of (l ∷ ls)) ls ≡ hits (least_of ls) ls = ap (λ (x : ℕ). hits x ls) m in
+      omega (arith, e, p))
 
 pub tally-strips : (m o : ℕ) (ls : List (List ℕ)) → m < o → tally o (strips m ls) ≡ tally o ls
 unfolding tally strips

@@ -17,7 +17,7 @@ use Rattle.spec.proofs.TableRows.{length-flatten}
 use Rattle.spec.specs.Saturation.{Kept, kept_rows, kept_supports}
 use Rattle.saturate_merge.specs.inside.Output.{Output, output, put_all}
 use Rattle.saturate_merge.proofs.Whole.{count-all, put_fits}
-use Rattle.saturate_write.specs.inside.Written.{result, written, zero_from}
+use Rattle.saturate_write.specs.inside.Written.{result_of, written, zero_from}
 
 -- ---- words set to 0 up to their end
 
@@ -70,9 +70,9 @@ first_pass K room ws us ws' us' k l e =
     record { same-words = c.0; same_supports = c.1; over = λ h. by_cases (dec_lt room (length K)) (λ z. z) (λ z. absurd (omega (arith, c.3 (omega arith)))); fits = c.2 }
 
 -- Too many: the words are as they were.
-pub written-not : (K : Kept) (room : ℕ) (ws us ws' us' : List ℕ) (k : ℕ) → Counted K room ws us ws' us' k → room < k → result false ws' us' ≡ written K room ws us
+pub written-not : (K : Kept) (room : ℕ) (ws us ws' us' : List ℕ) (k : ℕ) → Counted K room ws us ws' us' k → room < k → result_of false ws' us' ≡ written K room ws us
 unfolding written
-written-not K room ws us ws' us' k c l = rw (lt-leb (length K) room (c.over l)) (ap₂ (λ (x y : List ℕ). result false x y) c.same-words c.same_supports)
+written-not K room ws us ws' us' k c l = rw (lt-leb (length K) room (c.over l)) (ap₂ (λ (x y : List ℕ). result_of false x y) c.same-words c.same_supports)
 
 -- The second pass writes them all.
 pub record Put (K : Kept) (ws us ws' us' : List ℕ) (n : ℕ) : Type 0 where
@@ -93,9 +93,9 @@ second_pass K room (w ∷ ws) us ws' us' n l f h u e =
       supports = rw (qs, c) (supports_laid K us (omega arith));
     }
 
-pub written_all : (K : Kept) (room : ℕ) (ws us ws' us' ws'' us'' : List ℕ) (n : ℕ) → length K ≤ room → Put K ws us ws' us' n → ws'' ≡ zero_from (n * 3 + 1) (set ws' 0 n) → us'' ≡ zero_from n us' → result true ws'' us'' ≡ written K room ws us
+pub written_all : (K : Kept) (room : ℕ) (ws us ws' us' ws'' us'' : List ℕ) (n : ℕ) → length K ≤ room → Put K ws us ws' us' n → ws'' ≡ zero_from (n * 3 + 1) (set ws' 0 n) → us'' ≡ zero_from n us' → result_of true ws'' us'' ≡ written K room ws us
 unfolding written
-written_all K room ws us ws' us' ws'' us'' n l p ew eu = rw (le-leb (length K) room l) (ap₂ (λ (x y : List ℕ). result true x y) (ew ∙ p.kept) (eu ∙ p.supports))
+written_all K room ws us ws' us' ws'' us'' n l p ew eu = rw (le-leb (length K) room l) (ap₂ (λ (x y : List ℕ). result_of true x y) (ew ∙ p.kept) (eu ∙ p.supports))
 
 -- Where the first pass found room, the second has all rows.
 pub both_passes : (K : Kept) (room : ℕ) (ws us ws₁ us₁ ws₂ us₂ : List ℕ) (k n : ℕ) → room < 2 ^ 32 → room * 3 < length ws → room ≤ length us → output ws₁ us₁ k ≡ put_all 0 K (output ws us 0) → k ≤ room → output ws₂ us₂ n ≡ put_all room K (output ws₁ us₁ 0) → (length K ≤ room) × Put K ws us ws₂ us₂ n

@@ -8,7 +8,7 @@ ghost use Rattle.spec.specs.inside.Counts.{Counts};
 ghost use Rattle.saturate_index.specs.inside.Index.{Index, Once, Sorted};
 ghost use Rattle.saturate_counts.specs.inside.Prepared.{Prepared, Facts};
 ghost use Rattle.saturate_counts.specs.inside.Supported.{Supported, Small};
-ghost use Rattle.saturate_write.specs.inside.Written.{result, written, Exists};
+ghost use Rattle.saturate_write.specs.inside.Written.{result_of, written, Exists};
 
 use rows_zero::{zero_supports, zero_words};
 use saturate_run::put_rows;
@@ -34,7 +34,7 @@ pub fn put_all(
     requires small { Small statements.now sizes.statements domains.now ranges.now keys.now sizes.classes facts.now (count facts.now) }
     requires exists { Exists statements.now sizes.statements domains.now ranges.now keys.now sizes.classes sizes.columns facts.now (count facts.now) }
     requires room_in_bounds { (room * 3 < length kept.old) × (room ≤ length supports.old) × (room ≤ 262143) }
-    ensures* { λ r. ⌜ ((K : Kept) → Counts K → Supported K statements.now sizes.statements domains.now ranges.now keys.now sizes.classes sizes.columns facts.now (count facts.now) → result r kept.new supports.new ≡ written K room kept.old supports.old) ⌝ }
+    ensures { (K : Kept) → Counts K → Supported K statements.now sizes.statements domains.now ranges.now keys.now sizes.classes sizes.columns facts.now (count facts.now) → result_of result kept.new supports.new ≡ written K room kept.old supports.old }
 {
     let k = put_rows(
         statements, domains, ranges, keys, facts, ix, kept, supports, sizes, 0,

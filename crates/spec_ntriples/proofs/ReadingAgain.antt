@@ -9,7 +9,7 @@ use Rattle.spec_ntriples.specs.computed.Decoded.{with_char, decoded, decode}
 use Rattle.spec_ntriples.specs.Characters.{codes, is_one_of}
 use Rattle.spec_ntriples.specs.Texts.{TextTriple}
 use Rattle.spec_ntriples.specs.Dictionary.{Entry, dictionary_bytes, entries}
-use Rattle.spec_ntriples.specs.Reading.{with_all, triple_of, conclude_reading, read_nTriples}
+use Rattle.spec_ntriples.specs.Reading.{with_all, with_texts, triple_of, conclude_reading, read_nTriples}
 use Rattle.spec_ntriples.specs.Expressions.{Matches, Repeated}
 use Rattle.spec_ntriples.specs.Productions.{EOL}
 use Rattle.spec_ntriples.specs.Meaning.{Says, FileSays}
@@ -104,7 +104,7 @@ file_then a b ts us F G =
 pub with_then : (es : List Entry) (ts us : List TextTriple) → with_all es (ts ++ us) ≡ with_all (with_all es ts) us
 unfolding with_all
 with_then es [] us = refl
-with_then es (t ∷ ts) us = with_then _ ts us
+with_then es (t ∷ ts) us = with_then (with_texts es t) ts us
 
 module _ (dictionary first second : List ℕ) (len₁ len₂ len₃ n₁ n₂ n₃ : ℕ) (A : Accepted dictionary first len₁ n₁)
     (B : Accepted (read_nTriples dictionary first len₁).dictionary second len₂ n₂) (C : Accepted dictionary (first ++ (10 ∷ second)) len₃ n₃)

@@ -30,7 +30,7 @@ use Rattle.spec.specs.declared.Answer.TheVariants.{Applied, Idle, Refused}
 use Rattle.spec.specs.declared.Change.{Change}
 use Rattle.spec.specs.declared.Change.TheVariants.{Addition, Withdrawal}
 use Rattle.spec.specs.Updates.{is_member, changed, applying, is_change, is_admitted, contents_after, is_kept_fitting, update, add, withdraw}
-use Rattle.saturate_write.specs.inside.Written.{Result, result, written}
+use Rattle.saturate_write.specs.inside.Written.{Result, result_of, written}
 use Rattle.saturate.specs.inside.Saturated.{saturated}
 use Rattle.spec.specs.inside.Pairs.{outcome}
 use Rattle.spec.proofs.Outcomes.{Passes, update_idle, update_full, update-unfit, update-applied, member_yes, member_no}
@@ -44,7 +44,7 @@ kept_room {S} {F} {K} {U} W room e = (
 )
 
 -- What working out afresh says of the tables, by its answer.
-module _ (S F : List ℕ) (room : ℕ) (K U : List ℕ) {r : Bool} {K' U' : List ℕ} (Z : result r K' U' ≡ saturated S F room K U) where
+module _ (S F : List ℕ) (room : ℕ) (K U : List ℕ) {r : Bool} {K' U' : List ℕ} (Z : result_of r K' U' ≡ saturated S F room K U) where
   afresh_fits : r ≡ leb (length (saturation (rows S) (rows F))) room
   unfolding saturated written
   afresh_fits = ap (λ (z : Result). z.fits) Z
@@ -163,7 +163,7 @@ module _ {S F K U : List ℕ} (W : FormedStore S F K U) (t : Triple) (a : is_all
     pub with-laid : Laid S' × (i < length (rows S'))
     with-laid = (with-formed.laid, omega (arith, inside, ap length (rows_of S' (length S) (insert_at i t (rows S)) e), length-insert_at i t (rows S) inside))
 
-    module _ (room : ℕ) (q : room ≡ min (capacity most_kept K) (length U)) {r : Bool} {K' U' : List ℕ} (Z : result r K' U' ≡ saturated S' F room K U) where
+    module _ (room : ℕ) (q : room ≡ min (capacity most_kept K) (length U)) {r : Bool} {K' U' : List ℕ} (Z : result_of r K' U' ≡ saturated S' F room K U) where
       -- It enters, and the kept facts are those worked out afresh.
       pub statement-added : r ≡ true → outcome Applied (tables S' F K' U') ≡ add (tables S F K U) t
       unfolding is_kept_fitting contents_after applying changed contents_of put
@@ -212,7 +212,7 @@ module _ {S F K U : List ℕ} (W : FormedStore S F K U) (t : Triple) (a : is_all
           omega (arith, (stands_at t (rows S) i p).within),
         )
 
-    module _ (room : ℕ) (q : room ≡ min (capacity most_kept K) (length U)) {r : Bool} {K' U' : List ℕ} (Z : result r K' U' ≡ saturated S' F room K U) where
+    module _ (room : ℕ) (q : room ≡ min (capacity most_kept K) (length U)) {r : Bool} {K' U' : List ℕ} (Z : result_of r K' U' ≡ saturated S' F room K U) where
       -- It goes, and the kept facts are those worked out afresh.
       pub statement-withdrawn : r ≡ true → outcome Applied (tables S' F K' U') ≡ withdraw (tables S F K U) t
       unfolding is_kept_fitting contents_after applying changed contents_of put

@@ -1,11 +1,9 @@
 use native.Mathlib.Omega.{arith}
-use mathlib.Core.Path.{◌≡◌, refl}
-use Prim.Native.Nat.{◌-◌, ◌≤◌}
-use lib.ListN.{length, length-set}
-use Rattle.closure_words.specs.inside.Layout.{first_column, end_column}
+use mathlib.Core.Path.{refl}
+use Prim.Native.Nat.{◌-◌}
+use lib.ListN.{length-set}
 use Rattle.closure_words.proofs.Columns.{stand}
-use Rattle.closure_joined.proofs.JoinedLaws.{Gathering, gathering_start, gathering_past, gathering_more, gathered}
-use borrow.Author.Rules.{rules}
+use Rattle.closure_joined.proofs.JoinedLaws.{gathering_start, gathering_past, gathering_more, gathered}
 use Rattle.closure_joined.proofs.find_joined.Goals as goal
 
 pub loop-c-init : goal.loop-c-init

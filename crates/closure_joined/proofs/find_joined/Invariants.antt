@@ -1,11 +1,9 @@
 -- The terms of the columns gone through whose bits are 1 are found.
-use native.Mathlib.Omega.{arith}
-use mathlib.Core.Path.{◌≡◌, refl}
+use mathlib.Core.Path.{◌≡◌}
 use Prim.Native.Nat.{◌-◌, ◌≤◌}
-use lib.ListN.{length, length-set}
+use lib.ListN.{length}
 use Rattle.closure_words.specs.inside.Layout.{first_column, end_column}
-use Rattle.closure_words.proofs.Columns.{stand}
-use Rattle.closure_joined.proofs.JoinedLaws.{Gathering, gathering_start, gathering_past, gathering_more, gathered}
+use Rattle.closure_joined.proofs.JoinedLaws.{Gathering}
 use Rattle.closure_joined.proofs.find_joined.Given as goal
 
 abbrev pub invariant-loop-c : goal.invariant-loop-c

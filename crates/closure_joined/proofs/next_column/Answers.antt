@@ -1,6 +1,5 @@
 -- In a word that is 0 no column has a bit.
 use Rattle.closure_joined.proofs.JoinedLaws.{next_word, next_one}
-use borrow.Author.Rules.{rules}
 use Rattle.closure_joined.proofs.next_column.Goals as goal
 
 pub returns-then-closure-i-eq0 : goal.returns-then-closure-i-eq0

@@ -1,6 +1,5 @@
 -- The bit of the column is set in its own word.
 use Rattle.closure_rows.proofs.RowLaws.{alone_here, alone_other}
-use borrow.Author.Rules.{rules}
 use Rattle.closure_rows.proofs.column_word.Goals as goal
 
 pub returns-then-c-w : goal.returns-then-c-w

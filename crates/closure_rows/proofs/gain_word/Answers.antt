@@ -1,6 +1,5 @@
 -- The column of the end, and the word of its row if it has one.
 use Rattle.closure_rows.proofs.RowLaws.{gained-row, gained_end}
-use borrow.Author.Rules.{rules}
 use Rattle.closure_rows.proofs.gain_word.Goals as goal
 
 pub returns-then-go-m : goal.returns-then-go-m

@@ -1,12 +1,8 @@
 use native.Mathlib.Omega.{arith}
-use mathlib.Core.Path.{◌≡◌}
-use Prim.Native.Nat.{◌-◌, ◌*◌, ◌≤◌}
-use lib.ListN.{length, length-set}
-use Rattle.saturate_schema.specs.inside.Squares.{Gained}
+use Prim.Native.Nat.{◌-◌}
+use lib.ListN.{length-set}
 use Rattle.closure_words.specs.inside.Layout.{bit_at}
-use Rattle.closure_rows.specs.inside.Rows.{row_bit}
 use Rattle.closure_rows.proofs.RowLaws.{gained-word}
-use borrow.Author.Rules.{rules}
 use Rattle.closure_rows.proofs.gains.Goals as goal
 
 pub loop-w-init : goal.loop-w-init

@@ -1,12 +1,10 @@
 -- The columns of the words below w are worked out.
-use native.Mathlib.Omega.{arith}
 use mathlib.Core.Path.{◌≡◌}
 use Prim.Native.Nat.{◌-◌, ◌*◌, ◌≤◌}
-use lib.ListN.{length, length-set}
+use lib.ListN.{length}
 use Rattle.saturate_schema.specs.inside.Squares.{Gained}
 use Rattle.closure_words.specs.inside.Layout.{bit_at}
 use Rattle.closure_rows.specs.inside.Rows.{row_bit}
-use Rattle.closure_rows.proofs.RowLaws.{gained-word}
 use Rattle.closure_rows.proofs.gains.Given as goal
 
 abbrev pub invariant-loop-w : goal.invariant-loop-w

@@ -1,9 +1,7 @@
 use native.Mathlib.Omega.{arith}
-use mathlib.Core.Path.{◌≡◌}
-use Prim.Native.Nat.{◌-◌, ◌≤◌}
-use lib.ListN.{length, length-set}
-use Rattle.closure_rows.proofs.RowLaws.{Uniting, uniting_start, uniting_more, uniting_end}
-use borrow.Author.Rules.{rules}
+use Prim.Native.Nat.{◌-◌}
+use lib.ListN.{length-set}
+use Rattle.closure_rows.proofs.RowLaws.{uniting_start, uniting_more, uniting_end}
 use Rattle.closure_rows.proofs.unite.Goals as goal
 
 pub loop-w-init : goal.loop-w-init

@@ -1,9 +1,8 @@
 -- The words below w of row a have what gain has.
-use native.Mathlib.Omega.{arith}
 use mathlib.Core.Path.{◌≡◌}
 use Prim.Native.Nat.{◌-◌, ◌≤◌}
-use lib.ListN.{length, length-set}
-use Rattle.closure_rows.proofs.RowLaws.{Uniting, uniting_start, uniting_more, uniting_end}
+use lib.ListN.{length}
+use Rattle.closure_rows.proofs.RowLaws.{Uniting}
 use Rattle.closure_rows.proofs.unite.Given as goal
 
 abbrev pub invariant-loop-w : goal.invariant-loop-w

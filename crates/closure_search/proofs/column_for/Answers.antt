@@ -2,7 +2,6 @@
 use native.Mathlib.Omega.{arith}
 use Rattle.closure_words.proofs.Columns.{stand}
 use Rattle.closure_search.proofs.SearchLaws.{column_there, column_past, column_end}
-use borrow.Author.Rules.{rules}
 use Rattle.closure_search.proofs.column_for.Goals as goal
 
 pub overflow_add-c : goal.overflow_add-c

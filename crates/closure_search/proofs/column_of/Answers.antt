@@ -1,9 +1,7 @@
 use native.Mathlib.Omega.{arith}
-use Prim.Native.Nat.{◌-◌, ◌≤◌}
-use Rattle.closure_words.specs.inside.Layout.{first_column, end_column}
+use Prim.Native.Nat.{◌-◌}
 use Rattle.closure_words.proofs.Columns.{stand}
-use Rattle.closure_search.proofs.SearchLaws.{Between, between_start, between_up, between_down, between_end}
-use borrow.Author.Rules.{rules}
+use Rattle.closure_search.proofs.SearchLaws.{between_start, between_up, between_down, between_end}
 use Rattle.closure_search.proofs.column_of.Goals as goal
 
 pub loop-lo-init : goal.loop-lo-init

@@ -1,9 +1,7 @@
 -- A binary search among the columns of the property.
-use native.Mathlib.Omega.{arith}
 use Prim.Native.Nat.{◌-◌, ◌≤◌}
 use Rattle.closure_words.specs.inside.Layout.{first_column, end_column}
-use Rattle.closure_words.proofs.Columns.{stand}
-use Rattle.closure_search.proofs.SearchLaws.{Between, between_start, between_up, between_down, between_end}
+use Rattle.closure_search.proofs.SearchLaws.{Between}
 use Rattle.closure_search.proofs.column_of.Given as goal
 
 abbrev pub invariant-loop-lo : goal.invariant-loop-lo

@@ -1,13 +1,9 @@
 use native.Mathlib.Omega.{arith}
 use mathlib.Core.Path.{◌≡◌, sym, ◌∙◌}
-use Prim.Native.Nat.{◌-◌, ◌≤◌}
-use lib.ListN.{length}
-use Rattle.saturate_schema.specs.inside.Nodes.{edges}
-use Rattle.saturate_schema.specs.inside.Squares.{Closed}
+use Prim.Native.Nat.{◌-◌}
 use Rattle.saturate_schema.proofs.Closing.{closed_start, closed_more, closed_pass, step_made}
 use Rattle.closure_words.specs.inside.Layout.{bit_at}
 use Rattle.closure_rows.specs.inside.Rows.{row_bit}
-use borrow.Author.Rules.{rules}
 use Rattle.closure_walks.proofs.close.Goals as goal
 
 pub loop-n-init : goal.loop-n-init

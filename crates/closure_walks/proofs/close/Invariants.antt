@@ -1,13 +1,10 @@
 -- The bits of the rows are the walks by the statements below n; a statement that applies extends them.
-use native.Mathlib.Omega.{arith}
-use mathlib.Core.Path.{◌≡◌, sym, ◌∙◌}
+use mathlib.Core.Path.{◌≡◌}
 use Prim.Native.Nat.{◌-◌, ◌≤◌}
 use lib.ListN.{length}
 use Rattle.saturate_schema.specs.inside.Nodes.{edges}
 use Rattle.saturate_schema.specs.inside.Squares.{Closed}
-use Rattle.saturate_schema.proofs.Closing.{closed_start, closed_more, closed_pass, step_made}
 use Rattle.closure_words.specs.inside.Layout.{bit_at}
-use Rattle.closure_rows.specs.inside.Rows.{row_bit}
 use Rattle.closure_walks.proofs.close.Given as goal
 
 abbrev pub invariant-loop-n : goal.invariant-loop-n

@@ -1,13 +1,10 @@
 use native.Mathlib.Omega.{arith}
-use mathlib.Core.Path.{◌≡◌, ◌∙◌}
-use Prim.Native.Nat.{◌-◌, ◌≤◌}
-use lib.ListN.{length}
-use Rattle.saturate_schema.specs.inside.Squares.{Leads}
-use Rattle.saturate_schema.proofs.Squares.{Spread, spread_start, spread_yes, spread_no}
+use mathlib.Core.Path.{◌∙◌}
+use Prim.Native.Nat.{◌-◌}
+use Rattle.saturate_schema.proofs.Squares.{spread_start, spread_yes, spread_no}
 use Rattle.saturate_schema.proofs.Closing.{leads_old}
 use Rattle.closure_words.specs.inside.Layout.{bit_at}
 use Rattle.closure_rows.specs.inside.Rows.{row_bit}
-use borrow.Author.Rules.{rules}
 use Rattle.closure_walks.proofs.close_statement.Goals as goal
 
 pub loop-i-init : goal.loop-i-init

@@ -1,11 +1,9 @@
 -- The rows below i that lead to the node have gain; the others are as before.
-use native.Mathlib.Omega.{arith}
-use mathlib.Core.Path.{◌≡◌, ◌∙◌}
+use mathlib.Core.Path.{◌≡◌}
 use Prim.Native.Nat.{◌-◌, ◌≤◌}
 use lib.ListN.{length}
 use Rattle.saturate_schema.specs.inside.Squares.{Leads}
-use Rattle.saturate_schema.proofs.Squares.{Spread, spread_start, spread_yes, spread_no}
-use Rattle.saturate_schema.proofs.Closing.{leads_old}
+use Rattle.saturate_schema.proofs.Squares.{Spread}
 use Rattle.closure_words.specs.inside.Layout.{bit_at}
 use Rattle.closure_rows.specs.inside.Rows.{row_bit}
 use Rattle.closure_walks.proofs.close_statement.Given as goal

@@ -4,7 +4,6 @@ use mathlib.Core.Logic.{inl}
 use Rattle.table.proofs.SearchLaws.{tells_true}
 use Rattle.saturate_schema.proofs.Closing.{leads_bit, leads-not}
 use Rattle.closure_words.specs.inside.Layout.{bit_at}
-use borrow.Author.Rules.{rules}
 use Rattle.closure_walks.proofs.leads.Goals as goal
 
 pub returns-then-subject_node-s : goal.returns-then-subject_node-s

@@ -1,7 +1,6 @@
 -- The classes end where the properties begin.
 use native.Mathlib.Omega.{arith}
 use Rattle.closure_words.proofs.Columns.{end_class, end_other}
-use borrow.Author.Rules.{rules}
 use Rattle.closure_words.proofs.end_column.Goals as goal
 
 pub returns-then-property-eq-SUB_CLASS_OF : goal.returns-then-property-eq-SUB_CLASS_OF

@@ -1,7 +1,6 @@
 -- The classes come first.
 use native.Mathlib.Omega.{arith}
 use Rattle.closure_words.proofs.Columns.{first_class, first_other}
-use borrow.Author.Rules.{rules}
 use Rattle.closure_words.proofs.first_column.Goals as goal
 
 pub returns-then-property-eq-SUB_CLASS_OF : goal.returns-then-property-eq-SUB_CLASS_OF

@@ -1,6 +1,5 @@
 -- The test reads the bit.
 use Rattle.table.proofs.SearchLaws.{tells_equal}
-use borrow.Author.Rules.{rules}
 use Rattle.closure_words.proofs.is_set.Goals as goal
 
 pub returns : goal.returns

@@ -1,13 +1,10 @@
 -- The invariant: of all entries the answer is that of the entries that are left.
-use mathlib.Core.Path.{◌≡◌, refl, sym, ◌∙◌}
+use mathlib.Core.Path.{◌≡◌}
 use Prim.Native.Nat.{◌+◌, ◌*◌, ◌≤◌}
 use lib.ListN.{length}
-use borrow.Author.Tests.{not-true, not-false}
 use Rattle.spec.specs.Lists.{all}
-use Rattle.spec.proofs.TableAll.{answered}
 use Rattle.spec.specs.computed.Decoded.{entries_from}
 use Rattle.delivery_format.specs.inside.Sections.{is_right_in}
-use Rattle.delivery_format.proofs.Walk.{entries_more, entries_stop, entries_end}
 use Rattle.delivery_format.proofs.are_entries_right.Given as goal
 
 abbrev pub invariant-loop-left : goal.invariant-loop-left

@@ -1,6 +1,5 @@
 -- By the four tests of `are_sections_right`.
 use Rattle.delivery_format.proofs.Sections.{sections_right}
-use borrow.Author.Rules.{rules}
 use Rattle.delivery_format.proofs.are_sections_right.Goals as goal
 
 pub returns : goal.returns

@@ -1,5 +1,4 @@
 -- By the three words.
-use borrow.Author.Rules.{rules}
 use Rattle.delivery_format.proofs.entry_at.Goals as goal
 
 pub returns : goal.returns

@@ -1,7 +1,6 @@
 -- By arithmetic on the length.
 use native.Mathlib.Omega.{arith}
 use Rattle.spec.specs.computed.Decoded.{field_end}
-use borrow.Author.Rules.{rules}
 use Rattle.delivery_format.proofs.field_end.Goals as goal
 
 pub returns : goal.returns

@@ -1,6 +1,5 @@
 -- By the two cases of `is_right_in`.
 use Rattle.delivery_format.specs.inside.Sections.{is_right_in}
-use borrow.Author.Rules.{rules}
 use Rattle.delivery_format.proofs.is_right_in.Goals as goal
 
 pub returns-then-statements : goal.returns-then-statements

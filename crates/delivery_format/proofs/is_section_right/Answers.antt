@@ -1,6 +1,5 @@
 -- A section of a whole delivery lies within the bytes.
 use Rattle.delivery_format.proofs.Whole.{section_fits}
-use borrow.Author.Rules.{rules}
 use Rattle.delivery_format.proofs.is_section_right.Goals as goal
 
 pub are_entries_right-requires : goal.are_entries_right-requires

@@ -1,7 +1,6 @@
 -- By arithmetic on the count.
 use native.Mathlib.Omega.{arith}
 use Rattle.spec.specs.computed.Decoded.{section_end}
-use borrow.Author.Rules.{rules}
 use Rattle.delivery_format.proofs.section_end.Goals as goal
 
 pub returns : goal.returns

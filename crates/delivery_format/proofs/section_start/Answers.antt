@@ -1,5 +1,5 @@
-use mathlib.Core.Path.{◌≡◌, refl}
-use Prim.Native.Nat.{◌-◌, ◌*◌, ◌≤◌}
+use mathlib.Core.Path.{refl}
+use Prim.Native.Nat.{◌-◌}
 use Rattle.spec.specs.computed.Decoded.{section_start}
 use Rattle.delivery_format.proofs.Walk.{start_more, start_end}
 use borrow.Author.Rules.{rules}

@@ -1,8 +1,7 @@
 -- The invariant: at is where section i begins.
-use mathlib.Core.Path.{◌≡◌, refl}
+use mathlib.Core.Path.{◌≡◌}
 use Prim.Native.Nat.{◌-◌, ◌*◌, ◌≤◌}
 use Rattle.spec.specs.computed.Decoded.{section_start}
-use Rattle.delivery_format.proofs.Walk.{start_more, start_end}
 use Rattle.delivery_format.proofs.section_start.Given as goal
 
 abbrev pub invariant-loop-i : goal.invariant-loop-i

@@ -1,7 +1,6 @@
 -- By arithmetic on the two bytes.
 use native.Mathlib.Omega.{arith}
 use Rattle.spec.specs.computed.Decoded.{short}
-use borrow.Author.Rules.{rules}
 use Rattle.delivery_format.proofs.short_at.Goals as goal
 
 pub returns : goal.returns

@@ -1,7 +1,6 @@
 -- By arithmetic on the two halves.
 use native.Mathlib.Omega.{arith}
 use Rattle.spec.specs.computed.Decoded.{word}
-use borrow.Author.Rules.{rules}
 use Rattle.delivery_format.proofs.word_at.Goals as goal
 
 pub returns : goal.returns

@@ -1,8 +1,5 @@
-use Prim.Native.Nat.{◌-◌, ◌≤◌, max}
-use mathlib.Core.Path.{◌≡◌}
+use Prim.Native.Nat.{◌-◌}
 use native.Mathlib.Omega.{arith}
-use lib.ListN.{take, drop}
-use Rattle.delivery_supports.specs.inside.Highest.{highest}
 use Rattle.delivery_supports.proofs.HighestLaws.{highest_more, highest_end}
 use borrow.Author.Rules.{rules}
 use Rattle.delivery_supports.proofs.highest.Goals as goal

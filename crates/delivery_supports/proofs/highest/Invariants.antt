@@ -1,10 +1,8 @@
 -- The invariant: the highest of what is passed with that of what is left is the highest of all. Assumes nothing.
 use Prim.Native.Nat.{◌-◌, ◌≤◌, max}
 use mathlib.Core.Path.{◌≡◌}
-use native.Mathlib.Omega.{arith}
 use lib.ListN.{take, drop}
 use Rattle.delivery_supports.specs.inside.Highest.{highest}
-use Rattle.delivery_supports.proofs.HighestLaws.{highest_more, highest_end}
 use Rattle.delivery_supports.proofs.highest.Given as goal
 
 abbrev pub invariant-loop-i : goal.invariant-loop-i

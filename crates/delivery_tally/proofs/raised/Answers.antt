@@ -1,6 +1,5 @@
 -- By the answer. Assumes nothing.
 use Rattle.delivery_tally.proofs.TallyLaws.{applied-tallied, idle-tallied, refused-tallied}
-use borrow.Author.Rules.{rules}
 use Rattle.delivery_tally.proofs.raised.Goals as goal
 
 pub returns-in-Applied : goal.returns-in-Applied

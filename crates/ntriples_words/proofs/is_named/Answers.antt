@@ -1,5 +1,4 @@
 use mathlib.Core.Path.{refl}
-use Prim.Native.Nat.{◌-◌}
 use Rattle.ntriples_words.specs.inside.Named.{is_named}
 use Rattle.ntriples_words.proofs.is_named.Goals as goal
 

@@ -2,7 +2,6 @@ use native.Mathlib.Omega.{arith}
 use Prim.Native.Nat.{◌-◌, ◌*◌}
 use lib.ListN.{length-set}
 use Rattle.ntriples_words.proofs.Writing.{row_put}
-use borrow.Author.Rules.{rules}
 use Rattle.ntriples_words.proofs.put_row.Goals as goal
 
 pub bounds-terms-at-2 : goal.bounds-terms-at-2

@@ -1,11 +1,9 @@
 use native.Mathlib.Omega.{arith}
-use mathlib.Core.Path.{◌≡◌, refl}
-use Prim.Native.Nat.{◌-◌, ◌≤◌}
-use lib.ListN.{length, length-set}
-use Rattle.rows_zero.specs.inside.Effects.{WordsZeroed}
+use mathlib.Core.Path.{refl}
+use Prim.Native.Nat.{◌-◌}
+use lib.ListN.{length-set}
 use Rattle.rows_zero.proofs.ZeroLoop.{zero_none, zero_more}
 use Rattle.output.proofs.Filled.{all_zero}
-use borrow.Author.Rules.{rules}
 use Rattle.ntriples_zero.proofs.clear.Goals as goal
 
 -- src/lib.rt:31:5

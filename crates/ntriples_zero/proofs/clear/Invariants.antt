@@ -1,10 +1,7 @@
-use native.Mathlib.Omega.{arith}
-use mathlib.Core.Path.{◌≡◌, refl}
+use mathlib.Core.Path.{◌≡◌}
 use Prim.Native.Nat.{◌-◌, ◌≤◌}
-use lib.ListN.{length, length-set}
+use lib.ListN.{length}
 use Rattle.rows_zero.specs.inside.Effects.{WordsZeroed}
-use Rattle.rows_zero.proofs.ZeroLoop.{zero_none, zero_more}
-use Rattle.output.proofs.Filled.{all_zero}
 use Rattle.ntriples_zero.proofs.clear.Given as goal
 
 abbrev pub invariant-loop-i : goal.invariant-loop-i

@@ -1,6 +1,5 @@
 -- `are_fitting` compares the number of rows with how many fit whole.
 use Rattle.output.proofs.Filled.{fitting-count}
-use borrow.Author.Rules.{rules}
 use Rattle.output.proofs.are_fitting.Goals as goal
 
 pub returns : goal.returns

@@ -1,7 +1,6 @@
 -- `clear` sets the words to zero from the first to the last.
 use native.Mathlib.Omega.{arith}
 use Rattle.output.proofs.Filled.{all_zero}
-use borrow.Author.Rules.{rules}
 use Rattle.output.proofs.clear.Goals as goal
 
 pub returns : goal.returns

@@ -1,7 +1,7 @@
-use Prim.Native.Nat.{◌≤◌, ◌-◌}
+use Prim.Native.Nat.{◌-◌}
 use mathlib.Core.Path.{refl, ◌≡◌}
 use native.Mathlib.Omega.{arith}
-use Rattle.rdfs_reach.proofs.WorkLaws.{Turn, turn_begin, turn_room, turn_more, all_end}
+use Rattle.rdfs_reach.proofs.WorkLaws.{turn_begin, turn_room, turn_more, all_end}
 use borrow.Author.Rules.{rules}
 use Rattle.rdfs_reach.proofs.append_all.Goals as goal
 

@@ -1,8 +1,6 @@
 -- The invariant `Turn`: the subjects at the places passed are done.
 use Prim.Native.Nat.{◌≤◌, ◌-◌}
-use mathlib.Core.Path.{refl, ◌≡◌}
-use native.Mathlib.Omega.{arith}
-use Rattle.rdfs_reach.proofs.WorkLaws.{Turn, turn_begin, turn_room, turn_more, all_end}
+use Rattle.rdfs_reach.proofs.WorkLaws.{Turn}
 use Rattle.rdfs_reach.proofs.append_all.Given as goal
 
 abbrev pub invariant-loop-i : goal.invariant-loop-i

@@ -1,9 +1,6 @@
 -- The invariant `Block`: the rows passed are of the subject and the property, and each has its mark and its object in place.
 use Prim.Native.Nat.{◌-◌}
-use native.Mathlib.Omega.{arith}
-use borrow.Author.Tests.{not-true, not-false}
-use Rattle.spec.specs.Tables.{row_at}
-use Rattle.rdfs_reach.proofs.MarkLaws.{Block, block-place, block_more, block-end, block_stops}
+use Rattle.rdfs_reach.proofs.MarkLaws.{Block}
 use Rattle.rdfs_reach.proofs.append_block.Given as goal
 
 abbrev pub invariant-loop-j : goal.invariant-loop-j

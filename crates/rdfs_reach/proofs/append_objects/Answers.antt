@@ -2,7 +2,6 @@
 use mathlib.Core.Path.{◌∙◌, sym}
 use native.Mathlib.Omega.{arith}
 use Rattle.rdfs_reach.proofs.MarkLaws.{same_mark, extended_none}
-use borrow.Author.Rules.{rules}
 use Rattle.rdfs_reach.proofs.append_objects.Goals as goal
 
 pub returns-then-first-m : goal.returns-then-first-m
@@ -14,13 +13,5 @@ returns-then-used-first-ne0 c = extended_none c.args.st.now _ _ _ c.args.used.no
     c.args.found.now _ c.requires.statements c.first_row-first.ensures c.requires.room j l (record { subject = q; property = p }) in c.if-used-first-ne0.true (sym w.1 ∙ z))
 
 pub append_block-requires : goal.append_block-requires
-append_block-requires c =
-    let both2 =  in
-    record { statements = c.requires.statements; begins = (
-        c.first_row-first.ensures,
-        (
-          c.requires.room,
-          λ j l h. let w = same_mark c.args.st.now _ _ _ _ c.args.used.now c.args.found.now _ c.requires.statements c.first_row-first.ensures c.requires.room j l h in w.1 ∙
-              c.if-used-first-ne0.false,
-        ),
-      ); room = both2.0; by_index = both2.1 }
+append_block-requires c = record { statements = c.requires.statements; begins = c.first_row-first.ensures; room = c.requires.room; by_index = λ j l h. let w = same_mark c.args.st.now _ _ _ _ c.args.used.now c.args.found.now _ c.requires.statements c.first_row-first.ensures c.requires.room j l h in w.1 ∙
+              c.if-used-first-ne0.false }

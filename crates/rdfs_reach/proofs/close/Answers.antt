@@ -1,8 +1,8 @@
-use Prim.Native.Nat.{◌≤◌, ◌<◌, ◌+◌, ◌-◌}
+use Prim.Native.Nat.{◌<◌, ◌-◌}
 use mathlib.Core.Path.{refl, ◌≡◌}
 use native.Mathlib.Omega.{arith}
 use Rattle.rdfs_reach.specs.inside.Marks.{unused}
-use Rattle.rdfs_reach.proofs.WorkLaws.{Turn, turn_begin, turn_room, turn_more, Reached, reached_begin, reached_more, close_end}
+use Rattle.rdfs_reach.proofs.WorkLaws.{turn_begin, turn_room, turn_more, reached_begin, reached_more, close_end}
 use borrow.Author.Rules.{rules}
 use Rattle.rdfs_reach.proofs.close.Goals as goal
 

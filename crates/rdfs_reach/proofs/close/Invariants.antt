@@ -1,9 +1,7 @@
 -- The invariant `Turn`, and each term is reached. What is left falls with each turn: a term more costs a mark.
-use Prim.Native.Nat.{◌≤◌, ◌<◌, ◌+◌, ◌-◌}
-use mathlib.Core.Path.{refl, ◌≡◌}
-use native.Mathlib.Omega.{arith}
+use Prim.Native.Nat.{◌≤◌, ◌+◌, ◌-◌}
 use Rattle.rdfs_reach.specs.inside.Marks.{unused}
-use Rattle.rdfs_reach.proofs.WorkLaws.{Turn, turn_begin, turn_room, turn_more, Reached, reached_begin, reached_more, close_end}
+use Rattle.rdfs_reach.proofs.WorkLaws.{Turn, Reached}
 use Rattle.rdfs_reach.proofs.close.Given as goal
 
 abbrev pub invariant-loop-i : goal.invariant-loop-i

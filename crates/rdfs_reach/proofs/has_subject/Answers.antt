@@ -1,6 +1,5 @@
 -- The two tests together tell.
 use Rattle.rdfs_reach.proofs.MarkLaws.{has_tells}
-use borrow.Author.Rules.{rules}
 use Rattle.rdfs_reach.proofs.has_subject.Goals as goal
 
 pub returns : goal.returns

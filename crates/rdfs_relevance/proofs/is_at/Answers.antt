@@ -1,6 +1,5 @@
 -- Each word is compared. Assumes nothing.
 use Rattle.rdfs_relevance.proofs.MemoryLaws.{same_question}
-use borrow.Author.Rules.{rules}
 use Rattle.rdfs_relevance.proofs.is_at.Goals as goal
 
 pub returns : goal.returns

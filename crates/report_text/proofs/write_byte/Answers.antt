@@ -1,6 +1,5 @@
 -- The byte stands at its place. Assumes nothing.
 use Rattle.report_text.proofs.Appending.{byte_appended}
-use borrow.Author.Rules.{rules}
 use Rattle.report_text.proofs.write_byte.Goals as goal
 
 pub returns : goal.returns

@@ -2,7 +2,6 @@
 use native.Mathlib.Omega.{arith}
 use Rattle.report_text.proofs.Decimal.{decimal-length}
 use Rattle.report_text.proofs.Appending.{both_appended}
-use borrow.Author.Rules.{rules}
 use Rattle.report_text.proofs.write_field.Goals as goal
 
 pub write_number-end-requires : goal.write_number-end-requires

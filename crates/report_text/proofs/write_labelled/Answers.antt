@@ -1,7 +1,6 @@
 -- The word, then the number. Assumes nothing.
 use native.Mathlib.Omega.{arith}
 use Rattle.report_text.proofs.Appending.{both_appended}
-use borrow.Author.Rules.{rules}
 use Rattle.report_text.proofs.write_labelled.Goals as goal
 
 pub returns : goal.returns

@@ -2,7 +2,6 @@
 use native.Mathlib.Omega.{arith}
 use Rattle.report_text.specs.Text.{row_line}
 use Rattle.report_text.proofs.Appending.{both_appended}
-use borrow.Author.Rules.{rules}
 use Rattle.report_text.proofs.write_row.Goals as goal
 
 pub returns : goal.returns

@@ -1,13 +1,9 @@
-use Prim.Native.Nat.{◌+◌, ◌≤◌, ◌-◌, ◌*◌, zero-le}
-use mathlib.Core.Path.{◌≡◌, refl, ◌∙◌}
-use lib.ListN.{length, take}
+use Prim.Native.Nat.{◌-◌, zero-le}
+use mathlib.Core.Path.{refl, ◌∙◌}
 use native.Mathlib.Omega.{arith}
 use Rattle.spec.specs.Tables.{kept_of}
-use Rattle.report_text.specs.Text.{row_lines}
-use Rattle.report_text.specs.inside.Appended.{Appended, row_room}
 use Rattle.report_text.proofs.Appending.{none_appended, text_appended}
 use Rattle.report_text.proofs.Lines.{rows_none, rows_more, rows_whole}
-use borrow.Author.Rules.{rules}
 use Rattle.report_text.proofs.write_rows.Goals as goal
 
 pub overflow_cast-n : goal.overflow_cast-n

@@ -1,13 +1,10 @@
 -- The lines of the first i rows are appended, each with the room of a row at most. Assumes nothing.
-use Prim.Native.Nat.{◌+◌, ◌≤◌, ◌-◌, ◌*◌, zero-le}
-use mathlib.Core.Path.{◌≡◌, refl, ◌∙◌}
+use Prim.Native.Nat.{◌+◌, ◌≤◌, ◌-◌, ◌*◌}
+use mathlib.Core.Path.{◌≡◌}
 use lib.ListN.{length, take}
-use native.Mathlib.Omega.{arith}
 use Rattle.spec.specs.Tables.{kept_of}
 use Rattle.report_text.specs.Text.{row_lines}
 use Rattle.report_text.specs.inside.Appended.{Appended, row_room}
-use Rattle.report_text.proofs.Appending.{none_appended, text_appended}
-use Rattle.report_text.proofs.Lines.{rows_none, rows_more, rows_whole}
 use Rattle.report_text.proofs.write_rows.Given as goal
 
 abbrev pub invariant-loop-i : goal.invariant-loop-i

@@ -1,10 +1,7 @@
-use Prim.Native.Nat.{◌≤◌, ◌-◌, zero-le}
-use mathlib.Core.Path.{◌≡◌, refl, ◌∙◌}
-use lib.ListN.{length, take}
+use Prim.Native.Nat.{◌-◌, zero-le}
+use mathlib.Core.Path.{refl, ◌∙◌}
 use native.Mathlib.Omega.{arith}
-use Rattle.report_text.specs.inside.Appended.{Appended}
 use Rattle.report_text.proofs.Appending.{none_appended, word_more, word_whole, word-place}
-use borrow.Author.Rules.{rules}
 use Rattle.report_text.proofs.write_word.Goals as goal
 
 pub loop-i-init : goal.loop-i-init

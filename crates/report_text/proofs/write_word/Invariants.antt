@@ -1,10 +1,8 @@
 -- The first i bytes of the word are appended. Assumes nothing.
-use Prim.Native.Nat.{◌≤◌, ◌-◌, zero-le}
-use mathlib.Core.Path.{◌≡◌, refl, ◌∙◌}
+use Prim.Native.Nat.{◌≤◌, ◌-◌}
+use mathlib.Core.Path.{◌≡◌}
 use lib.ListN.{length, take}
-use native.Mathlib.Omega.{arith}
 use Rattle.report_text.specs.inside.Appended.{Appended}
-use Rattle.report_text.proofs.Appending.{none_appended, word_more, word_whole, word-place}
 use Rattle.report_text.proofs.write_word.Given as goal
 
 abbrev pub invariant-loop-i : goal.invariant-loop-i

@@ -2,11 +2,8 @@ use mathlib.Core.Path.{sym, ◌∙◌}
 use Prim.Native.Nat.{◌+◌, ◌-◌, ◌/◌}
 use native.Mathlib.Omega.{arith}
 use lib.ListN.{length}
-use Rattle.rows.specs.inside.Rows.{row_at}
-use Rattle.rows.specs.inside.Rows as sorted-rows
 use Rattle.rows.proofs.RowWords.{row_within}
-use Rattle.rows_single.proofs.Search.{SearchLoop, search_begin, search_up, search_down, search_past, search_end}
-use borrow.Author.Rules.{rules}
+use Rattle.rows_single.proofs.Search.{search_begin, search_up, search_down, search_past, search_end}
 use Rattle.rows_single.proofs.is_among.Goals as goal
 
 pub loop-lo-init : goal.loop-lo-init

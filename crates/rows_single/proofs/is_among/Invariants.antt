@@ -1,12 +1,8 @@
 -- `is_among` halves the rows between those known to be below the row and those known not to be.
-use mathlib.Core.Path.{sym, ◌∙◌}
-use Prim.Native.Nat.{◌+◌, ◌-◌, ◌/◌}
-use native.Mathlib.Omega.{arith}
-use lib.ListN.{length}
+use Prim.Native.Nat.{◌-◌}
 use Rattle.rows.specs.inside.Rows.{row_at}
 use Rattle.rows.specs.inside.Rows as sorted-rows
-use Rattle.rows.proofs.RowWords.{row_within}
-use Rattle.rows_single.proofs.Search.{SearchLoop, search_begin, search_up, search_down, search_past, search_end}
+use Rattle.rows_single.proofs.Search.{SearchLoop}
 use Rattle.rows_single.proofs.is_among.Given as goal
 
 abbrev pub invariant-loop-lo : goal.invariant-loop-lo

@@ -1,11 +1,9 @@
-use mathlib.Core.Path.{◌≡◌, sym}
-use Prim.Native.Nat.{ℕ, ◌+◌, ◌-◌, ◌≤◌, ◌<◌}
+use mathlib.Core.Path.{sym}
+use Prim.Native.Nat.{◌-◌}
 use native.Mathlib.Omega.{arith}
-use lib.ListN.{get_or}
 use borrow.Author.Count.{below_more}
 use Rattle.spec.proofs.RowOrder.{never}
 use Rattle.rows_single.proofs.Search.{same_row}
-use borrow.Author.Rules.{rules}
 use Rattle.rows_single.proofs.is_same.Goals as goal
 
 pub loop-k-init : goal.loop-k-init

@@ -1,11 +1,7 @@
 -- `is_same` is true only where the two rows are the same: their first k words agree.
-use mathlib.Core.Path.{◌≡◌, sym}
+use mathlib.Core.Path.{◌≡◌}
 use Prim.Native.Nat.{ℕ, ◌+◌, ◌-◌, ◌≤◌, ◌<◌}
-use native.Mathlib.Omega.{arith}
 use lib.ListN.{get_or}
-use borrow.Author.Count.{below_more}
-use Rattle.spec.proofs.RowOrder.{never}
-use Rattle.rows_single.proofs.Search.{same_row}
 use Rattle.rows_single.proofs.is_same.Given as goal
 
 abbrev pub invariant-loop-k : goal.invariant-loop-k

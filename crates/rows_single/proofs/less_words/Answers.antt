@@ -1,11 +1,8 @@
-use mathlib.Core.Path.{◌≡◌, sym, ◌∙◌}
-use Prim.Native.Nat.{◌+◌, ◌-◌, ◌≤◌}
+use mathlib.Core.Path.{sym, ◌∙◌}
+use Prim.Native.Nat.{◌-◌}
 use native.Mathlib.Nat.{add-zero, sub-zero}
 use native.Mathlib.Omega.{arith}
-use Rattle.spec.specs.Rows.{less}
-use Rattle.rows.specs.inside.Rows.{row}
 use Rattle.rows.proofs.RowWords.{less-between_more, less-between_stop, less-between_none}
-use borrow.Author.Rules.{rules}
 use Rattle.rows_single.proofs.less_words.Goals as goal
 
 pub loop-k-init : goal.loop-k-init

@@ -1,11 +1,8 @@
 -- `less_words` returns what `less` says of the two rows: the order of the words from word k on is the order of the rows.
-use mathlib.Core.Path.{◌≡◌, sym, ◌∙◌}
+use mathlib.Core.Path.{◌≡◌}
 use Prim.Native.Nat.{◌+◌, ◌-◌, ◌≤◌}
-use native.Mathlib.Nat.{add-zero, sub-zero}
-use native.Mathlib.Omega.{arith}
 use Rattle.spec.specs.Rows.{less}
 use Rattle.rows.specs.inside.Rows.{row}
-use Rattle.rows.proofs.RowWords.{less-between_more, less-between_stop, less-between_none}
 use Rattle.rows_single.proofs.less_words.Given as goal
 
 abbrev pub invariant-loop-k : goal.invariant-loop-k

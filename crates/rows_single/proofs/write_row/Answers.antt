@@ -1,9 +1,8 @@
-use mathlib.Core.Path.{◌≡◌, refl}
-use Prim.Native.Nat.{◌-◌, ◌*◌, ◌≤◌}
+use mathlib.Core.Path.{refl}
+use Prim.Native.Nat.{◌-◌}
 use native.Mathlib.Omega.{arith}
-use lib.ListN.{length, length-set}
-use Rattle.rows_single.proofs.Writing.{WriteLoop, write_none, write_more, write-all}
-use borrow.Author.Rules.{rules}
+use lib.ListN.{length-set}
+use Rattle.rows_single.proofs.Writing.{write_none, write_more, write-all}
 use Rattle.rows_single.proofs.write_row.Goals as goal
 
 pub loop-k-init : goal.loop-k-init

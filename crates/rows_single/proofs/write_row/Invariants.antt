@@ -1,9 +1,8 @@
 -- `write_row` stores the words of a row one after the other.
-use mathlib.Core.Path.{◌≡◌, refl}
+use mathlib.Core.Path.{◌≡◌}
 use Prim.Native.Nat.{◌-◌, ◌*◌, ◌≤◌}
-use native.Mathlib.Omega.{arith}
-use lib.ListN.{length, length-set}
-use Rattle.rows_single.proofs.Writing.{WriteLoop, write_none, write_more, write-all}
+use lib.ListN.{length}
+use Rattle.rows_single.proofs.Writing.{WriteLoop}
 use Rattle.rows_single.proofs.write_row.Given as goal
 
 abbrev pub invariant-loop-k : goal.invariant-loop-k

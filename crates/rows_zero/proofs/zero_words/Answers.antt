@@ -1,10 +1,8 @@
-use mathlib.Core.Path.{◌≡◌, refl}
-use Prim.Native.Nat.{◌-◌, ◌≤◌}
+use mathlib.Core.Path.{refl}
+use Prim.Native.Nat.{◌-◌}
 use native.Mathlib.Omega.{arith}
-use lib.ListN.{length, length-set}
-use Rattle.rows_zero.specs.inside.Effects.{WordsZeroed}
+use lib.ListN.{length-set}
 use Rattle.rows_zero.proofs.ZeroLoop.{zero_none, zero_more, zero-all}
-use borrow.Author.Rules.{rules}
 use Rattle.rows_zero.proofs.zero_words.Goals as goal
 
 pub loop-i-init : goal.loop-i-init

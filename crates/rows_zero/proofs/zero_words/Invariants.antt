@@ -1,10 +1,8 @@
 -- `zero_words` sets the words from a up to e to zero: the loop has done those up to i.
-use mathlib.Core.Path.{◌≡◌, refl}
+use mathlib.Core.Path.{◌≡◌}
 use Prim.Native.Nat.{◌-◌, ◌≤◌}
-use native.Mathlib.Omega.{arith}
-use lib.ListN.{length, length-set}
+use lib.ListN.{length}
 use Rattle.rows_zero.specs.inside.Effects.{WordsZeroed}
-use Rattle.rows_zero.proofs.ZeroLoop.{zero_none, zero_more, zero-all}
 use Rattle.rows_zero.proofs.zero_words.Given as goal
 
 abbrev pub invariant-loop-i : goal.invariant-loop-i

@@ -1,7 +1,6 @@
 -- Those of a class have its term as their subject, and the property 2.
 use native.Mathlib.Omega.{arith}
 use Rattle.saturate_groups.proofs.Groups.{class_starts}
-use borrow.Author.Rules.{rules}
 use Rattle.saturate_groups.proofs.class_group.Goals as goal
 
 pub first_of_group-requires : goal.first_of_group-requires

@@ -4,7 +4,6 @@ use native.Mathlib.Omega.{arith}
 use Rattle.table.proofs.SearchLaws.{between-all}
 use Rattle.saturate_schema.specs.inside.Nodes.{found}
 use Rattle.saturate_groups.proofs.Groups.{group-none}
-use borrow.Author.Rules.{rules}
 use Rattle.saturate_groups.proofs.first_of_group.Goals as goal
 
 pub lower_bound-r-requires : goal.lower_bound-r-requires

@@ -1,9 +1,6 @@
 -- Those of a property have its term as their subject, and a property of 3 or more.
-use mathlib.Core.Path.{ap}
-use Prim.Native.Nat.{ℕ, ◌+◌, ◌^◌}
 use native.Mathlib.Omega.{arith}
 use Rattle.saturate_groups.proofs.Groups.{property_starts}
-use borrow.Author.Rules.{rules}
 use Rattle.saturate_groups.proofs.property_group.Goals as goal
 
 pub first_of_group-requires : goal.first_of_group-requires

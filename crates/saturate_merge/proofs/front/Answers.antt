@@ -2,7 +2,6 @@
 use mathlib.Core.Path.{sym, ◌∙◌}
 use Prim.Native.Nat.{◌-◌}
 use Rattle.saturate_merge.proofs.Streams.{front_none, front-some}
-use borrow.Author.Rules.{rules}
 use Rattle.saturate_merge.proofs.front.Goals as goal
 
 pub returns-then-a-b : goal.returns-then-a-b

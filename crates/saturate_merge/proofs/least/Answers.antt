@@ -1,7 +1,7 @@
 use mathlib.Core.Path.{◌≡◌, sym, ap₂, ◌∙◌}
-use Prim.Native.Nat.{ℕ, ◌≤◌, ◌-◌}
+use Prim.Native.Nat.{ℕ, ◌-◌}
 use native.Mathlib.Omega.{arith}
-use Rattle.saturate_merge.specs.inside.Streams.{streams, least_of, lesser_of}
+use Rattle.saturate_merge.specs.inside.Streams.{lesser_of}
 use Rattle.saturate_merge.proofs.Streams.{least_more, least_none}
 use borrow.Author.Rules.{rules}
 use Rattle.saturate_merge.proofs.least.Goals as goal

@@ -1,9 +1,7 @@
 -- The best so far is the least of the first y streams.
-use mathlib.Core.Path.{◌≡◌, sym, ap₂, ◌∙◌}
-use Prim.Native.Nat.{ℕ, ◌≤◌, ◌-◌}
-use native.Mathlib.Omega.{arith}
-use Rattle.saturate_merge.specs.inside.Streams.{streams, least_of, lesser_of}
-use Rattle.saturate_merge.proofs.Streams.{least_more, least_none}
+use mathlib.Core.Path.{◌≡◌}
+use Prim.Native.Nat.{◌≤◌, ◌-◌}
+use Rattle.saturate_merge.specs.inside.Streams.{streams, least_of}
 use Rattle.saturate_merge.proofs.least.Given as goal
 
 abbrev pub invariant-loop-y : goal.invariant-loop-y

@@ -1,10 +1,6 @@
 use Prim.Native.Nat.{◌-◌}
 use native.Mathlib.Omega.{arith}
-use Rattle.saturate_merge.specs.inside.Output.{output}
-use Rattle.saturate_merge.specs.inside.Streams.{streams}
-use Rattle.saturate_merge.proofs.Streams.{remaining}
-use Rattle.saturate_merge.proofs.Merging.{Turn, turn_start, turn_more, turn-less, turn_end}
-use borrow.Author.Rules.{rules}
+use Rattle.saturate_merge.proofs.Merging.{turn_start, turn_more, turn-less, turn_end}
 use Rattle.saturate_merge.proofs.merge_streams.Goals as goal
 
 pub least-o-requires : goal.least-o-requires
@@ -14,9 +10,7 @@ pub loop-o-init : goal.loop-o-init
 loop-o-init c = turn_start _ _ _ _ _ _ _ _ c.requires.inside c.requires.all_rising c.least-o.ensures
 
 pub step-c-requires : goal.step-c-requires
-step-c-requires c =
-    let both1 = omega arith in
-    record { inside = c.loop-o.invariant.fits; k_bound = both1.0; o_bound = both1.1 }
+step-c-requires c = record { inside = c.loop-o.invariant.fits; k_bound = omega arith; o_bound = omega arith }
 
 pub put-n-requires : goal.put-n-requires
 put-n-requires c = omega (arith, c.loop-o.invariant.same-words, c.loop-o.invariant.same_supports, c.requires.room_in_bounds)

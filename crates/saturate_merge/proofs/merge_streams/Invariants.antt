@@ -1,10 +1,9 @@
 -- Rows below the least object are put, and the streams have the others. The streams shrink with each turn.
 use Prim.Native.Nat.{◌-◌}
-use native.Mathlib.Omega.{arith}
 use Rattle.saturate_merge.specs.inside.Output.{output}
 use Rattle.saturate_merge.specs.inside.Streams.{streams}
 use Rattle.saturate_merge.proofs.Streams.{remaining}
-use Rattle.saturate_merge.proofs.Merging.{Turn, turn_start, turn_more, turn-less, turn_end}
+use Rattle.saturate_merge.proofs.Merging.{Turn}
 use Rattle.saturate_merge.proofs.merge_streams.Given as goal
 
 abbrev pub invariant-loop-o : goal.invariant-loop-o

@@ -2,7 +2,6 @@
 use Prim.Native.Nat.{◌-◌}
 use native.Mathlib.Omega.{arith}
 use Rattle.saturate_merge.proofs.Output.{put_here, put_past, put_full}
-use borrow.Author.Rules.{rules}
 use Rattle.saturate_merge.proofs.put.Goals as goal
 
 pub put_entry-requires : goal.put_entry-requires

@@ -1,8 +1,7 @@
 use mathlib.Core.Path.{◌≡◌, sym, ◌∙◌}
 use Prim.Native.Nat.{◌-◌}
 use native.Mathlib.Omega.{arith}
-use Rattle.saturate_merge.proofs.Streams.{step-hit, Stepping, stepping_start, stepping-hit, stepping_miss, stepping_small}
-use borrow.Author.Rules.{rules}
+use Rattle.saturate_merge.proofs.Streams.{step-hit, stepping_start, stepping-hit, stepping_miss, stepping_small}
 use Rattle.saturate_merge.proofs.step.Goals as goal
 
 pub loop-y-init : goal.loop-y-init

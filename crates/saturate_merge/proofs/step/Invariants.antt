@@ -1,8 +1,6 @@
 -- The streams below y are stepped and counted, the others are as they were.
-use mathlib.Core.Path.{◌≡◌, sym, ◌∙◌}
 use Prim.Native.Nat.{◌-◌}
-use native.Mathlib.Omega.{arith}
-use Rattle.saturate_merge.proofs.Streams.{step-hit, Stepping, stepping_start, stepping-hit, stepping_miss, stepping_small}
+use Rattle.saturate_merge.proofs.Streams.{Stepping}
 use Rattle.saturate_merge.proofs.step.Given as goal
 
 abbrev pub invariant-loop-y : goal.invariant-loop-y

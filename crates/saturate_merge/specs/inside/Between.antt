@@ -1,6 +1,6 @@
 -- The part of a list of kept facts that stands between two rows. Definitions only.
 use Rattle.std.specs.Prelude.{[], ◌∷◌}
-use Rattle.std.proofs.Math.Logic.{Dec·and, Dec·not}
+use Rattle.std.proofs.Math.Logic.Dec
 use Rattle.spec.specs.declared.Triple.{Triple}
 use Rattle.spec.specs.inside.Comparison.{Less, less, same, more, compare_triples, choose}
 use Rattle.spec.proofs.Order.{less_ne, less_asym}
@@ -17,7 +17,7 @@ Within b c t = (¬ Less t b) × Less t c
 
 -- Whether it does.
 unfoldable pub within : (b c t : Triple) → Dec (Within b c t)
-within b c t = Dec·and (Dec·not (less_than t b)) (less_than t c)
+within b c t = Dec.and (Dec.not (less_than t b)) (less_than t c)
 
 -- The rows from b on that stand below c, with their supports.
 unfoldable pub between : Triple → Triple → Kept → Kept

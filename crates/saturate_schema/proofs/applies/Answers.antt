@@ -1,6 +1,5 @@
 -- The word of the property decides.
 use Rattle.saturate_schema.proofs.Closing.{applies_two, applies_three, applies_via}
-use borrow.Author.Rules.{rules}
 use Rattle.saturate_schema.proofs.applies.Goals as goal
 
 pub returns-then-k-eq-SUB_CLASS_OF : goal.returns-then-k-eq-SUB_CLASS_OF

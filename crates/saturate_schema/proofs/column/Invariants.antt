@@ -1,9 +1,7 @@
 -- No column before c is the node.
 use mathlib.Core.Path.{◌≡◌}
 use Prim.Native.Nat.{ℕ, ◌≤◌, ◌-◌, ◌<◌}
-use native.Mathlib.Omega.{arith}
-use Rattle.saturate_schema.specs.inside.Nodes.{found, none, word}
-use Rattle.saturate_schema.proofs.Closing.{absent_more}
+use Rattle.saturate_schema.specs.inside.Nodes.{word}
 use Rattle.saturate_schema.proofs.column.Given as goal
 
 abbrev pub invariant-loop-c : goal.invariant-loop-c

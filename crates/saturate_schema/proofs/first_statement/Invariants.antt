@@ -1,9 +1,7 @@
 -- No statement before i starts at the node.
-use mathlib.Core.Path.{◌≡◌, sym, ◌∙◌}
+use mathlib.Core.Path.{◌≡◌}
 use Prim.Native.Nat.{ℕ, ◌≤◌, ◌-◌, ◌<◌}
-use native.Mathlib.Omega.{arith}
-use Rattle.saturate_schema.specs.inside.Nodes.{subject_node, found, none}
-use Rattle.saturate_schema.proofs.Closing.{absent_more}
+use Rattle.saturate_schema.specs.inside.Nodes.{subject_node}
 use Rattle.saturate_schema.proofs.first_statement.Given as goal
 
 abbrev pub invariant-loop-i : goal.invariant-loop-i

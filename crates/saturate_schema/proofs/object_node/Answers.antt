@@ -3,7 +3,6 @@ use native.Mathlib.Omega.{arith}
 use mathlib.Core.Path.{sym, ap, ◌∙◌}
 use Prim.Native.Nat.{ℕ, ◌^◌, ◌+◌}
 use Rattle.saturate_schema.proofs.Closing.{object_class_node, object_property_node}
-use borrow.Author.Rules.{rules}
 use Rattle.saturate_schema.proofs.object_node.Goals as goal
 
 pub returns-then-statements-i-eq-SUB_PROPERTY_OF : goal.returns-then-statements-i-eq-SUB_PROPERTY_OF

@@ -2,7 +2,6 @@
 use mathlib.Core.Path.{sym, ap, ◌∙◌}
 use Prim.Native.Nat.{ℕ, ◌^◌, ◌+◌}
 use Rattle.saturate_schema.proofs.Closing.{subject_class_node, subject_property_node}
-use borrow.Author.Rules.{rules}
 use Rattle.saturate_schema.proofs.subject_node.Goals as goal
 
 pub returns-then-statements-i-eq-SUB_CLASS_OF : goal.returns-then-statements-i-eq-SUB_CLASS_OF

@@ -1,9 +1,7 @@
 use mathlib.Core.Path.{◌≡◌, refl, ◌∙◌}
-use Prim.Native.Nat.{◌≤◌, ◌-◌, ◌+◌, ◌*◌}
+use Prim.Native.Nat.{◌-◌, ◌+◌, ◌*◌}
 use native.Mathlib.Omega.{arith}
-use lib.ListN.{length}
 use lib.ListN.{length-set}
-use Rattle.saturate_schema.specs.inside.Squares.{Cleared}
 use Rattle.saturate_schema.proofs.Closing.{clear_start, clear-set, clear_pass}
 use borrow.Author.Rules.{rules}
 use Rattle.saturate_squares.proofs.clear_own.Goals as goal

@@ -1,11 +1,8 @@
 -- In the rows below i the bit of their own node is cleared.
-use mathlib.Core.Path.{◌≡◌, refl, ◌∙◌}
-use Prim.Native.Nat.{◌≤◌, ◌-◌, ◌+◌, ◌*◌}
-use native.Mathlib.Omega.{arith}
+use mathlib.Core.Path.{◌≡◌}
+use Prim.Native.Nat.{◌≤◌, ◌-◌}
 use lib.ListN.{length}
-use lib.ListN.{length-set}
 use Rattle.saturate_schema.specs.inside.Squares.{Cleared}
-use Rattle.saturate_schema.proofs.Closing.{clear_start, clear-set, clear_pass}
 use Rattle.saturate_squares.proofs.clear_own.Given as goal
 
 abbrev pub invariant-loop-i : goal.invariant-loop-i

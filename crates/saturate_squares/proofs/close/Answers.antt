@@ -1,9 +1,8 @@
 use mathlib.Core.Path.{◌≡◌, refl, sym, ◌∙◌}
-use Prim.Native.Nat.{◌≤◌, ◌-◌}
+use Prim.Native.Nat.{◌-◌}
 use native.Mathlib.Omega.{arith}
-use lib.ListN.{length}
-use Rattle.saturate_schema.specs.inside.Nodes.{word, edges}
-use Rattle.saturate_schema.specs.inside.Squares.{at, Bits, Closed}
+use Rattle.saturate_schema.specs.inside.Nodes.{word}
+use Rattle.saturate_schema.specs.inside.Squares.{at}
 use Rattle.saturate_schema.proofs.Closing.{closed_start, closed_more, closed_pass, step_made}
 use borrow.Author.Rules.{rules}
 use Rattle.saturate_squares.proofs.close.Goals as goal

@@ -1,11 +1,9 @@
 -- The bits of the square are the walks by the statements below n; a statement that applies extends them.
-use mathlib.Core.Path.{◌≡◌, refl, sym, ◌∙◌}
+use mathlib.Core.Path.{◌≡◌}
 use Prim.Native.Nat.{◌≤◌, ◌-◌}
-use native.Mathlib.Omega.{arith}
 use lib.ListN.{length}
-use Rattle.saturate_schema.specs.inside.Nodes.{word, edges}
+use Rattle.saturate_schema.specs.inside.Nodes.{edges}
 use Rattle.saturate_schema.specs.inside.Squares.{at, Bits, Closed}
-use Rattle.saturate_schema.proofs.Closing.{closed_start, closed_more, closed_pass, step_made}
 use Rattle.saturate_squares.proofs.close.Given as goal
 
 abbrev pub invariant-loop-n : goal.invariant-loop-n

@@ -1,10 +1,9 @@
-use mathlib.Core.Path.{◌≡◌, refl, ◌∙◌}
-use Prim.Native.Nat.{◌≤◌, ◌-◌}
+use mathlib.Core.Path.{refl, ◌∙◌}
+use Prim.Native.Nat.{◌-◌}
 use native.Mathlib.Omega.{arith}
-use lib.ListN.{length}
-use Rattle.saturate_schema.specs.inside.Squares.{at, Bits, Leads}
+use Rattle.saturate_schema.specs.inside.Squares.{at}
 use Rattle.saturate_schema.specs.inside.Nodes.{word}
-use Rattle.saturate_schema.proofs.Squares.{united-joined, united_bits, Spread, spread_start, spread_yes, spread_no}
+use Rattle.saturate_schema.proofs.Squares.{united-joined, united_bits, spread_start, spread_yes, spread_no}
 use Rattle.saturate_schema.proofs.Closing.{leads_old}
 use borrow.Author.Rules.{rules}
 use Rattle.saturate_squares.proofs.close_statement.Goals as goal

@@ -1,12 +1,10 @@
 -- The rows below i that lead to the node have gain; the others are as before.
-use mathlib.Core.Path.{◌≡◌, refl, ◌∙◌}
+use mathlib.Core.Path.{◌≡◌}
 use Prim.Native.Nat.{◌≤◌, ◌-◌}
-use native.Mathlib.Omega.{arith}
 use lib.ListN.{length}
 use Rattle.saturate_schema.specs.inside.Squares.{at, Bits, Leads}
 use Rattle.saturate_schema.specs.inside.Nodes.{word}
-use Rattle.saturate_schema.proofs.Squares.{united-joined, united_bits, Spread, spread_start, spread_yes, spread_no}
-use Rattle.saturate_schema.proofs.Closing.{leads_old}
+use Rattle.saturate_schema.proofs.Squares.{Spread}
 use Rattle.saturate_squares.proofs.close_statement.Given as goal
 
 abbrev pub invariant-loop-i : goal.invariant-loop-i

@@ -1,7 +1,6 @@
 -- The column is the end, or row go has it, or neither.
 use Rattle.saturate_schema.specs.inside.Squares.{at}
 use Rattle.saturate_schema.proofs.Closing.{gain_so, gain_go, gain_none}
-use borrow.Author.Rules.{rules}
 use Rattle.saturate_squares.proofs.gain_bit.Goals as goal
 
 pub returns-then-c-so : goal.returns-then-c-so

@@ -1,9 +1,7 @@
-use mathlib.Core.Path.{◌≡◌, refl, ◌∙◌}
-use Prim.Native.Nat.{◌≤◌, ◌-◌}
+use mathlib.Core.Path.{refl, ◌∙◌}
+use Prim.Native.Nat.{◌-◌}
 use native.Mathlib.Omega.{arith}
-use lib.ListN.{length}
-use Rattle.saturate_schema.specs.inside.Squares.{at, Gained}
-use Rattle.saturate_schema.specs.inside.Nodes.{word}
+use Rattle.saturate_schema.specs.inside.Squares.{at}
 use Rattle.saturate_schema.proofs.Squares.{gained_more}
 use lib.ListN.{length-set}
 use borrow.Author.Rules.{rules}

@@ -1,12 +1,9 @@
 -- The columns below c are worked out.
-use mathlib.Core.Path.{◌≡◌, refl, ◌∙◌}
+use mathlib.Core.Path.{◌≡◌}
 use Prim.Native.Nat.{◌≤◌, ◌-◌}
-use native.Mathlib.Omega.{arith}
 use lib.ListN.{length}
 use Rattle.saturate_schema.specs.inside.Squares.{at, Gained}
 use Rattle.saturate_schema.specs.inside.Nodes.{word}
-use Rattle.saturate_schema.proofs.Squares.{gained_more}
-use lib.ListN.{length-set}
 use Rattle.saturate_squares.proofs.gains.Given as goal
 
 abbrev pub invariant-loop-c : goal.invariant-loop-c

@@ -4,7 +4,6 @@ use Rattle.table.proofs.SearchLaws.{tells_true, tells_equal}
 use Rattle.saturate_schema.specs.inside.Squares.{at}
 use Rattle.saturate_schema.proofs.Closing.{leads_bit, leads-not}
 use mathlib.Core.Logic.{inl}
-use borrow.Author.Rules.{rules}
 use Rattle.saturate_squares.proofs.leads.Goals as goal
 
 pub returns-then-subject_node-s : goal.returns-then-subject_node-s

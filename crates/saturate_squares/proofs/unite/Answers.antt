@@ -1,8 +1,7 @@
 use mathlib.Core.Path.{◌≡◌, refl, ◌∙◌}
-use Prim.Native.Nat.{◌≤◌, ◌-◌, ◌+◌, ◌*◌}
+use Prim.Native.Nat.{◌-◌, ◌+◌, ◌*◌}
 use native.Mathlib.Omega.{arith}
-use lib.ListN.{length, length-set}
-use Rattle.saturate_schema.specs.inside.Squares.{United}
+use lib.ListN.{length-set}
 use Rattle.saturate_schema.proofs.Squares.{united_start, united_more}
 use borrow.Author.Rules.{rules}
 use Rattle.saturate_squares.proofs.unite.Goals as goal

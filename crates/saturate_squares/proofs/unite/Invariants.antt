@@ -1,10 +1,8 @@
 -- The columns below c of row a have what gain has.
-use mathlib.Core.Path.{◌≡◌, refl, ◌∙◌}
-use Prim.Native.Nat.{◌≤◌, ◌-◌, ◌+◌, ◌*◌}
-use native.Mathlib.Omega.{arith}
-use lib.ListN.{length, length-set}
+use mathlib.Core.Path.{◌≡◌}
+use Prim.Native.Nat.{◌≤◌, ◌-◌}
+use lib.ListN.{length}
 use Rattle.saturate_schema.specs.inside.Squares.{United}
-use Rattle.saturate_schema.proofs.Squares.{united_start, united_more}
 use Rattle.saturate_squares.proofs.unite.Given as goal
 
 abbrev pub invariant-loop-c : goal.invariant-loop-c

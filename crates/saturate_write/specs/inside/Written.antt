@@ -13,13 +13,13 @@ pub record Result : Type 0 where
   pub supports : List ℕ
 
 -- The result of its parts.
-abbrev pub result : Bool → List ℕ → List ℕ → Result
-result b ws us = record { fits = b; kept = ws; supports = us }
+abbrev pub result_of : Bool → List ℕ → List ℕ → Result
+result_of b ws us = record { fits = b; kept = ws; supports = us }
 
 -- The kept facts K in tables with these words: all of them if they fit room, else the words as they were.
 unfoldable pub written : Kept → ℕ → List ℕ → List ℕ → Result
 written K room ws us =
-    result (leb (length K) room) (cond (leb (length K) room) (layout (length ws) (kept_rows K)) ws) (cond (leb (length K) room) (padded (length us) (kept_supports K)) us)
+    result_of (leb (length K) room) (cond (leb (length K) room) (layout (length ws) (kept_rows K)) ws) (cond (leb (length K) room) (padded (length us) (kept_supports K)) us)
 
 -- A list of kept facts that has the supports.
 pub record Exists (st : List ℕ) (m : ℕ) (d r keys : List ℕ) (nc ns : ℕ) (f : List ℕ) (n : ℕ) : Type 0 where

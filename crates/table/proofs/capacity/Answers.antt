@@ -1,7 +1,6 @@
 -- By the three cases of the definition.
 use Rattle.spec.proofs.TableFormed.{capacity_none, capacity_room, capacity_limit}
 use native.Mathlib.Omega.{arith}
-use borrow.Author.Rules.{rules}
 use Rattle.table.proofs.capacity.Goals as goal
 
 pub returns-then-words-eq0 : goal.returns-then-words-eq0

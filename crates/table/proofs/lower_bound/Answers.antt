@@ -1,8 +1,6 @@
 use native.Mathlib.Omega.{arith}
-use Prim.Native.Nat.{◌+◌, ◌/◌, ◌<◌}
+use Prim.Native.Nat.{◌/◌, ◌<◌}
 use Rattle.table.proofs.SearchLaws.{between-counted, between_none, halved, halved-less}
-use Rattle.table.specs.inside.Bounds.{Between}
-use borrow.Author.Rules.{rules}
 use Rattle.table.proofs.lower_bound.Goals as goal
 
 pub loop-left-init : goal.loop-left-init

@@ -1,7 +1,5 @@
 -- The invariant: the row looked for stands from lo on, at most left rows further.
-use native.Mathlib.Omega.{arith}
-use Prim.Native.Nat.{◌+◌, ◌/◌, ◌<◌}
-use Rattle.table.proofs.SearchLaws.{between-counted, between_none, halved, halved-less}
+use Prim.Native.Nat.{◌+◌}
 use Rattle.table.specs.inside.Bounds.{Between}
 use Rattle.table.proofs.lower_bound.Given as goal
 

@@ -1,7 +1,6 @@
 -- By computation.
 use mathlib.Core.Path.{refl}
 use Rattle.spec.specs.Tables.{row_at}
-use borrow.Author.Rules.{rules}
 use Rattle.table.proofs.row_at.Goals as goal
 
 pub returns : goal.returns

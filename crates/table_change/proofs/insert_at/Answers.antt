@@ -2,7 +2,6 @@
 use native.Mathlib.Omega.{arith}
 use lib.ListN.{length-set}
 use Rattle.table_change.proofs.Insert.{put-row}
-use borrow.Author.Rules.{rules}
 use Rattle.table_change.proofs.insert_at.Goals as goal
 
 pub bounds-t-k-2 : goal.bounds-t-k-2

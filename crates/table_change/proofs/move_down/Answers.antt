@@ -1,8 +1,7 @@
-use Prim.Native.Nat.{◌≤◌, ◌-◌}
+use Prim.Native.Nat.{◌-◌}
 use mathlib.Core.Path.{◌≡◌, refl}
 use native.Mathlib.Omega.{arith}
-use lib.ListN.{length, length-set}
-use Rattle.table_change.specs.inside.Words.{moved_down}
+use lib.ListN.{length-set}
 use Rattle.table_change.proofs.Shift.{down_none, down_step}
 use borrow.Author.Rules.{rules}
 use Rattle.table_change.proofs.move_down.Goals as goal

@@ -1,10 +1,8 @@
 -- The invariant: the words from a + 3 to i + 3 are moved already.
 use Prim.Native.Nat.{◌≤◌, ◌-◌}
-use mathlib.Core.Path.{◌≡◌, refl}
-use native.Mathlib.Omega.{arith}
-use lib.ListN.{length, length-set}
+use mathlib.Core.Path.{◌≡◌}
+use lib.ListN.{length}
 use Rattle.table_change.specs.inside.Words.{moved_down}
-use Rattle.table_change.proofs.Shift.{down_none, down_step}
 use Rattle.table_change.proofs.move_down.Given as goal
 
 abbrev pub invariant-loop-i : goal.invariant-loop-i

@@ -1,8 +1,6 @@
-use Prim.Native.Nat.{◌≤◌}
 use mathlib.Core.Path.{◌≡◌, refl}
 use native.Mathlib.Omega.{arith}
-use lib.ListN.{length, length-set}
-use Rattle.table_change.specs.inside.Words.{moved_up}
+use lib.ListN.{length-set}
 use Rattle.table_change.proofs.Shift.{up_none, up_step}
 use borrow.Author.Rules.{rules}
 use Rattle.table_change.proofs.move_up.Goals as goal

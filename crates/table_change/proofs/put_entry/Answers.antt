@@ -3,7 +3,6 @@ use mathlib.Core.Path.{refl}
 use native.Mathlib.Omega.{arith}
 use lib.ListN.{length-set}
 use Rattle.table_change.specs.inside.Words.{put_row}
-use borrow.Author.Rules.{rules}
 use Rattle.table_change.proofs.put_entry.Goals as goal
 
 pub bounds-kept-at-2 : goal.bounds-kept-at-2

@@ -2,7 +2,6 @@
 use native.Mathlib.Omega.{arith}
 use lib.ListN.{length-set}
 use Rattle.table_change.proofs.Remove.{drop-row}
-use borrow.Author.Rules.{rules}
 use Rattle.table_change.proofs.remove_at.Goals as goal
 
 pub bounds-t-e-2 : goal.bounds-t-e-2

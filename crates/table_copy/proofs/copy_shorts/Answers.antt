@@ -1,10 +1,9 @@
-use Prim.Native.Nat.{ℕ, ◌-◌, ◌≤◌}
+use Prim.Native.Nat.{ℕ, ◌-◌}
 use mathlib.Core.Path.{◌≡◌, refl, ap, ◌∙◌}
-use mathlib.Core.List.{List, ◌++◌}
+use mathlib.Core.List.{List}
 use native.Mathlib.Omega.{arith}
-use lib.ListN.{length, get_or, take, drop, set, length-set}
+use lib.ListN.{get_or, set, length-set}
 use Rattle.table_copy.proofs.Copied.{copied_more}
-use borrow.Author.Rules.{rules}
 use Rattle.table_copy.proofs.copy_shorts.Goals as goal
 
 pub loop-place-init : goal.loop-place-init

@@ -1,10 +1,8 @@
 -- The invariant: the first numbers, up to a place, are copied, and the other words are as they were.
-use Prim.Native.Nat.{ℕ, ◌-◌, ◌≤◌}
-use mathlib.Core.Path.{◌≡◌, refl, ap, ◌∙◌}
-use mathlib.Core.List.{List, ◌++◌}
-use native.Mathlib.Omega.{arith}
-use lib.ListN.{length, get_or, take, drop, set, length-set}
-use Rattle.table_copy.proofs.Copied.{copied_more}
+use Prim.Native.Nat.{◌-◌, ◌≤◌}
+use mathlib.Core.Path.{◌≡◌}
+use mathlib.Core.List.{◌++◌}
+use lib.ListN.{length, take, drop}
 use Rattle.table_copy.proofs.copy_shorts.Given as goal
 
 abbrev pub invariant-loop-place : goal.invariant-loop-place

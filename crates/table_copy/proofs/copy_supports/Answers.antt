@@ -1,6 +1,5 @@
 -- The supports of the rows are copied, and what is behind them is set to zero.
 use Rattle.table_copy.proofs.Copied.{copied-padded}
-use borrow.Author.Rules.{rules}
 use Rattle.table_copy.proofs.copy_supports.Goals as goal
 
 pub returns : goal.returns

@@ -2,7 +2,6 @@
 use Rattle.spec.specs.Tables.{count}
 use Prim.Native.Nat.{◌+◌, ◌*◌}
 use Rattle.table_copy.proofs.Copied.{copied-padded, copied-layout, laid_room}
-use borrow.Author.Rules.{rules}
 use Rattle.table_copy.proofs.copy_table.Goals as goal
 
 pub returns : goal.returns

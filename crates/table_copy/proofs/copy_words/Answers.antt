@@ -1,10 +1,9 @@
-use Prim.Native.Nat.{ℕ, ◌-◌, ◌≤◌}
+use Prim.Native.Nat.{ℕ, ◌-◌}
 use mathlib.Core.Path.{◌≡◌, refl, ap, ◌∙◌}
-use mathlib.Core.List.{List, ◌++◌}
+use mathlib.Core.List.{List}
 use native.Mathlib.Omega.{arith}
-use lib.ListN.{length, get_or, take, drop, set, length-set}
+use lib.ListN.{get_or, set, length-set}
 use Rattle.table_copy.proofs.Copied.{copied_more}
-use borrow.Author.Rules.{rules}
 use Rattle.table_copy.proofs.copy_words.Goals as goal
 
 pub loop-i-init : goal.loop-i-init

@@ -4,7 +4,6 @@ use Rattle.spec.specs.inside.Comparison.{by_subject_lem, by_property}
 use Rattle.table_find.specs.declared.Ordering.TheVariants.{Lower, Higher}
 use Rattle.spec.specs.Tables.{row_at}
 use Rattle.table_find.proofs.Place.{says-ordering, by_objects}
-use borrow.Author.Rules.{rules}
 use Rattle.table_find.proofs.compare_at.Goals as goal
 
 pub returns-in-Lower : goal.returns-in-Lower

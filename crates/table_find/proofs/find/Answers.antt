@@ -3,7 +3,6 @@ use mathlib.Core.Path.{sym}
 use native.Mathlib.Omega.{arith}
 use Rattle.table.proofs.SearchLaws.{between-all}
 use Rattle.table_find.proofs.FindLaws.{found_at, found_gap}
-use borrow.Author.Rules.{rules}
 use Rattle.table_find.proofs.find.Goals as goal
 
 pub lower_bound-i-requires : goal.lower_bound-i-requires

@@ -1,6 +1,5 @@
 -- The words of the row decide.
 use Rattle.table_find.proofs.FindLaws.{row_is}
-use borrow.Author.Rules.{rules}
 use Rattle.table_find.proofs.is_row.Goals as goal
 
 pub returns : goal.returns

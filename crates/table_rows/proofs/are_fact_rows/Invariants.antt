@@ -1,12 +1,8 @@
 -- The invariant: of all rows the answer is that of the rows from i on.
 use Prim.Native.Nat.{◌-◌, ◌≤◌, ◌<◌}
-use mathlib.Core.Path.{◌≡◌, refl, sym, ◌∙◌}
-use native.Mathlib.Omega.{arith}
-use borrow.Author.Tests.{not-true, not-false}
+use mathlib.Core.Path.{◌≡◌}
 use Rattle.spec.specs.Terms.{is_allowed_fact}
-use Rattle.spec.proofs.TableAll.{answered}
 use Rattle.table_rows.specs.inside.Rows.{are_rows_from}
-use Rattle.table_rows.proofs.Scan.{refused, passed, no_row, first_part_lem}
 use Rattle.table_rows.proofs.are_fact_rows.Given as goal
 
 abbrev pub invariant-loop-i : goal.invariant-loop-i

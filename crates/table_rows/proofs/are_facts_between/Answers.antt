@@ -1,9 +1,7 @@
-use Prim.Native.Nat.{◌-◌, ◌≤◌, ◌<◌}
-use mathlib.Core.Path.{◌≡◌, refl, sym, ◌∙◌}
-use mathlib.Core.Bool.{◌&&◌}
+use Prim.Native.Nat.{◌-◌}
+use mathlib.Core.Path.{refl, sym, ◌∙◌}
 use native.Mathlib.Omega.{arith}
 use Rattle.spec.specs.Terms.{is_allowed_fact}
-use Rattle.table_rows.specs.inside.Rows.{are_rows_from}
 use Rattle.table_zeros.proofs.Folds.{fold_end}
 use Rattle.table_rows.proofs.Scan.{no_row, row_fold}
 use borrow.Author.Rules.{rules}

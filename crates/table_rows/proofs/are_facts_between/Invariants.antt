@@ -1,12 +1,9 @@
 -- The invariant: of the rows from a on the answer is the one so far and that of the rows from i on.
 use Prim.Native.Nat.{◌-◌, ◌≤◌, ◌<◌}
-use mathlib.Core.Path.{◌≡◌, refl, sym, ◌∙◌}
+use mathlib.Core.Path.{◌≡◌}
 use mathlib.Core.Bool.{◌&&◌}
-use native.Mathlib.Omega.{arith}
 use Rattle.spec.specs.Terms.{is_allowed_fact}
 use Rattle.table_rows.specs.inside.Rows.{are_rows_from}
-use Rattle.table_zeros.proofs.Folds.{fold_end}
-use Rattle.table_rows.proofs.Scan.{no_row, row_fold}
 use Rattle.table_rows.proofs.are_facts_between.Given as goal
 
 abbrev pub invariant-loop-i : goal.invariant-loop-i

@@ -1,12 +1,10 @@
-use Prim.Native.Nat.{◌-◌, ◌≤◌}
-use mathlib.Core.Path.{◌≡◌, refl, sym, ◌∙◌}
+use Prim.Native.Nat.{◌-◌}
+use mathlib.Core.Path.{refl, sym, ◌∙◌}
 use native.Mathlib.Omega.{arith}
-use borrow.Author.Tests.{not-true, not-false}
 use borrow.Author.Count.{below_more}
 use Rattle.spec.specs.Terms.{is_allowed_statement}
-use Rattle.table_rows.specs.inside.Rows.{are_rows_from}
 use Rattle.spec.proofs.TableAll.{answered}
-use Rattle.table_rows.proofs.Scan.{refused, passed, ascended, not_ascended, no_row, Same, less_before, more_before, same_before}
+use Rattle.table_rows.proofs.Scan.{refused, passed, ascended, not_ascended, no_row, less_before, more_before, same_before}
 use borrow.Author.Rules.{rules}
 use Rattle.table_rows.proofs.are_statement_rows.Goals as goal
 
@@ -14,17 +12,17 @@ pub rows-init : goal.rows-init
 rows-init c = (search rules, refl)
 
 pub returns-then-not-is_allowed_statement : goal.returns-then-not-is_allowed_statement
-returns-then-not-is_allowed_statement c = sym (c.rows.invariant.1 ∙ refused is_allowed_statement c.args.t.now c.args.n c.rows.i c.rows-test.true (answered is_allowed_statement c.row_at.ensures c.is_allowed_statement.ensures (not-true _ c.if-not-is_allowed_statement.true)))
+returns-then-not-is_allowed_statement c = sym (c.rows.invariant.1 ∙ refused is_allowed_statement c.args.t.now c.args.n c.rows.i c.rows-test.true (answered is_allowed_statement c.row_at.ensures c.is_allowed_statement.ensures c.if-not-is_allowed_statement.true))
 
 pub rows-preserved-then-row-eq0 : goal.rows-preserved-then-row-eq0
-rows-preserved-then-row-eq0 c = (search rules, c.rows.invariant.1 ∙ passed is_allowed_statement c.args.t.now c.args.n c.rows.i c.if-row-eq0.true c.rows-test.true (answered is_allowed_statement c.row_at.ensures c.is_allowed_statement.ensures (not-false _ c.if-not-is_allowed_statement.false)))
+rows-preserved-then-row-eq0 c = (search rules, c.rows.invariant.1 ∙ passed is_allowed_statement c.args.t.now c.args.n c.rows.i c.if-row-eq0.true c.rows-test.true (answered is_allowed_statement c.row_at.ensures c.is_allowed_statement.ensures c.if-not-is_allowed_statement.false))
 
 pub words-init : goal.words-init
 words-init c = (search rules, λ j h. absurd (omega arith))
 
 pub rows-preserved : goal.rows-preserved
 rows-preserved c = let l = less_before c.args.t.now c.rows.i (omega (arith, c.if-row-eq0.false)) c.words.k c.words.invariant.1 c.words-test.true c.if-a-b.true in
-    (search rules, c.rows.invariant.1 ∙ ascended is_allowed_statement c.args.t.now c.args.n c.rows.i (omega (arith, c.if-row-eq0.false)) c.rows-test.true (answered is_allowed_statement c.row_at.ensures c.is_allowed_statement.ensures (not-false _ c.if-not-is_allowed_statement.false)) l)
+    (search rules, c.rows.invariant.1 ∙ ascended is_allowed_statement c.args.t.now c.args.n c.rows.i (omega (arith, c.if-row-eq0.false)) c.rows-test.true (answered is_allowed_statement c.row_at.ensures c.is_allowed_statement.ensures c.if-not-is_allowed_statement.false) l)
 
 pub returns-then-b-a : goal.returns-then-b-a
 returns-then-b-a c = let l = more_before c.args.t.now c.rows.i (omega (arith, c.if-row-eq0.false)) c.words.k c.words.invariant.1 c.words-test.true c.if-b-a.true in

@@ -1,13 +1,9 @@
 -- The invariant: of all rows the answer is that of the rows from i on; of two rows the words before the k-th are equal.
 use Prim.Native.Nat.{◌-◌, ◌≤◌}
-use mathlib.Core.Path.{◌≡◌, refl, sym, ◌∙◌}
-use native.Mathlib.Omega.{arith}
-use borrow.Author.Tests.{not-true, not-false}
-use borrow.Author.Count.{below_more}
+use mathlib.Core.Path.{◌≡◌}
 use Rattle.spec.specs.Terms.{is_allowed_statement}
 use Rattle.table_rows.specs.inside.Rows.{are_rows_from}
-use Rattle.spec.proofs.TableAll.{answered}
-use Rattle.table_rows.proofs.Scan.{refused, passed, ascended, not_ascended, no_row, Same, less_before, more_before, same_before}
+use Rattle.table_rows.proofs.Scan.{Same}
 use Rattle.table_rows.proofs.are_statement_rows.Given as goal
 
 abbrev pub invariant-words : goal.invariant-words

@@ -1,10 +1,7 @@
-use Prim.Native.Nat.{◌-◌, ◌≤◌}
-use mathlib.Core.Path.{◌≡◌, refl, sym, ◌∙◌}
-use mathlib.Core.Bool.{◌&&◌}
+use Prim.Native.Nat.{◌-◌}
+use mathlib.Core.Path.{refl, sym, ◌∙◌}
 use native.Mathlib.Omega.{arith}
-use lib.ListN.{take, drop, get_or}
-use Rattle.spec.specs.Tables.{is_support}
-use Rattle.spec.specs.Lists.{all}
+use lib.ListN.{get_or}
 use Rattle.table_zeros.proofs.Folds.{fold_end}
 use Rattle.table_supports.proofs.Tests.{support_fold, support_end}
 use borrow.Author.Rules.{rules}

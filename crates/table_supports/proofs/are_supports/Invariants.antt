@@ -1,13 +1,10 @@
 -- The invariant: of the n supports the answer is the one so far and that of those from i on.
 use Prim.Native.Nat.{◌-◌, ◌≤◌}
-use mathlib.Core.Path.{◌≡◌, refl, sym, ◌∙◌}
+use mathlib.Core.Path.{◌≡◌}
 use mathlib.Core.Bool.{◌&&◌}
-use native.Mathlib.Omega.{arith}
-use lib.ListN.{take, drop, get_or}
+use lib.ListN.{take, drop}
 use Rattle.spec.specs.Tables.{is_support}
 use Rattle.spec.specs.Lists.{all}
-use Rattle.table_zeros.proofs.Folds.{fold_end}
-use Rattle.table_supports.proofs.Tests.{support_fold, support_end}
 use Rattle.table_supports.proofs.are_supports.Given as goal
 
 abbrev pub invariant-loop-i : goal.invariant-loop-i

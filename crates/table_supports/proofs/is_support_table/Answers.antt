@@ -1,7 +1,6 @@
 -- By the tests of `is_support_table`, one by one.
 use mathlib.Core.Path.{sym}
 use Rattle.table_supports.proofs.Tests.{too_few, enough_places}
-use borrow.Author.Rules.{rules}
 use Rattle.table_supports.proofs.is_support_table.Goals as goal
 
 pub returns-then-u-n : goal.returns-then-u-n

@@ -1,8 +1,5 @@
 use Prim.Native.Nat.{◌-◌}
-use mathlib.Core.Path.{◌≡◌, refl, sym, ◌∙◌}
-use mathlib.Core.Bool.{◌&&◌}
-use lib.ListN.{length, drop}
-use Rattle.spec.specs.Tables.{are_zero}
+use mathlib.Core.Path.{refl, sym, ◌∙◌}
 use Rattle.spec.proofs.TableAll.{zeros_end}
 use Rattle.table_zeros.proofs.Folds.{fold_end, zeros_fold}
 use borrow.Author.Rules.{rules}

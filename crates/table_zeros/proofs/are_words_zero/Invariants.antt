@@ -1,11 +1,9 @@
 -- The invariant: of all words from `from` on the answer is the one so far and that of the words from i on.
 use Prim.Native.Nat.{◌-◌}
-use mathlib.Core.Path.{◌≡◌, refl, sym, ◌∙◌}
+use mathlib.Core.Path.{◌≡◌}
 use mathlib.Core.Bool.{◌&&◌}
 use lib.ListN.{length, drop}
 use Rattle.spec.specs.Tables.{are_zero}
-use Rattle.spec.proofs.TableAll.{zeros_end}
-use Rattle.table_zeros.proofs.Folds.{fold_end, zeros_fold}
 use Rattle.table_zeros.proofs.are_words_zero.Given as goal
 
 abbrev pub invariant-loop-i : goal.invariant-loop-i

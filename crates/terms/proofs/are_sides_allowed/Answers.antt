@@ -1,6 +1,5 @@
 -- The result is the definition's, by what the calls ensure. Assumes nothing.
 use Rattle.terms.proofs.Sides.{of_classes, of_properties, of_both}
-use borrow.Author.Rules.{rules}
 use Rattle.terms.proofs.are_sides_allowed.Goals as goal
 
 pub returns-then-t-eq-SUB_CLASS_OF : goal.returns-then-t-eq-SUB_CLASS_OF

@@ -1,7 +1,6 @@
 -- The lesser of two numbers.
 use mathlib.Core.Path.{refl}
 use native.Mathlib.Omega.{arith}
-use borrow.Author.Rules.{rules}
 use Rattle.update_kept.proofs.kept_capacity.Goals as goal
 
 pub returns-then-rows-supports : goal.returns-then-rows-supports

@@ -1,7 +1,6 @@
 -- By what the search found.
 use mathlib.Core.Path.{sym, ap, ◌∙◌}
 use Rattle.update_raise.specs.inside.Raising.{absence}
-use borrow.Author.Rules.{rules}
 use Rattle.update_raise.proofs.absent.Goals as goal
 
 pub returns-in-At : goal.returns-in-At

@@ -1,6 +1,6 @@
 use Prim.Native.Nat.{◌-◌}
 use native.Mathlib.Omega.{arith}
-use Rattle.update_raise.proofs.Missing.{Counting, counting_start, counting_step, counting_end, absence-bound}
+use Rattle.update_raise.proofs.Missing.{counting_start, counting_step, counting_end, absence-bound}
 use Rattle.update_kept.proofs.Entries.{sought_ready}
 use borrow.Author.Rules.{rules}
 use Rattle.update_raise.proofs.count_missing.Goals as goal

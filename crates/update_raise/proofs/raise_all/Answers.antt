@@ -1,10 +1,8 @@
-use Prim.Native.Nat.{◌+◌}
 use mathlib.Core.Path.{sym, ◌∙◌}
 use native.Mathlib.Omega.{arith}
 use Rattle.table_find.specs.declared.Ordering.TheVariants.{Lower, Equal, Higher}
 use Rattle.update_raise.proofs.Raise.{last_says}
-use Rattle.update_raise.proofs.RaisePass.{Pass, code-start, code-higher, code-equal, code-room, code-lower, code_fits, code-end}
-use borrow.Author.Rules.{rules}
+use Rattle.update_raise.proofs.RaisePass.{code-start, code-higher, code-equal, code-room, code-lower, code_fits, code-end}
 use Rattle.update_raise.proofs.raise_all.Goals as goal
 
 pub loop-j-init : goal.loop-j-init

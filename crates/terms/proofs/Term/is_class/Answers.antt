@@ -1,5 +1,4 @@
 -- The result is the definition's, by what the calls ensure. Assumes nothing.
-use borrow.Author.Rules.{rules}
 use Rattle.terms.proofs.Term.is_class.Goals as goal
 
 pub returns : goal.returns

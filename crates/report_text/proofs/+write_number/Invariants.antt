@@ -1,0 +1,5 @@
+-- The number without its last digit is less.
+use Rattle.report_text.proofs.+write_number.Given as goal
+
+abbrev pub decreases-write_number : goal.decreases-write_number
+decreases-write_number l = l.n
