@@ -61,14 +61,14 @@ fn is_barred(c: u32) -> bool
 
 // Whether a character may stand in an IRI.
 pub fn is_iri_char(c: u32) -> bool
-    ensures { result ≡ isIriChar c }
+    ensures { result ≡ is_iri_char c }
 {
     (0x20 < c) & !is_barred(c)
 }
 
 // Whether a character may stand in a string.
 pub fn is_string_char(c: u32) -> bool
-    ensures { result ≡ isStringChar c }
+    ensures { result ≡ is_string_char c }
 {
     !((c == b'"' as u32) | ((c == b'\\' as u32) | ((c == b'\n' as u32) | (c == b'\r' as u32))))
 }

@@ -69,11 +69,11 @@ and_cases true b e = inr e
 and_cases false b e = inl e
 
 -- Question 1 as the code asks it.
-pub store_no : (T : Tables) {b : Bool} → b ≡ is_old_store T → not b ≡ true → is_old_store T ≡ false
-store_no T {b} e n = sym e ∙ not-true b n
+pub store_no : (T : Tables) {b : Bool} → b ≡ is_old_store T → b ≡ false → is_old_store T ≡ false
+store_no T {b} e n = sym e ∙ n
 
-pub store_yes : (T : Tables) {b : Bool} → b ≡ is_old_store T → not b ≡ false → is_old_store T ≡ true
-store_yes T {b} e n = sym e ∙ not-false b n
+pub store_yes : (T : Tables) {b : Bool} → b ≡ is_old_store T → b ≡ true → is_old_store T ≡ true
+store_yes T {b} e n = sym e ∙ n
 
 module _ (T : Tables) (L : Lengths) where
   abbrev pub is_room : Bool

@@ -151,8 +151,8 @@ module _ (t : TextTriple) (T : Terms t) where
       all_append is_scalar line (codes "\n" ++ rest) (spaced-all is_scalar T.s.chars T.p.chars T.o.chars (codes " .") refl T.s.scalar T.p.scalar T.o.scalar refl) h
 
   -- and its bytes are those of the triple's line.
-  line_bytes : (bytes rest : List ℕ) → bytes ≡ utf8 rest → line_bytes t ++ bytes ≡ utf8 (line ++ (codes "\n" ++ rest))
-  line_bytes bytes rest e = spaced-bytes t T.s.chars T.p.chars T.o.chars bytes rest T.s.same T.p.same T.o.same e
+  line_bytes_lem : (bytes rest : List ℕ) → bytes ≡ utf8 rest → line_bytes t ++ bytes ≡ utf8 (line ++ (codes "\n" ++ rest))
+  line_bytes_lem bytes rest e = spaced-bytes t T.s.chars T.p.chars T.o.chars bytes rest T.s.same T.p.same T.o.same e
 
 -- ---- documents
 
@@ -182,7 +182,7 @@ written-lines (t ∷ ts) h =
     record {
       chars = line t T ++ (codes "\n" ++ L.chars);
       scalar = line_scalar t T L.chars L.scalar;
-      encoded = line_bytes t T (document_bytes ts) L.chars L.encoded;
+      encoded = line_bytes_lem t T (document_bytes ts) L.chars L.encoded;
       says = Says.more (line t T) (codes "\n") L.chars (t ∷ []) ts refl (line_one t T) (LineSays.one_triple t (triple_line t T) refl) line_feed L.says refl;
       canonical = CanonicalLines.more (line t T) L.chars refl (canonical_line t T) L.canonical;
       normal = (means_normal T.o.chars t.object T.o.means T.o.same, L.normal);

@@ -30,7 +30,7 @@ pub record NoText (es : List Entry) (ts : List Triple) : Type 0 where
 pub data WritingRefusedBy (formed : Bool) (table dictionary : List ℕ) (len n : ℕ) : Type 0 where
   no_table : n ≡ 1 → formed ≡ false → WritingRefusedBy formed table dictionary len n
   no_dictionary : n ≡ 1 → is_dictionary dictionary ≡ false → WritingRefusedBy formed table dictionary len n
-  no_text_lem
+  no_text
       : n ≡ 16 → formed ≡ true → is_dictionary dictionary ≡ true → NoText (entries dictionary) (rows table)
       → WritingRefusedBy formed table dictionary len n
   no_room

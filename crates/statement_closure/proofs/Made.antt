@@ -92,8 +92,8 @@ module _ (st : List ℕ) (w : WellFormed is_allowed_statement most_statements st
   class_small i l = omega (arith, row-subject st i, (statements_are st w).small i l)
 
   -- and of a subproperty statement's.
-  property_node : (i : ℕ) → (row_at st i).property ≡ 3 → subject_node st i ≡ property_node (row_at st i).subject
-  property_node i e = subject_property_node st i (λ z. omega (arith, row_property st i)) ∙ ap property_node (sym (row-subject st i))
+  property_node_lem : (i : ℕ) → (row_at st i).property ≡ 3 → subject_node st i ≡ property_node (row_at st i).subject
+  property_node_lem i e = subject_property_node st i (λ z. omega (arith, row_property st i)) ∙ ap property_node (sym (row-subject st i))
 
   class_bits : (i c : ℕ) → i < count st → (row_at st i).property ≡ 2 → c < ns → (bit_at ws i c ≡ 1) ↔ (IsColumn ws 2 c × Steps (rows st) 2 (row_at st i).subject (term_at ws c))
   class_bits i c l e lc =
@@ -112,7 +112,7 @@ module _ (st : List ℕ) (w : WellFormed is_allowed_statement most_statements st
 
   property_bits : (i c : ℕ) → i < count st → (row_at st i).property ≡ 3 → c < ns → (bit_at ws i c ≡ 1) ↔ (IsColumn ws 3 c × Steps (rows st) 3 (row_at st i).subject (term_at ws c))
   property_bits i c l e lc =
-      let n = property_node i e in
+      let n = property_node_lem i e in
       by_cases (dec_lt c nc)
       (λ k. (
         λ q. absurd (omega (arith, property_end st w (row_at st i).subject (get_or col c 0) (rw n at ((bit_walk i c l lc).0 q)), p.before c k)),

@@ -18,7 +18,7 @@ same_length : tie.Need-same-length
 same_length c = search rules
 
 returns : tie.Need-returns
-returns c = writing_numbered _ _ _ _ _ c.byte-reply-number.ensures.0 c.byte-reply-number.ensures.1 c.before.before.before.before.write-Kept.ensures
+returns c = writing_numbered _ _ _ _ _ c.byte-reply-number.ensures.0 c.byte-reply-number.ensures.1 c.before.before.before.before.write-kept.ensures
 
 pub families-write-kept-spec : {M : Type 1} → statement M
 families-write-kept-spec =

@@ -22,7 +22,7 @@ array-share-prefix-out : tie.Need-array-share-prefix-out
 array-share-prefix-out c = search rules
 
 slice-aggregate-write-all : tie.Need-slice-aggregate-write-all
-slice-aggregate-write-all c = sym (length-take-le _ c.before.before.before.write.new.1.1.1.0 (omega (arith, c.before.end_of_lem.ensures, c.before.before.before.write.auto.1.1.1.0)))
+slice-aggregate-write-all c = sym (length-take-le _ c.before.before.before.write.new.1.1.1.0 (omega (arith, c.before.end_of.ensures, c.before.before.before.write.auto.1.1.1.0)))
 
 write-all-requires-2 : tie.Need-write-all-requires-2
 write-all-requires-2 c κs = search rules
@@ -31,7 +31,7 @@ array-share-prefix-out-2 : tie.Need-array-share-prefix-out-2
 array-share-prefix-out-2 c = search rules
 
 slice-aggregate-read-back : tie.Need-slice-aggregate-read-back
-slice-aggregate-read-back c = sym (length-take-le _ c.before.before.before.before.before.write.new.1.1.1.0 (omega (arith, c.before.before.before.end_of_lem.ensures, c.before.before.before.before.before.write.auto.1.1.1.0)))
+slice-aggregate-read-back c = sym (length-take-le _ c.before.before.before.before.before.write.new.1.1.1.0 (omega (arith, c.before.before.before.end_of.ensures, c.before.before.before.before.before.write.auto.1.1.1.0)))
 
 read-back-requires : tie.Need-read-back-requires
 read-back-requires c κs = search rules
@@ -40,7 +40,7 @@ array-share-prefix-out-3 : tie.Need-array-share-prefix-out-3
 array-share-prefix-out-3 c = search rules
 
 slice-aggregate-read-back-2 : tie.Need-slice-aggregate-read-back-2
-slice-aggregate-read-back-2 c = sym (length-take-le _ c.before.before.before.before.before.before.before.before.before.before.before.write.new.1.1.1.0 (omega (arith, c.before.before.before.before.before.before.before.before.before.end_of_lem.ensures, c.before.before.before.before.before.before.before.before.before.before.before.write.auto.1.1.1.0)))
+slice-aggregate-read-back-2 c = sym (length-take-le _ c.before.before.before.before.before.before.before.before.before.before.before.write.new.1.1.1.0 (omega (arith, c.before.before.before.before.before.before.before.before.before.end_of.ensures, c.before.before.before.before.before.before.before.before.before.before.before.write.auto.1.1.1.0)))
 
 sub-read-back : tie.Need-overflow-sub-read-back
 sub-read-back c = search rules

@@ -26,7 +26,7 @@ same-length-4 : tie.Need-same-length-4
 same-length-4 c = search rules
 
 returns : tie.Need-returns
-returns c = refused_by_tables _ c.before.before.before.before.before.before.before.before.before.before.before.before.args.bytes.now _ (sym c.before.before.is_IsStore.ensures ∙ not-true _ c.before.if1.true) c.refuse.ensures
+returns c = refused_by_tables _ c.before.before.before.before.before.before.before.before.before.before.before.before.args.bytes.now _ (sym c.before.before.is_store.ensures ∙ not-true _ c.before.if1.true) c.refuse.ensures
 
 is-whole-requires : tie.Need-is-whole-requires
 is-whole-requires c κs = search rules
@@ -47,7 +47,7 @@ same-length-8 : tie.Need-same-length-8
 same-length-8 c = search rules
 
 returns-2 : tie.Need-returns-2
-returns-2 c = refused_by_length _ c.before.before.before.before.before.before.before.before.before.before.before.before.before.before.args.bytes.now _ (sym c.before.before.before.before.is_IsStore.ensures ∙ not-false _ c.before.before.before.if1.false) (sym c.before.before.is_whole.ensures ∙ not-true _ c.before.if2.true) c.refuse2.ensures
+returns-2 c = refused_by_length _ c.before.before.before.before.before.before.before.before.before.before.before.before.before.before.args.bytes.now _ (sym c.before.before.before.before.is_store.ensures ∙ not-false _ c.before.before.before.if1.false) (sym c.before.before.is_whole.ensures ∙ not-true _ c.before.if2.true) c.refuse2.ensures
 
 are-sections-right-requires : tie.Need-are-sections-right-requires
 are-sections-right-requires c κs = sym c.before.is_whole.ensures ∙ not-false _ c.if2.false
@@ -68,7 +68,7 @@ same-length-12 : tie.Need-same-length-12
 same-length-12 c = search rules
 
 returns-3 : tie.Need-returns-3
-returns-3 c = refused_by_section _ c.before.before.before.before.before.before.before.before.before.before.before.before.before.before.before.before.args.bytes.now _ (sym c.before.before.before.before.before.before.is_IsStore.ensures ∙ not-false _ c.before.before.before.before.before.if1.false) (sym c.before.before.before.before.is_whole.ensures ∙ not-false _ c.before.before.before.if2.false) (sym c.before.before.are-sections-right.ensures ∙ not-true _ c.before.if3.true) c.refuse3.ensures
+returns-3 c = refused_by_section _ c.before.before.before.before.before.before.before.before.before.before.before.before.before.before.before.before.args.bytes.now _ (sym c.before.before.before.before.before.before.is_store.ensures ∙ not-false _ c.before.before.before.before.before.if1.false) (sym c.before.before.before.before.is_whole.ensures ∙ not-false _ c.before.before.before.if2.false) (sym c.before.before.are-sections-right.ensures ∙ not-true _ c.before.if3.true) c.refuse3.ensures
 
 is-number-right-requires : tie.Need-is-number-right-requires
 is-number-right-requires c κs = sym c.before.before.before.is_whole.ensures ∙ not-false _ c.before.before.if2.false
@@ -89,10 +89,10 @@ same-length-16 : tie.Need-same-length-16
 same-length-16 c = search rules
 
 returns-4 : tie.Need-returns-4
-returns-4 c = refused_by_number _ c.before.before.before.before.before.before.before.before.before.before.before.before.before.before.before.before.before.before.args.bytes.now _ (sym c.before.before.before.before.before.before.before.before.is_IsStore.ensures ∙ not-false _ c.before.before.before.before.before.before.before.if1.false) (sym c.before.before.before.before.before.before.is_whole.ensures ∙ not-false _ c.before.before.before.before.before.if2.false) (sym c.before.before.before.before.are-sections-right.ensures ∙ not-false _ c.before.before.before.if3.false) (sym c.before.before.is-number-right.ensures ∙ not-true _ c.before.if4.true) c.refuse4.ensures
+returns-4 c = refused_by_number _ c.before.before.before.before.before.before.before.before.before.before.before.before.before.before.before.before.before.before.args.bytes.now _ (sym c.before.before.before.before.before.before.before.before.is_store.ensures ∙ not-false _ c.before.before.before.before.before.before.before.if1.false) (sym c.before.before.before.before.before.before.is_whole.ensures ∙ not-false _ c.before.before.before.before.before.if2.false) (sym c.before.before.before.before.are-sections-right.ensures ∙ not-false _ c.before.before.before.if3.false) (sym c.before.before.is-number-right.ensures ∙ not-true _ c.before.if4.true) c.refuse4.ensures
 
 run-message-requires : tie.Need-run-message-requires
-run-message-requires c κs = (is_store_formed _ _ _ _ (sym c.before.before.before.before.before.before.before.before.before.before.before.is_IsStore.ensures ∙ not-false _ c.before.before.before.before.before.before.before.before.before.before.if1.false), (sym c.before.before.before.before.before.before.before.before.before.is_whole.ensures ∙ not-false _ c.before.before.before.before.before.before.before.before.if2.false, sym c.before.before.before.before.before.before.before.are-sections-right.ensures ∙ not-false _ c.before.before.before.before.before.before.if3.false))
+run-message-requires c κs = (is_store_formed _ _ _ _ (sym c.before.before.before.before.before.before.before.before.before.before.before.is_store.ensures ∙ not-false _ c.before.before.before.before.before.before.before.before.before.before.if1.false), (sym c.before.before.before.before.before.before.before.before.before.is_whole.ensures ∙ not-false _ c.before.before.before.before.before.before.before.before.if2.false, sym c.before.before.before.before.before.before.before.are-sections-right.ensures ∙ not-false _ c.before.before.before.before.before.before.if3.false))
 
 number-requires : tie.Need-number-requires
 number-requires c κs = (sym c.before.before.before.before.before.before.before.before.before.before.before.before.before.before.before.before.before.before.is_whole.ensures ∙ not-false _ c.before.before.before.before.before.before.before.before.before.before.before.before.before.before.before.before.before.if2.false, sym c.before.before.before.before.before.before.before.before.before.before.before.before.before.before.is-number-right.ensures ∙ not-false _ c.before.before.before.before.before.before.before.before.before.before.before.before.before.if4.false)
@@ -110,7 +110,7 @@ same-length-20 : tie.Need-same-length-20
 same-length-20 c = search rules
 
 returns-5 : tie.Need-returns-5
-returns-5 c = accepted _ c.before.before.before.before.before.before.before.before.before.before.before.before.before.before.before.before.before.before.before.before.before.before.before.before.before.before.before.before.before.before.before.args.bytes.now c.number.result (sym c.before.before.before.before.before.before.before.before.before.before.before.before.before.before.before.before.before.before.before.before.before.is_IsStore.ensures ∙ not-false _ c.before.before.before.before.before.before.before.before.before.before.before.before.before.before.before.before.before.before.before.before.if1.false) (sym c.before.before.before.before.before.before.before.before.before.before.before.before.before.before.before.before.before.before.before.is_whole.ensures ∙ not-false _ c.before.before.before.before.before.before.before.before.before.before.before.before.before.before.before.before.before.before.if2.false) (sym c.before.before.before.before.before.before.before.before.before.before.before.before.before.before.before.before.before.are-sections-right.ensures ∙ not-false _ c.before.before.before.before.before.before.before.before.before.before.before.before.before.before.before.before.if3.false) (sym c.before.before.before.before.before.before.before.before.before.before.before.before.before.before.before.is-number-right.ensures ∙ not-false _ c.before.before.before.before.before.before.before.before.before.before.before.before.before.before.if4.false) c.number.ensures c.before.before.before.before.before.before.before.before.before.run-message.ensures
+returns-5 c = accepted _ c.before.before.before.before.before.before.before.before.before.before.before.before.before.before.before.before.before.before.before.before.before.before.before.before.before.before.before.before.before.before.before.args.bytes.now c.number.result (sym c.before.before.before.before.before.before.before.before.before.before.before.before.before.before.before.before.before.before.before.before.before.is_store.ensures ∙ not-false _ c.before.before.before.before.before.before.before.before.before.before.before.before.before.before.before.before.before.before.before.before.if1.false) (sym c.before.before.before.before.before.before.before.before.before.before.before.before.before.before.before.before.before.before.before.is_whole.ensures ∙ not-false _ c.before.before.before.before.before.before.before.before.before.before.before.before.before.before.before.before.before.before.if2.false) (sym c.before.before.before.before.before.before.before.before.before.before.before.before.before.before.before.before.before.are-sections-right.ensures ∙ not-false _ c.before.before.before.before.before.before.before.before.before.before.before.before.before.before.before.before.if3.false) (sym c.before.before.before.before.before.before.before.before.before.before.before.before.before.before.before.is-number-right.ensures ∙ not-false _ c.before.before.before.before.before.before.before.before.before.before.before.before.before.before.if4.false) c.number.ensures c.before.before.before.before.before.before.before.before.before.run-message.ensures
 
 pub deliver-spec : {M : Type 1} → statement M
 deliver-spec =

@@ -29,7 +29,7 @@ number-of-requires c κs = search rules
 
 -- src/lib.rt:126:9
 returns : tie.Need-returns
-returns c = λ count ds es t L H A. named-numbers c.before.before.before.before.before.before.args.slots.now c.before.before.before.before.before.before.args.dictionary.now c.before.before.before.before.before.before.args.first count c.before.before.before.before.before.before.args.f ds es L t c.before.before.before.before.before.before.args.slot A c.before.before.kind_of_lem.result c.before.number_of_lem.result (c.before.before.kind_of_lem.ensures t H) (kind_most c.before.before.before.before.before.before.args.line.now c.before.before.before.before.before.before.args.from c.before.before.before.before.before.before.args.to t H) c.before.number_of_lem.ensures c.if1.true
+returns c = λ count ds es t L H A. named-numbers c.before.before.before.before.before.before.args.slots.now c.before.before.before.before.before.before.args.dictionary.now c.before.before.before.before.before.before.args.first count c.before.before.before.before.before.before.args.f ds es L t c.before.before.before.before.before.before.args.slot A c.before.before.kind_of.result c.before.number_of.result (c.before.before.kind_of.ensures t H) (kind_most c.before.before.before.before.before.before.args.line.now c.before.before.before.before.before.before.args.from c.before.before.before.before.before.before.args.to t H) c.before.number_of.ensures c.if1.true
 
 -- src/lib.rt:128:43
 text-length-requires : tie.Need-text-length-requires
@@ -45,15 +45,15 @@ returns-2 c = λ count ds es t L H A. named-room c.before.before.before.before.b
 
 -- src/lib.rt:131:16
 mul-term : tie.Need-overflow-mul-term
-mul-term c = omega (arith, c.before.before.before.before.before.kind_of_lem.ensures c.before.before.before.before.before.before.before.before.before.requires.text c.before.before.before.before.before.before.before.before.before.requires.has, kind_most c.before.before.before.before.before.before.before.before.before.args.line.now c.before.before.before.before.before.before.before.before.before.args.from c.before.before.before.before.before.before.before.before.before.args.to c.before.before.before.before.before.before.before.before.before.requires.text c.before.before.before.before.before.before.before.before.before.requires.has)
+mul-term c = omega (arith, c.before.before.before.before.before.kind_of.ensures c.before.before.before.before.before.before.before.before.before.requires.text c.before.before.before.before.before.before.before.before.before.requires.has, kind_most c.before.before.before.before.before.before.before.before.before.args.line.now c.before.before.before.before.before.before.before.before.before.args.from c.before.before.before.before.before.before.before.before.before.args.to c.before.before.before.before.before.before.before.before.before.requires.text c.before.before.before.before.before.before.before.before.before.requires.has)
 
 -- src/lib.rt:131:16
 add_term : tie.Need-overflow-add-term
-add_term c = omega (arith, c.before.before.before.before.before.kind_of_lem.ensures c.before.before.before.before.before.before.before.before.before.requires.text c.before.before.before.before.before.before.before.before.before.requires.has, kind_most c.before.before.before.before.before.before.before.before.before.args.line.now c.before.before.before.before.before.before.before.before.before.args.from c.before.before.before.before.before.before.before.before.before.args.to c.before.before.before.before.before.before.before.before.before.requires.text c.before.before.before.before.before.before.before.before.before.requires.has, number_most c.before.before.before.before.before.before.before.before.before.args.dictionary.now c.before.before.before.before.before.before.before.before.before.args.f (c.before.before.before.before.before.before.before.before.before.requires.before ++ c.before.before.before.before.before.before.before.before.before.requires.entries) c.before.before.before.before.before.before.before.before.before.requires.last.filled c.before.before.before.before.before.kind_of_lem.result (omega (arith, c.before.before.before.before.before.kind_of_lem.ensures c.before.before.before.before.before.before.before.before.before.requires.text c.before.before.before.before.before.before.before.before.before.requires.has, kind_most c.before.before.before.before.before.before.before.before.before.args.line.now c.before.before.before.before.before.before.before.before.before.args.from c.before.before.before.before.before.before.before.before.before.args.to c.before.before.before.before.before.before.before.before.before.requires.text c.before.before.before.before.before.before.before.before.before.requires.has)), c.before.before.before.before.number_of_lem.ensures)
+add_term c = omega (arith, c.before.before.before.before.before.kind_of.ensures c.before.before.before.before.before.before.before.before.before.requires.text c.before.before.before.before.before.before.before.before.before.requires.has, kind_most c.before.before.before.before.before.before.before.before.before.args.line.now c.before.before.before.before.before.before.before.before.before.args.from c.before.before.before.before.before.before.before.before.before.args.to c.before.before.before.before.before.before.before.before.before.requires.text c.before.before.before.before.before.before.before.before.before.requires.has, number_most c.before.before.before.before.before.before.before.before.before.args.dictionary.now c.before.before.before.before.before.before.before.before.before.args.f (c.before.before.before.before.before.before.before.before.before.requires.before ++ c.before.before.before.before.before.before.before.before.before.requires.entries) c.before.before.before.before.before.before.before.before.before.requires.last.filled c.before.before.before.before.before.kind_of.result (omega (arith, c.before.before.before.before.before.kind_of.ensures c.before.before.before.before.before.before.before.before.before.requires.text c.before.before.before.before.before.before.before.before.before.requires.has, kind_most c.before.before.before.before.before.before.before.before.before.args.line.now c.before.before.before.before.before.before.before.before.before.args.from c.before.before.before.before.before.before.before.before.before.args.to c.before.before.before.before.before.before.before.before.before.requires.text c.before.before.before.before.before.before.before.before.before.requires.has)), c.before.before.before.before.number_of.ensures)
 
 -- src/lib.rt:132:9
 write-entry-requires : tie.Need-write-entry-requires
-write-entry-requires c κs = (omega (arith, number_least c.before.before.before.before.before.before.before.before.before.before.args.dictionary.now c.before.before.before.before.before.before.before.before.before.before.args.f (c.before.before.before.before.before.before.before.before.before.before.requires.before ++ c.before.before.before.before.before.before.before.before.before.before.requires.entries) c.before.before.before.before.before.before.before.before.before.before.requires.last.filled c.before.before.before.before.before.before.kind_of_lem.result (omega (arith, c.before.before.before.before.before.before.kind_of_lem.ensures c.before.before.before.before.before.before.before.before.before.before.requires.text c.before.before.before.before.before.before.before.before.before.before.requires.has, kind_most c.before.before.before.before.before.before.before.before.before.before.args.line.now c.before.before.before.before.before.before.before.before.before.before.args.from c.before.before.before.before.before.before.before.before.before.before.args.to c.before.before.before.before.before.before.before.before.before.before.requires.text c.before.before.before.before.before.before.before.before.before.before.requires.has)), c.before.before.before.before.before.number_of_lem.ensures), record { text = c.before.before.before.before.before.before.before.before.before.before.requires.text; has = c.before.before.before.before.before.before.before.before.before.before.requires.has; room = omega (arith, leb-true (c.before.before.before.before.before.before.before.before.before.before.args.f.end + 12 + c.before.before.before.text-length.result) (length c.before.before.before.before.before.before.before.before.before.before.args.dictionary.now) (sym c.before.before.has_room.ensures ∙ not-false c.before.before.has_room.result c.before.if2.false), c.before.before.before.text-length.ensures.0 c.before.before.before.before.before.before.before.before.before.before.requires.text c.before.before.before.before.before.before.before.before.before.before.requires.has) })
+write-entry-requires c κs = (omega (arith, number_least c.before.before.before.before.before.before.before.before.before.before.args.dictionary.now c.before.before.before.before.before.before.before.before.before.before.args.f (c.before.before.before.before.before.before.before.before.before.before.requires.before ++ c.before.before.before.before.before.before.before.before.before.before.requires.entries) c.before.before.before.before.before.before.before.before.before.before.requires.last.filled c.before.before.before.before.before.before.kind_of.result (omega (arith, c.before.before.before.before.before.before.kind_of.ensures c.before.before.before.before.before.before.before.before.before.before.requires.text c.before.before.before.before.before.before.before.before.before.before.requires.has, kind_most c.before.before.before.before.before.before.before.before.before.before.args.line.now c.before.before.before.before.before.before.before.before.before.before.args.from c.before.before.before.before.before.before.before.before.before.before.args.to c.before.before.before.before.before.before.before.before.before.before.requires.text c.before.before.before.before.before.before.before.before.before.before.requires.has)), c.before.before.before.before.before.number_of.ensures), record { text = c.before.before.before.before.before.before.before.before.before.before.requires.text; has = c.before.before.before.before.before.before.before.before.before.before.requires.has; room = omega (arith, leb-true (c.before.before.before.before.before.before.before.before.before.before.args.f.end + 12 + c.before.before.before.text-length.result) (length c.before.before.before.before.before.before.before.before.before.before.args.dictionary.now) (sym c.before.before.has_room.ensures ∙ not-false c.before.before.has_room.result c.before.if2.false), c.before.before.before.text-length.ensures.0 c.before.before.before.before.before.before.before.before.before.before.requires.text c.before.before.before.before.before.before.before.before.before.before.requires.has) })
 
 -- src/lib.rt:133:20
 sub-slots : tie.Need-overflow-sub-slots
@@ -77,7 +77,7 @@ slice-write-slots c = c.before.before.before.before.before.before.before.before.
 
 -- src/lib.rt:134:22
 filled-on-requires : tie.Need-filled-on-requires
-filled-on-requires c κs = omega (arith, number_most c.before.before.before.before.before.before.before.before.before.before.before.before.before.before.args.dictionary.now c.before.before.before.before.before.before.before.before.before.before.before.before.before.before.args.f (c.before.before.before.before.before.before.before.before.before.before.before.before.before.before.requires.before ++ c.before.before.before.before.before.before.before.before.before.before.before.before.before.before.requires.entries) c.before.before.before.before.before.before.before.before.before.before.before.before.before.before.requires.last.filled c.before.before.before.before.before.before.before.before.before.before.kind_of_lem.result (omega (arith, c.before.before.before.before.before.before.before.before.before.before.kind_of_lem.ensures c.before.before.before.before.before.before.before.before.before.before.before.before.before.before.requires.text c.before.before.before.before.before.before.before.before.before.before.before.before.before.before.requires.has, kind_most c.before.before.before.before.before.before.before.before.before.before.before.before.before.before.args.line.now c.before.before.before.before.before.before.before.before.before.before.before.before.before.before.args.from c.before.before.before.before.before.before.before.before.before.before.before.before.before.before.args.to c.before.before.before.before.before.before.before.before.before.before.before.before.before.before.requires.text c.before.before.before.before.before.before.before.before.before.before.before.before.before.before.requires.has)), c.before.before.before.before.before.before.before.before.before.number_of_lem.ensures, c.before.before.before.before.before.before.before.before.if1.false)
+filled-on-requires c κs = omega (arith, number_most c.before.before.before.before.before.before.before.before.before.before.before.before.before.before.args.dictionary.now c.before.before.before.before.before.before.before.before.before.before.before.before.before.before.args.f (c.before.before.before.before.before.before.before.before.before.before.before.before.before.before.requires.before ++ c.before.before.before.before.before.before.before.before.before.before.before.before.before.before.requires.entries) c.before.before.before.before.before.before.before.before.before.before.before.before.before.before.requires.last.filled c.before.before.before.before.before.before.before.before.before.before.kind_of.result (omega (arith, c.before.before.before.before.before.before.before.before.before.before.kind_of.ensures c.before.before.before.before.before.before.before.before.before.before.before.before.before.before.requires.text c.before.before.before.before.before.before.before.before.before.before.before.before.before.before.requires.has, kind_most c.before.before.before.before.before.before.before.before.before.before.before.before.before.before.args.line.now c.before.before.before.before.before.before.before.before.before.before.before.before.before.before.args.from c.before.before.before.before.before.before.before.before.before.before.before.before.before.before.args.to c.before.before.before.before.before.before.before.before.before.before.before.before.before.before.requires.text c.before.before.before.before.before.before.before.before.before.before.before.before.before.before.requires.has)), c.before.before.before.before.before.before.before.before.before.number_of.ensures, c.before.before.before.before.before.before.before.before.if1.false)
 
 -- src/lib.rt:110:1
 same_length : tie.Need-same-length
@@ -89,7 +89,7 @@ same-length-2 c = search rules
 
 -- src/lib.rt:110:1
 returns-3 : tie.Need-returns-3
-returns-3 c = λ count ds es t L H A. named_new c.before.before.before.before.before.before.before.before.before.before.before.before.before.before.before.args.slots.now c.before.before.before.before.before.before.before.before.before.before.before.before.before.before.before.args.dictionary.now c.before.before.before.before.before.before.before.before.before.before.before.before.before.before.before.args.first count c.before.before.before.before.before.before.before.before.before.before.before.before.before.before.before.args.f ds es L t c.before.before.before.before.write-entry.new.0 c.before.before.before.before.before.before.before.before.before.before.before.before.before.before.before.args.slot c.before.before.before.before.write-entry.result c.before.before.before.before.before.before.before.before.before.before.before.kind_of_lem.result c.before.before.before.before.before.before.before.before.before.before.number_of_lem.result (c.before.before.before.before.before.before.before.before.before.before.before.kind_of_lem.result * 1073741824 + c.before.before.before.before.before.before.before.before.before.before.number_of_lem.result) c.filled_on.result A (has-kind c.before.before.before.before.before.before.before.before.before.before.before.before.before.before.before.args.line.now c.before.before.before.before.before.before.before.before.before.before.before.before.before.before.before.args.from c.before.before.before.before.before.before.before.before.before.before.before.before.before.before.before.args.to t H) (c.before.before.before.before.before.before.before.before.before.before.before.kind_of_lem.ensures t H) c.before.before.before.before.before.before.before.before.before.before.number_of_lem.ensures (omega (arith, number_most c.before.before.before.before.before.before.before.before.before.before.before.before.before.before.before.args.dictionary.now c.before.before.before.before.before.before.before.before.before.before.before.before.before.before.before.args.f (c.before.before.before.before.before.before.before.before.before.before.before.before.before.before.before.requires.before ++ c.before.before.before.before.before.before.before.before.before.before.before.before.before.before.before.requires.entries) c.before.before.before.before.before.before.before.before.before.before.before.before.before.before.before.requires.last.filled c.before.before.before.before.before.before.before.before.before.before.before.kind_of_lem.result (omega (arith, c.before.before.before.before.before.before.before.before.before.before.before.kind_of_lem.ensures c.before.before.before.before.before.before.before.before.before.before.before.before.before.before.before.requires.text c.before.before.before.before.before.before.before.before.before.before.before.before.before.before.before.requires.has, kind_most c.before.before.before.before.before.before.before.before.before.before.before.before.before.before.before.args.line.now c.before.before.before.before.before.before.before.before.before.before.before.before.before.before.before.args.from c.before.before.before.before.before.before.before.before.before.before.before.before.before.before.before.args.to c.before.before.before.before.before.before.before.before.before.before.before.before.before.before.before.requires.text c.before.before.before.before.before.before.before.before.before.before.before.before.before.before.before.requires.has)), c.before.before.before.before.before.before.before.before.before.before.number_of_lem.ensures, c.before.before.before.before.before.before.before.before.before.if1.false)) refl (c.before.before.before.before.write-entry.ensures (ds ++ es) t L.filled.holds H) c.before.before.before.before.write-entry.auto.0 c.filled_on.ensures
+returns-3 c = λ count ds es t L H A. named_new c.before.before.before.before.before.before.before.before.before.before.before.before.before.before.before.args.slots.now c.before.before.before.before.before.before.before.before.before.before.before.before.before.before.before.args.dictionary.now c.before.before.before.before.before.before.before.before.before.before.before.before.before.before.before.args.first count c.before.before.before.before.before.before.before.before.before.before.before.before.before.before.before.args.f ds es L t c.before.before.before.before.write-entry.new.0 c.before.before.before.before.before.before.before.before.before.before.before.before.before.before.before.args.slot c.before.before.before.before.write-entry.result c.before.before.before.before.before.before.before.before.before.before.before.kind_of.result c.before.before.before.before.before.before.before.before.before.before.number_of.result (c.before.before.before.before.before.before.before.before.before.before.before.kind_of.result * 1073741824 + c.before.before.before.before.before.before.before.before.before.before.number_of.result) c.filled_on.result A (has-kind c.before.before.before.before.before.before.before.before.before.before.before.before.before.before.before.args.line.now c.before.before.before.before.before.before.before.before.before.before.before.before.before.before.before.args.from c.before.before.before.before.before.before.before.before.before.before.before.before.before.before.before.args.to t H) (c.before.before.before.before.before.before.before.before.before.before.before.kind_of.ensures t H) c.before.before.before.before.before.before.before.before.before.before.number_of.ensures (omega (arith, number_most c.before.before.before.before.before.before.before.before.before.before.before.before.before.before.before.args.dictionary.now c.before.before.before.before.before.before.before.before.before.before.before.before.before.before.before.args.f (c.before.before.before.before.before.before.before.before.before.before.before.before.before.before.before.requires.before ++ c.before.before.before.before.before.before.before.before.before.before.before.before.before.before.before.requires.entries) c.before.before.before.before.before.before.before.before.before.before.before.before.before.before.before.requires.last.filled c.before.before.before.before.before.before.before.before.before.before.before.kind_of.result (omega (arith, c.before.before.before.before.before.before.before.before.before.before.before.kind_of.ensures c.before.before.before.before.before.before.before.before.before.before.before.before.before.before.before.requires.text c.before.before.before.before.before.before.before.before.before.before.before.before.before.before.before.requires.has, kind_most c.before.before.before.before.before.before.before.before.before.before.before.before.before.before.before.args.line.now c.before.before.before.before.before.before.before.before.before.before.before.before.before.before.before.args.from c.before.before.before.before.before.before.before.before.before.before.before.before.before.before.before.args.to c.before.before.before.before.before.before.before.before.before.before.before.before.before.before.before.requires.text c.before.before.before.before.before.before.before.before.before.before.before.before.before.before.before.requires.has)), c.before.before.before.before.before.before.before.before.before.before.number_of.ensures, c.before.before.before.before.before.before.before.before.before.if1.false)) refl (c.before.before.before.before.write-entry.ensures (ds ++ es) t L.filled.holds H) c.before.before.before.before.write-entry.auto.0 c.filled_on.ensures
 
 pub name-new-spec : {M : Type 1} → statement M
 name-new-spec =

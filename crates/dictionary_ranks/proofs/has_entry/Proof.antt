@@ -26,7 +26,7 @@ number-of-requires c κs = search rules
 
 -- src/lib.rt:50:1
 returns-3 : tie.Need-returns-3
-returns-3 c = is_below c.before.before.before.before.args.f c.before.before.before.before.args.term c.number_of_lem.result (omega arith) (omega arith) c.number_of_lem.ensures
+returns-3 c = is_below c.before.before.before.before.args.f c.before.before.before.before.args.term c.number_of.result (omega arith) (omega arith) c.number_of.ensures
 
 pub has-entry-spec : {M : Type 1} → statement M
 has-entry-spec =

@@ -80,7 +80,7 @@ returns-3 c =
     let after-if1 = c.before.before.before.before.before.before.before in
     let after-text-kind = c.before.before in
     let after-number-of = c.before in
-    asked-number start.args.dictionary.now start.args.f start.requires.0 start.requires.1 after-length-at.length_at.result after-length-at.length_at.ensures (omega (arith, start.requires.1.header, after-if1.if1.false)) after-text-kind.text-kind.result after-number-of.number_of_lem.result after-text-kind.text-kind.ensures after-number-of.number_of_lem.ensures c.if3.true
+    asked-number start.args.dictionary.now start.args.f start.requires.0 start.requires.1 after-length-at.length_at.result after-length-at.length_at.ensures (omega (arith, start.requires.1.header, after-if1.if1.false)) after-text-kind.text-kind.result after-number-of.number_of.result after-text-kind.text-kind.ensures after-number-of.number_of.ensures c.if3.true
 
 -- src/lib.rt:104:8
 term-at-requires : tie.Need-term-at-requires
@@ -94,7 +94,7 @@ mul-if4 c =
     let after-if1 = c.before.before.before.before.before.before.before.before in
     let after-text-kind = c.before.before.before in
     let after-number-of = c.before.before in
-    omega (arith, asked-kind start.args.dictionary.now start.args.f start.requires.0 start.requires.1 after-length-at.length_at.result after-length-at.length_at.ensures (omega (arith, start.requires.1.header, after-if1.if1.false)) after-text-kind.text-kind.result after-number-of.number_of_lem.result after-text-kind.text-kind.ensures after-number-of.number_of_lem.ensures)
+    omega (arith, asked-kind start.args.dictionary.now start.args.f start.requires.0 start.requires.1 after-length-at.length_at.result after-length-at.length_at.ensures (omega (arith, start.requires.1.header, after-if1.if1.false)) after-text-kind.text-kind.result after-number-of.number_of.result after-text-kind.text-kind.ensures after-number-of.number_of.ensures)
 
 -- src/lib.rt:104:35
 add-if4 : tie.Need-overflow-add-if4
@@ -104,7 +104,7 @@ add-if4 c =
     let after-if1 = c.before.before.before.before.before.before.before.before in
     let after-text-kind = c.before.before.before in
     let after-number-of = c.before.before in
-    omega (arith, asked-kind start.args.dictionary.now start.args.f start.requires.0 start.requires.1 after-length-at.length_at.result after-length-at.length_at.ensures (omega (arith, start.requires.1.header, after-if1.if1.false)) after-text-kind.text-kind.result after-number-of.number_of_lem.result after-text-kind.text-kind.ensures after-number-of.number_of_lem.ensures, asked-most start.args.dictionary.now start.args.f start.requires.0 start.requires.1 after-length-at.length_at.result after-length-at.length_at.ensures (omega (arith, start.requires.1.header, after-if1.if1.false)) after-text-kind.text-kind.result after-number-of.number_of_lem.result after-text-kind.text-kind.ensures after-number-of.number_of_lem.ensures)
+    omega (arith, asked-kind start.args.dictionary.now start.args.f start.requires.0 start.requires.1 after-length-at.length_at.result after-length-at.length_at.ensures (omega (arith, start.requires.1.header, after-if1.if1.false)) after-text-kind.text-kind.result after-number-of.number_of.result after-text-kind.text-kind.ensures after-number-of.number_of.ensures, asked-most start.args.dictionary.now start.args.f start.requires.0 start.requires.1 after-length-at.length_at.result after-length-at.length_at.ensures (omega (arith, start.requires.1.header, after-if1.if1.false)) after-text-kind.text-kind.result after-number-of.number_of.result after-text-kind.text-kind.ensures after-number-of.number_of.ensures)
 
 -- src/lib.rt:105:9
 returns-4 : tie.Need-returns-4
@@ -115,7 +115,7 @@ returns-4 c =
     let after-text-kind = c.before.before.before.before in
     let after-number-of = c.before.before.before in
     let after-term-at = c.before in
-    asked-term start.args.dictionary.now start.args.f start.requires.0 start.requires.1 after-length-at.length_at.result after-length-at.length_at.ensures (omega (arith, start.requires.1.header, after-if1.if1.false)) after-text-kind.text-kind.result after-number-of.number_of_lem.result after-text-kind.text-kind.ensures after-number-of.number_of_lem.ensures after-term-at.term-at.result after-term-at.term-at.ensures c.if4.true
+    asked-term start.args.dictionary.now start.args.f start.requires.0 start.requires.1 after-length-at.length_at.result after-length-at.length_at.ensures (omega (arith, start.requires.1.header, after-if1.if1.false)) after-text-kind.text-kind.result after-number-of.number_of.result after-text-kind.text-kind.ensures after-number-of.number_of.ensures after-term-at.term-at.result after-term-at.term-at.ensures c.if4.true
 
 -- src/lib.rt:107:20
 filled-on-requires : tie.Need-filled-on-requires
@@ -125,7 +125,7 @@ filled-on-requires c κs =
     let after-if1 = c.before.before.before.before.before.before.before.before.before in
     let after-text-kind = c.before.before.before.before in
     let after-number-of = c.before.before.before in
-    omega (arith, asked-most start.args.dictionary.now start.args.f start.requires.0 start.requires.1 after-length-at.length_at.result after-length-at.length_at.ensures (omega (arith, start.requires.1.header, after-if1.if1.false)) after-text-kind.text-kind.result after-number-of.number_of_lem.result after-text-kind.text-kind.ensures after-number-of.number_of_lem.ensures, c.before.before.if3.false, after-number-of.number_of_lem.ensures)
+    omega (arith, asked-most start.args.dictionary.now start.args.f start.requires.0 start.requires.1 after-length-at.length_at.result after-length-at.length_at.ensures (omega (arith, start.requires.1.header, after-if1.if1.false)) after-text-kind.text-kind.result after-number-of.number_of.result after-text-kind.text-kind.ensures after-number-of.number_of.ensures, c.before.before.if3.false, after-number-of.number_of.ensures)
 
 -- src/lib.rt:84:1
 returns-5 : tie.Need-returns-5
@@ -140,7 +140,7 @@ returns-5 c =
     let after-number-of = c.before.before.before.before in
     let after-if3 = c.before.before.before in
     let after-term-at = c.before.before in
-    asked-right start.args.dictionary.now start.args.f start.requires.0 start.requires.1 after-length-at.length_at.result after-length-at.length_at.ensures (omega (arith, start.requires.1.header, after-if1.if1.false)) after-text-kind.text-kind.result after-number-of.number_of_lem.result after-text-kind.text-kind.ensures after-number-of.number_of_lem.ensures after-term-at.term-at.result after-term-at.term-at.ensures (λ i. omega (arith, after-shared-slice-known.shared-slice-known.given i)) (sym after-is-own-text.is-own-text.ensures ∙ not-false _ after-if2.if2.false) after-if3.if3.false c.before.if4.false c.filled_on.result c.filled_on.ensures
+    asked-right start.args.dictionary.now start.args.f start.requires.0 start.requires.1 after-length-at.length_at.result after-length-at.length_at.ensures (omega (arith, start.requires.1.header, after-if1.if1.false)) after-text-kind.text-kind.result after-number-of.number_of.result after-text-kind.text-kind.ensures after-number-of.number_of.ensures after-term-at.term-at.result after-term-at.term-at.ensures (λ i. omega (arith, after-shared-slice-known.shared-slice-known.given i)) (sym after-is-own-text.is-own-text.ensures ∙ not-false _ after-if2.if2.false) after-if3.if3.false c.before.if4.false c.filled_on.result c.filled_on.ensures
 
 pub next-entry-spec : {M : Type 1} → statement M
 next-entry-spec =

@@ -13,15 +13,15 @@ is-canonical-requires c κs = search rules
 
 -- src/lib.rt:44:9
 is-no-vocabulary-requires : tie.Need-is-no-vocabulary-requires
-is-no-vocabulary-requires c κs = sym c.before.is_canonical_lem.ensures ∙ c.if1.true
+is-no-vocabulary-requires c κs = sym c.before.is_canonical.ensures ∙ c.if1.true
 
 -- src/lib.rt:44:9
 returns : tie.Need-returns
-returns c = rw (sym c.before.before.is_canonical_lem.ensures ∙ c.before.if1.true) c.is-no-vocabulary.ensures
+returns c = rw (sym c.before.before.is_canonical.ensures ∙ c.before.if1.true) c.is-no-vocabulary.ensures
 
 -- src/lib.rt:40:1
 returns-2 : tie.Need-returns-2
-returns-2 c = rw (sym c.before.is_canonical_lem.ensures ∙ c.if1.false)
+returns-2 c = rw (sym c.before.is_canonical.ensures ∙ c.if1.false)
 
 pub is-own-text-spec : {M : Type 1} → statement M
 is-own-text-spec =

@@ -11,7 +11,7 @@ kind-of-requires c κs = is_token c.before.args.text.now c.before.requires
 
 -- src/lib.rt:40:1
 returns : tie.Need-returns
-returns c = own-kind c.before.before.args.text.now c.before.before.requires _ c.kind_of_lem.ensures
+returns c = own-kind c.before.before.args.text.now c.before.before.requires _ c.kind_of.ensures
 
 pub text-kind-spec : {M : Type 1} → statement M
 text-kind-spec = tie.close (tie.spec kind-of-requires returns)

@@ -24,15 +24,15 @@ enum-told-3 c = search rules
 
 -- src/lib.rt:25:1
 returns : tie.Need-returns
-returns c = wrong_none _ (rw c.enum_told.given.1 at c.before.before.Line-of.ensures)
+returns c = wrong_none _ (rw c.enum_told.given.1 at c.before.before.line-of.ensures)
 
 -- src/lib.rt:25:1
 returns-2 : tie.Need-returns-2
-returns-2 c = empty_none _ (rw c.enum-told2.given.1 at c.before.before.Line-of.ensures)
+returns-2 c = empty_none _ (rw c.enum-told2.given.1 at c.before.before.line-of.ensures)
 
 -- src/lib.rt:25:1
 returns-3 : tie.Need-returns-3
-returns-3 c = full-some _ (rw c.enum-told3.given.1 at c.before.before.Line-of.ensures).triple (rw c.enum-told3.given.1 at c.before.before.Line-of.ensures).same
+returns-3 c = full-some _ (rw c.enum-told3.given.1 at c.before.before.line-of.ensures).triple (rw c.enum-told3.given.1 at c.before.before.line-of.ensures).same
 
 pub has-triple-spec : {M : Type 1} → statement M
 has-triple-spec =

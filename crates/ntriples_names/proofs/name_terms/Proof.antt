@@ -21,7 +21,7 @@ use Rattle.ntriples_names.proofs.is_going.Reads as is-going-reads
 use Rattle.ntriples_names.proofs.name_at.Reads as name-at-reads
 
 abbrev invariant-loop : tie.invariant-loop
-invariant-loop slots₀ dictionary₀ first file lines n terms₀ p₀ i₀ slots dictionary terms p i = (i ≤ n) × (length slots ≡ length slots₀) × (length dictionary ≡ length dictionary₀) × (length terms ≡ length terms₀) × ((ds es : List Entry) (ts : List TextTriple) (l : Last) → p₀ ≡ Going l → Begins ds es ts slots₀ dictionary₀ first l file lines n terms₀ → Reached ds es (lines_texts ts) (i * 3) slots dictionary first terms p)
+invariant-loop slots₀ dictionary₀ first file lines n terms₀ p₀ i₀ slots dictionary terms p i = (i ≤ n) × (length slots ≡ length slots₀) × (length dictionary ≡ length dictionary₀) × (length terms ≡ length terms₀) × ((ds es : List Entry) (ts : List TextTriple) (b : Last) → p₀ ≡ Going b → Begins ds es ts slots₀ dictionary₀ first b file lines n terms₀ → Reached ds es (lines_texts ts) (i * 3) slots dictionary first terms p)
 
 abbrev decreases-loop : tie.decreases-loop
 decreases-loop slots₀ dictionary₀ first file lines n terms₀ p₀ i₀ slots dictionary terms p i = n - i

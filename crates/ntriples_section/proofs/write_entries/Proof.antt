@@ -42,11 +42,11 @@ is-statement-requires c κs = search rules
 
 -- src/lib.rt:50:13
 write-entry-requires : tie.Need-write-entry-requires invariant-loop decreases-loop
-write-entry-requires c κs = omega (arith, chosen_room c.before.before.before.before.before.before.before.before.args.statements c.before.before.before.before.before.before.before.before.args.terms.now c.before.before.before.before.before.loop.i c.before.before.before.before.before.before.before.before.args.n c.before.before.before.before.loop-test.true (tested c.before.before.before.before.before.before.before.before.args.statements c.before.before.before.row_from.result (triple_from c.before.before.before.before.before.before.before.before.args.terms.now (c.before.before.before.before.before.loop.i * 3)) c.before.before.is_statement_lem.result true c.before.before.is_statement_lem.ensures c.before.before.before.row_from.ensures c.before.if1.true), c.before.before.before.before.before.before.before.before.requires.1, c.before.before.before.before.before.loop.invariant.1.behind, ap length c.before.before.before.before.before.loop.invariant.1.written ∙ length-sets c.before.before.before.before.before.before.before.before.args.out.now c.before.before.before.before.before.before.before.before.args.at (entries_bytes (chosen c.before.before.before.before.before.before.before.before.args.statements c.before.before.before.before.before.loop.i c.before.before.before.before.before.before.before.before.args.terms.now)))
+write-entry-requires c κs = omega (arith, chosen_room c.before.before.before.before.before.before.before.before.args.statements c.before.before.before.before.before.before.before.before.args.terms.now c.before.before.before.before.before.loop.i c.before.before.before.before.before.before.before.before.args.n c.before.before.before.before.loop-test.true (tested c.before.before.before.before.before.before.before.before.args.statements c.before.before.before.row_from.result (triple_from c.before.before.before.before.before.before.before.before.args.terms.now (c.before.before.before.before.before.loop.i * 3)) c.before.before.is_statement.result true c.before.before.is_statement.ensures c.before.before.before.row_from.ensures c.before.if1.true), c.before.before.before.before.before.before.before.before.requires.1, c.before.before.before.before.before.loop.invariant.1.behind, ap length c.before.before.before.before.before.loop.invariant.1.written ∙ length-sets c.before.before.before.before.before.before.before.before.args.out.now c.before.before.before.before.before.before.before.before.args.at (entries_bytes (chosen c.before.before.before.before.before.before.before.before.args.statements c.before.before.before.before.before.loop.i c.before.before.before.before.before.before.before.before.args.terms.now)))
 
 -- src/lib.rt:51:13
 add-place : tie.Need-overflow-add-place invariant-loop decreases-loop
-add-place c = omega (arith, chosen_room c.before.before.before.before.before.before.before.before.before.before.before.args.statements c.before.before.before.before.before.before.before.before.before.before.before.args.terms.now c.before.before.before.before.before.before.before.before.loop.i c.before.before.before.before.before.before.before.before.before.before.before.args.n c.before.before.before.before.before.before.before.loop-test.true (tested c.before.before.before.before.before.before.before.before.before.before.before.args.statements c.before.before.before.before.before.before.row_from.result (triple_from c.before.before.before.before.before.before.before.before.before.before.before.args.terms.now (c.before.before.before.before.before.before.before.before.loop.i * 3)) c.before.before.before.before.before.is_statement_lem.result true c.before.before.before.before.before.is_statement_lem.ensures c.before.before.before.before.before.before.row_from.ensures c.before.before.before.before.if1.true), c.before.before.before.before.before.before.before.before.before.before.before.requires.1, c.before.before.before.before.before.before.before.before.loop.invariant.1.behind, ap length c.before.before.before.before.before.before.before.before.loop.invariant.1.written ∙ length-sets c.before.before.before.before.before.before.before.before.before.before.before.args.out.now c.before.before.before.before.before.before.before.before.before.before.before.args.at (entries_bytes (chosen c.before.before.before.before.before.before.before.before.before.before.before.args.statements c.before.before.before.before.before.before.before.before.loop.i c.before.before.before.before.before.before.before.before.before.before.before.args.terms.now)), c.before.before.before.before.before.before.before.before.before.before.before.requires)
+add-place c = omega (arith, chosen_room c.before.before.before.before.before.before.before.before.before.before.before.args.statements c.before.before.before.before.before.before.before.before.before.before.before.args.terms.now c.before.before.before.before.before.before.before.before.loop.i c.before.before.before.before.before.before.before.before.before.before.before.args.n c.before.before.before.before.before.before.before.loop-test.true (tested c.before.before.before.before.before.before.before.before.before.before.before.args.statements c.before.before.before.before.before.before.row_from.result (triple_from c.before.before.before.before.before.before.before.before.before.before.before.args.terms.now (c.before.before.before.before.before.before.before.before.loop.i * 3)) c.before.before.before.before.before.is_statement.result true c.before.before.before.before.before.is_statement.ensures c.before.before.before.before.before.before.row_from.ensures c.before.before.before.before.if1.true), c.before.before.before.before.before.before.before.before.before.before.before.requires.1, c.before.before.before.before.before.before.before.before.loop.invariant.1.behind, ap length c.before.before.before.before.before.before.before.before.loop.invariant.1.written ∙ length-sets c.before.before.before.before.before.before.before.before.before.before.before.args.out.now c.before.before.before.before.before.before.before.before.before.before.before.args.at (entries_bytes (chosen c.before.before.before.before.before.before.before.before.before.before.before.args.statements c.before.before.before.before.before.before.before.before.loop.i c.before.before.before.before.before.before.before.before.before.before.before.args.terms.now)), c.before.before.before.before.before.before.before.before.before.before.before.requires)
 
 -- src/lib.rt:46:5
 loop-less : tie.Need-loop-smaller invariant-loop decreases-loop
@@ -54,7 +54,7 @@ loop-less c = search rules
 
 -- src/lib.rt:46:5
 loop-again : tie.Need-loop-preserved invariant-loop decreases-loop
-loop-again c = (omega (arith, c.before.before.before.before.before.before.before.loop-test.true), wrote_same c.before.before.before.before.before.before.before.before.before.before.before.args.out.now c.before.before.before.before.before.before.before.before.before.before.before.args.at _ _ _ _ (chosen_one c.before.before.before.before.before.before.before.before.before.before.before.args.statements c.before.before.before.before.before.before.before.before.loop.i c.before.before.before.before.before.before.before.before.before.before.before.args.terms.now (tested c.before.before.before.before.before.before.before.before.before.before.before.args.statements c.before.before.before.before.before.before.row_from.result (triple_from c.before.before.before.before.before.before.before.before.before.before.before.args.terms.now (c.before.before.before.before.before.before.before.before.loop.i * 3)) c.before.before.before.before.before.is_statement_lem.result true c.before.before.before.before.before.is_statement_lem.ensures c.before.before.before.before.before.before.row_from.ensures c.before.before.before.before.if1.true)) (wrote-more c.before.before.before.before.before.before.before.before.before.before.before.args.out.now c.before.before.before.before.before.before.before.before.before.before.before.args.at (chosen c.before.before.before.before.before.before.before.before.before.before.before.args.statements c.before.before.before.before.before.before.before.before.loop.i c.before.before.before.before.before.before.before.before.before.before.before.args.terms.now) c.before.before.before.before.before.before.before.before.loop.out c.before.before.before.before.before.before.before.before.loop.place c.before.before.before.before.before.before.before.before.loop.invariant.1 (triple_from c.before.before.before.before.before.before.before.before.before.before.before.args.terms.now (c.before.before.before.before.before.before.before.before.loop.i * 3)) c.before.before.write-entry.new.1.0 (c.before.before.write-entry.ensures ∙ ap (λ (t : Triple). sets c.before.before.before.before.before.before.before.before.loop.out c.before.before.before.before.before.before.before.before.loop.place (entry_bytes t)) c.before.before.before.before.before.before.row_from.ensures)))
+loop-again c = (omega (arith, c.before.before.before.before.before.before.before.loop-test.true), wrote_same c.before.before.before.before.before.before.before.before.before.before.before.args.out.now c.before.before.before.before.before.before.before.before.before.before.before.args.at _ _ _ _ (chosen_one c.before.before.before.before.before.before.before.before.before.before.before.args.statements c.before.before.before.before.before.before.before.before.loop.i c.before.before.before.before.before.before.before.before.before.before.before.args.terms.now (tested c.before.before.before.before.before.before.before.before.before.before.before.args.statements c.before.before.before.before.before.before.row_from.result (triple_from c.before.before.before.before.before.before.before.before.before.before.before.args.terms.now (c.before.before.before.before.before.before.before.before.loop.i * 3)) c.before.before.before.before.before.is_statement.result true c.before.before.before.before.before.is_statement.ensures c.before.before.before.before.before.before.row_from.ensures c.before.before.before.before.if1.true)) (wrote-more c.before.before.before.before.before.before.before.before.before.before.before.args.out.now c.before.before.before.before.before.before.before.before.before.before.before.args.at (chosen c.before.before.before.before.before.before.before.before.before.before.before.args.statements c.before.before.before.before.before.before.before.before.loop.i c.before.before.before.before.before.before.before.before.before.before.before.args.terms.now) c.before.before.before.before.before.before.before.before.loop.out c.before.before.before.before.before.before.before.before.loop.place c.before.before.before.before.before.before.before.before.loop.invariant.1 (triple_from c.before.before.before.before.before.before.before.before.before.before.before.args.terms.now (c.before.before.before.before.before.before.before.before.loop.i * 3)) c.before.before.write-entry.new.1.0 (c.before.before.write-entry.ensures ∙ ap (λ (t : Triple). sets c.before.before.before.before.before.before.before.before.loop.out c.before.before.before.before.before.before.before.before.loop.place (entry_bytes t)) c.before.before.before.before.before.before.row_from.ensures)))
 
 -- src/lib.rt:46:5
 loop-less-2 : tie.Need-loop-smaller-2 invariant-loop decreases-loop
@@ -62,7 +62,7 @@ loop-less-2 c = search rules
 
 -- src/lib.rt:46:5
 loop-again-2 : tie.Need-loop-preserved-2 invariant-loop decreases-loop
-loop-again-2 c = (omega (arith, c.before.before.before.loop-test.true), wrote_same c.before.before.before.before.before.before.before.args.out.now c.before.before.before.before.before.before.before.args.at _ _ _ _ (chosen_none c.before.before.before.before.before.before.before.args.statements c.before.before.before.before.loop.i c.before.before.before.before.before.before.before.args.terms.now (tested c.before.before.before.before.before.before.before.args.statements c.before.before.row_from.result (triple_from c.before.before.before.before.before.before.before.args.terms.now (c.before.before.before.before.loop.i * 3)) c.before.is_statement_lem.result false c.before.is_statement_lem.ensures c.before.before.row_from.ensures c.if1.false)) c.before.before.before.before.loop.invariant.1)
+loop-again-2 c = (omega (arith, c.before.before.before.loop-test.true), wrote_same c.before.before.before.before.before.before.before.args.out.now c.before.before.before.before.before.before.before.args.at _ _ _ _ (chosen_none c.before.before.before.before.before.before.before.args.statements c.before.before.before.before.loop.i c.before.before.before.before.before.before.before.args.terms.now (tested c.before.before.before.before.before.before.before.args.statements c.before.before.row_from.result (triple_from c.before.before.before.before.before.before.before.args.terms.now (c.before.before.before.before.loop.i * 3)) c.before.is_statement.result false c.before.is_statement.ensures c.before.before.row_from.ensures c.if1.false)) c.before.before.before.before.loop.invariant.1)
 
 -- src/lib.rt:38:1
 same_length : tie.Need-same-length invariant-loop decreases-loop

@@ -27,7 +27,7 @@ same-length-2 : tie.Need-same-length-2
 same-length-2 c = search rules
 
 returns : tie.Need-returns
-returns c = (lines-printed c.before.before.before.before.before.before.before.before.before.before.before.before.before.before.before.args.res c.before.before.before.before.before.before.before.before.before.before.before.before.before.before.before.args.kept.now c.before.before.before.before.before.before.before.before.before.before.before.before.before.before.before.args.dictionary.now c.before.before.before.before.before.before.before.before.before.write-Kept.result c.before.before.before.before.before.before.before.before.before.before.before.before.before.before.before.requires.0 c.before.before.before.before.before.before.before.before.before.write-Kept.ensures _ c.before.before.before.before.before.n.given.1 c.before.before.write-result.ensures.0, (lines_room c.before.before.before.before.before.before.before.before.before.before.before.before.before.before.before.args.res c.before.before.before.before.before.before.before.before.before.before.before.before.before.before.before.args.kept.now c.before.before.before.before.before.before.before.before.before.before.before.before.before.before.before.args.dictionary.now c.before.before.before.before.before.before.before.before.before.write-Kept.result c.before.before.before.before.before.before.before.before.before.before.before.before.before.before.before.requires.0 c.before.before.before.before.before.before.before.before.before.write-Kept.ensures _ c.before.before.before.before.before.n.given.1, omega (arith, c.before.before.write-result.ensures.1)))
+returns c = (lines-printed c.before.before.before.before.before.before.before.before.before.before.before.before.before.before.before.args.res c.before.before.before.before.before.before.before.before.before.before.before.before.before.before.before.args.kept.now c.before.before.before.before.before.before.before.before.before.before.before.before.before.before.before.args.dictionary.now c.before.before.before.before.before.before.before.before.before.write-kept.result c.before.before.before.before.before.before.before.before.before.before.before.before.before.before.before.requires.0 c.before.before.before.before.before.before.before.before.before.write-kept.ensures _ c.before.before.before.before.before.n.given.1 c.before.before.write-result.ensures.0, (lines_room c.before.before.before.before.before.before.before.before.before.before.before.before.before.before.before.args.res c.before.before.before.before.before.before.before.before.before.before.before.before.before.before.before.args.kept.now c.before.before.before.before.before.before.before.before.before.before.before.before.before.before.before.args.dictionary.now c.before.before.before.before.before.before.before.before.before.write-kept.result c.before.before.before.before.before.before.before.before.before.before.before.before.before.before.before.requires.0 c.before.before.before.before.before.before.before.before.before.write-kept.ensures _ c.before.before.before.before.before.n.given.1, omega (arith, c.before.before.write-result.ensures.1)))
 
 same-length-3 : tie.Need-same-length-3
 same-length-3 c = search rules
@@ -36,7 +36,7 @@ same-length-4 : tie.Need-same-length-4
 same-length-4 c = search rules
 
 returns-2 : tie.Need-returns-2
-returns-2 c = (lines_refused c.before.before.before.before.before.before.before.before.before.before.before.before.before.before.before.args.res c.before.before.before.before.before.before.before.before.before.before.before.before.before.before.before.args.kept.now c.before.before.before.before.before.before.before.before.before.before.before.before.before.before.before.args.dictionary.now c.before.before.before.before.before.before.before.before.before.write-Kept.result c.before.before.before.before.before.before.before.before.before.before.before.before.before.before.before.requires.0 c.before.before.before.before.before.before.before.before.before.write-Kept.ensures _ c.before.before.before.before.before.n2.given.1 c.before.before.refuse.ensures.0 c.before.before.refuse.ensures.1.0, (omega (arith, c.before.before.refuse.ensures.0), c.before.before.refuse.ensures.1.1))
+returns-2 c = (lines_refused c.before.before.before.before.before.before.before.before.before.before.before.before.before.before.before.args.res c.before.before.before.before.before.before.before.before.before.before.before.before.before.before.before.args.kept.now c.before.before.before.before.before.before.before.before.before.before.before.before.before.before.before.args.dictionary.now c.before.before.before.before.before.before.before.before.before.write-kept.result c.before.before.before.before.before.before.before.before.before.before.before.before.before.before.before.requires.0 c.before.before.before.before.before.before.before.before.before.write-kept.ensures _ c.before.before.before.before.before.n2.given.1 c.before.before.refuse.ensures.0 c.before.before.refuse.ensures.1.0, (omega (arith, c.before.before.refuse.ensures.0), c.before.before.refuse.ensures.1.1))
 
 pub write-delivered-spec : {M : Type 1} → statement M
 write-delivered-spec =

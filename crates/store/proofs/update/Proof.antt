@@ -23,10 +23,10 @@ same-length-4 : tie.Need-same-length-4
 same-length-4 c = search rules
 
 returns : tie.Need-returns
-returns c = sym (update_malformed _ _ _ (sym c.before.is_IsStore.ensures ∙ not-true _ c.if1.true))
+returns c = sym (update_malformed _ _ _ (sym c.before.is_store.ensures ∙ not-true _ c.if1.true))
 
 update-formed-requires : tie.Need-update-formed-requires
-update-formed-requires c κs = is_store_formed _ _ _ _ (sym c.before.before.before.before.before.is_IsStore.ensures ∙ not-false _ c.before.before.before.before.if1.false)
+update-formed-requires c κs = is_store_formed _ _ _ _ (sym c.before.before.before.before.before.is_store.ensures ∙ not-false _ c.before.before.before.before.if1.false)
 
 same-length-5 : tie.Need-same-length-5
 same-length-5 c = search rules

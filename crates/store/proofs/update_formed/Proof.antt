@@ -18,7 +18,7 @@ is-statement-requires : tie.Need-is-statement-requires
 is-statement-requires c κs = search rules
 
 update-fact-requires : tie.Need-update-fact-requires
-update-fact-requires c κs = (c.before.before.before.before.before.before.before.before.before.before.before.before.requires, fact_allowed _ (sym c.before.before.before.before.before.before.before.is_triple.ensures ∙ not-false _ c.before.before.before.before.before.before.if1.false) (sym c.before.before.before.before.before.is_statement_lem.ensures ∙ not-true _ c.before.before.before.before.if2.true))
+update-fact-requires c κs = (c.before.before.before.before.before.before.before.before.before.before.before.before.requires, fact_allowed _ (sym c.before.before.before.before.before.before.before.is_triple.ensures ∙ not-false _ c.before.before.before.before.before.before.if1.false) (sym c.before.before.before.before.before.is_statement.ensures ∙ not-true _ c.before.before.before.before.if2.true))
 
 same_length : tie.Need-same-length
 same_length c = search rules
@@ -39,10 +39,10 @@ are-sides-allowed-requires : tie.Need-are-sides-allowed-requires
 are-sides-allowed-requires c κs = search rules
 
 returns-3 : tie.Need-returns-3
-returns-3 c = sym (update_wrong_sides _ _ _ (formed_is_store c.before.before.before.before.before.before.before.before.before.before.requires) (sym c.before.before.before.before.before.is_triple.ensures ∙ not-false _ c.before.before.before.before.if1.false) (sides-asked _ (sym c.before.before.before.is_statement_lem.ensures ∙ not-false _ c.before.before.if2.false) (sym c.before.are-sides-allowed.ensures ∙ not-true _ c.if3.true)))
+returns-3 c = sym (update_wrong_sides _ _ _ (formed_is_store c.before.before.before.before.before.before.before.before.before.before.requires) (sym c.before.before.before.before.before.is_triple.ensures ∙ not-false _ c.before.before.before.before.if1.false) (sides-asked _ (sym c.before.before.before.is_statement.ensures ∙ not-false _ c.before.before.if2.false) (sym c.before.are-sides-allowed.ensures ∙ not-true _ c.if3.true)))
 
 update-statement-requires : tie.Need-update-statement-requires
-update-statement-requires c κs = (c.before.before.before.before.before.before.before.before.before.before.before.before.before.before.requires, statement_allowed _ (sym c.before.before.before.before.before.before.before.before.before.is_triple.ensures ∙ not-false _ c.before.before.before.before.before.before.before.before.if1.false) (sym c.before.before.before.before.before.before.before.is_statement_lem.ensures ∙ not-false _ c.before.before.before.before.before.before.if2.false) (sym c.before.before.before.before.before.are-sides-allowed.ensures ∙ not-false _ c.before.before.before.before.if3.false))
+update-statement-requires c κs = (c.before.before.before.before.before.before.before.before.before.before.before.before.before.before.requires, statement_allowed _ (sym c.before.before.before.before.before.before.before.before.before.is_triple.ensures ∙ not-false _ c.before.before.before.before.before.before.before.before.if1.false) (sym c.before.before.before.before.before.before.before.is_statement.ensures ∙ not-false _ c.before.before.before.before.before.before.if2.false) (sym c.before.before.before.before.before.are-sides-allowed.ensures ∙ not-false _ c.before.before.before.before.if3.false))
 
 same-length-5 : tie.Need-same-length-5
 same-length-5 c = search rules
