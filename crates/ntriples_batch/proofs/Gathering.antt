@@ -145,9 +145,9 @@ module _ (file : List ℕ) (ts : List TextTriple) (lines : List ℕ) (count at :
       let k : end - at ≡ line_length (drop at file) = omega arith in
       record { within = omega arith; reads = rw k at q }
 
-  with_triple : (t : TextTriple) → line ≡ full t → FirstOf t (document (drop (suc end) file)) (drop count ts)
+  with_triple_lem : (t : TextTriple) → line ≡ full t → FirstOf t (document (drop (suc end) file)) (drop count ts)
   unfolding with_line
-  with_triple t q = without-triple t (document (drop (suc end) file)) (drop count ts) (rw q at parted)
+  with_triple_lem t q = without-triple t (document (drop (suc end) file)) (drop count ts) (rw q at parted)
 
   begin-noted
       : (t : TextTriple) → LineAt file at t → t ≡ get_or ts count no_triple → count < length lines
@@ -161,7 +161,7 @@ module _ (file : List ℕ) (ts : List TextTriple) (lines : List ℕ) (count at :
   pub one_triple : count < length lines → has_triple line ≡ true → Gathering file ts (set lines count at) (count + 1) next
   one_triple w q =
       let F = full_line line q in
-      let P = with_triple F.triple F.same in
+      let P = with_triple_lem F.triple F.same in
       let R = rest_of ts count F.triple P.rest P.first in
       record {
         few = omega (arith, R.more);

@@ -1,5 +1,5 @@
 use native.Mathlib.Omega.{arith}
-use Rattle.ntriples_document.proofs.Counting.{none-counted, all-counted, beyond, wrong_line, empty_line_lem, full_line}
+use Rattle.ntriples_document.proofs.Counting.{none-counted, all-counted, end-within, beyond, wrong_line, empty_line_lem, full_line}
 use Prim.Native.Nat.{◌-◌}
 use borrow.Author.Rules.{rules}
 use Rattle.ntriples_document.proofs.count_triples.Goals as goal
@@ -7,6 +7,10 @@ use Rattle.ntriples_document.proofs.count_triples.Goals as goal
 -- src/lib.rt:61:5
 pub loop-from-init : goal.loop-from-init
 loop-from-init c = none-counted c.args.file.now
+
+-- src/lib.rt:63:23
+pub slice_bounds-line_of-end : goal.slice_bounds-line_of-end
+slice_bounds-line_of-end c = omega (arith, end-within c.args.file.now c.loop-from.from c.loop-from.invariant.within, c.line_end-end.ensures)
 
 -- src/lib.rt:65:17
 pub returns-in-Wrong : goal.returns-in-Wrong
