@@ -100,15 +100,11 @@ fn chain(rt: &impl Print) -> io::Result<()> {
 fn fill_chain(statements: &mut [u32])
     requires { 1537 ≤ length statements.old }
 {
-    let mut i: usize = 0;
-    let mut class: u32 = 16;
-    while i < 512 {
-        let at = i * 3;
-        statements[at + 1] = class;
+    for i in 0..512u32 {
+        let at = i as usize * 3;
+        statements[at + 1] = 16 + i;
         statements[at + 2] = 2;
-        statements[at + 3] = class + 1;
-        class += 1;
-        i += 1;
+        statements[at + 3] = 17 + i;
     }
     statements[0] = 512;
 }

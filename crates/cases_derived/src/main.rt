@@ -44,8 +44,7 @@ fn print_carried(rt: &impl Print, statements: &[u32], fact: Triple) -> io::Resul
 fn print_rows(rt: &impl Print, rows: &[u32], n: usize) -> io::Result<()>
     requires { n * 3 ≤ length rows.now }
 {
-    let mut i = 0;
-    while i < n {
+    for i in 0..n {
         let at = i * 3;
         let t = Triple {
             subject: rows[at],
@@ -54,7 +53,6 @@ fn print_rows(rt: &impl Print, rows: &[u32], n: usize) -> io::Result<()>
         };
         rt.write_all(b"  ")?;
         print_row(rt, t)?;
-        i += 1;
     }
     Ok(())
 }

@@ -329,11 +329,7 @@ fn given(rt: &impl Print, name: &[u8], file: &[u8], before: &[u8], room: usize) 
 fn copy(from: &[u8], to: &mut [u8])
     requires { length from.now ≤ length to.old }
 {
-    let mut i = 0;
-    while i < from.len() {
-        to[i] = from[i];
-        i += 1;
-    }
+    to[..from.len()].copy_from_slice(from);
 }
 
 // Reads a file with a dictionary into a delivery, and prints the reply and both.

@@ -32,11 +32,9 @@ fn print_refused(rt: &impl Print, n: u32) -> io::Result<()> {
 fn print_words(rt: &impl Print, words: &[u32], width: usize) -> io::Result<()>
     requires { 0 < width }
 {
-    let mut i = 0;
-    while i < words.len() {
+    for (i, word) in words.iter().enumerate() {
         print_gap(rt, i % width)?;
-        print_word(rt, words[i])?;
-        i += 1;
+        print_word(rt, *word)?;
     }
     rt.write_all(b"\n")
 }
@@ -89,11 +87,9 @@ fn print_byte_reply(rt: &impl Print, reply: ByteReply) -> io::Result<()> {
 
 // Prints bytes in hexadecimal, 32 on a line, and a line end.
 fn print_bytes(rt: &impl Print, bytes: &[u8]) -> io::Result<()> {
-    let mut i = 0;
-    while i < bytes.len() {
+    for (i, byte) in bytes.iter().enumerate() {
         print_gap(rt, i % 32)?;
-        print_byte(rt, bytes[i])?;
-        i += 1;
+        print_byte(rt, *byte)?;
     }
     rt.write_all(b"\n")
 }

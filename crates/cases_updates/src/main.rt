@@ -147,14 +147,12 @@ fn add_chain(
     ensures { result ≤ n }
 {
     let mut applied: usize = 0;
-    let mut i: u32 = 0;
-    while i < n {
+    for i in 0..n {
         let statement = Triple {
             subject: 16 + i,
             property: 2,
             object: 17 + i,
         };
-        i += 1;
         match store::add(statements, facts, kept, supports, statement) {
             Answer::Applied => applied += 1,
             Answer::Idle => continue,
@@ -174,8 +172,7 @@ fn add_all(
     triples: &[u32],
 ) -> io::Result<()> {
     let n = triples.len() / 3;
-    let mut i = 0;
-    while i < n {
+    for i in 0..n {
         let at = i * 3;
         let triple = Triple {
             subject: triples[at],
@@ -183,7 +180,6 @@ fn add_all(
             object: triples[at + 2],
         };
         print_answer(rt, store::add(statements, facts, kept, supports, triple))?;
-        i += 1;
     }
     Ok(())
 }
@@ -209,19 +205,16 @@ fn print_word(rt: &impl Print, w: u32) -> io::Result<()> {
 
 // Prints each kept row with its support on a line.
 fn print_kept(rt: &impl Print, kept: &[u32], supports: &[u16]) -> io::Result<()> {
-    let mut i = 0;
     let n = kept.len() / 3;
-    while i < supports.len() {
-        let support = supports[i];
-        if support == 0 {
+    for (i, support) in supports.iter().enumerate() {
+        if *support == 0 {
             return Ok(());
         }
         if n <= i + 1 {
             return Ok(());
         }
         let at = i * 3;
-        print_row(rt, kept[at + 1], kept[at + 2], kept[at + 3], support)?;
-        i += 1;
+        print_row(rt, kept[at + 1], kept[at + 2], kept[at + 3], *support)?;
     }
     Ok(())
 }
