@@ -11,9 +11,9 @@ run: programs
 	@echo "kept_ntriples, on a maker's catalogue ($(CATALOGUE)):" >&2
 	@target/bin/kept_ntriples <$(CATALOGUE)
 
-# Standard error shows how far it is; all that the gate prints goes to test.log (it removes target/), and what the trial prints to
-# target/trial/. The last line is that of the toolchain's gate, which is held back until the trial of the library has passed too.
-test: toolchain cargo jena rapper serdi valgrind
+# Standard error shows how far it is; all that the gate prints goes to test.log, and what the trial prints to target/trial/. The last line is
+# that of the toolchain's gate, which is held back until the trial of the library has passed too.
+test: toolchain
 	@tools/gate test.log
 	@tail -n 1 test.log
 
@@ -37,7 +37,7 @@ PROGRAMS_STDOUT := tests/cases/programs.stdout
 trial: library programs
 	@$(MAKE) --no-print-directory tried
 
-# The same with the library and the programs as they are.
+# The same with the library and the programs as they are in target/.
 tried: cargo jena rapper serdi valgrind
 	@mkdir -p $(LOGS) && tools/chain >$(LOGS)/chain.log || exit 1
 	@CARGO_TARGET_DIR=target/tests cargo build --release --offline --quiet --manifest-path tests/Cargo.toml
@@ -67,10 +67,10 @@ bench-docs:
 	@$(MAKE) --no-print-directory bench BENCH_OPTIONS=--docs
 
 library: toolchain
-	@tools/progress target/library.log rt staticlib capi
+	@tools/build capi
 
 programs: toolchain
-	@tools/progress target/programs.log rt check families read_ntriples kept_ntriples
+	@tools/build families read_ntriples kept_ntriples
 
 # All that the other targets install: each also installs what it needs by itself.
 deps: cargo jena rapper serdi valgrind prolog postgres

@@ -1,5 +1,5 @@
 //! Links the exported library: libcapi.a in the directory that FAMILIES_LIB_DIR names, or else where
-//! `rt staticlib capi` writes it.
+//! `make library` writes it.
 
 use std::path::PathBuf;
 
@@ -13,7 +13,7 @@ fn main() {
     println!("cargo:rerun-if-changed={}", library.display());
     if !library.is_file() {
         eprintln!("there is no {}", library.display());
-        eprintln!("`rt staticlib capi` writes it; {VARIABLE} can name another directory");
+        eprintln!("`make library` writes it; {VARIABLE} can name another directory");
         std::process::exit(1);
     }
     println!("cargo:rustc-link-search=native={}", directory.display());

@@ -7,6 +7,7 @@ use cases_printing::print_replied;
 use query_alternatives::alternatives;
 use report_store::no_statements;
 use spec::Triple;
+use std::io;
 
 // The worked example's statements: their count, then three words each.
 const EXAMPLE: [u32; 16] = [5, 16, 2, 17, 17, 2, 18, 19, 3, 20, 20, 4, 17, 20, 5, 16];
@@ -37,44 +38,45 @@ const V16: u32 = 0xC0000010;
 
 const NO_TERM: u32 = 0;
 
-fn main() {
-    example();
-    blank_class();
-    loops();
-    steps();
-    chain();
-    refused();
-    no_atoms();
+fn main(rt: HostRuntime) -> io::Result<()> {
+    example(&rt)?;
+    blank_class(&rt)?;
+    loops(&rt)?;
+    steps(&rt)?;
+    chain(&rt)?;
+    refused(&rt)?;
+    no_atoms(&rt)
 }
 
 // The worked example, then every alternative under its statements, and those of a property.
-fn example() {
-    case(b"worked example\n", &EXAMPLE, atom(V0, 1, 17), 20);
-    case(b"all variables\n", &EXAMPLE, atom(V0, V1, V0), 48);
-    case(b"a property\n", &EXAMPLE, atom(V0, 20, V1), 9);
+fn example(rt: &impl Print) -> io::Result<()> {
+    case(rt, b"worked example\n", &EXAMPLE, atom(V0, 1, 17), 20)?;
+    case(rt, b"all variables\n", &EXAMPLE, atom(V0, V1, V0), 48)?;
+    case(rt, b"a property\n", &EXAMPLE, atom(V0, 20, V1), 9)
 }
 
 // Blank classes are sources, and targets where the object is a variable.
-fn blank_class() {
-    case(b"blank source\n", &BLANK_CLASS, atom(V0, 1, 17), 15);
-    case(b"blank target\n", &BLANK_CLASS, atom(V0, 1, V1), 20);
+fn blank_class(rt: &impl Print) -> io::Result<()> {
+    case(rt, b"blank source\n", &BLANK_CLASS, atom(V0, 1, 17), 15)?;
+    case(rt, b"blank target\n", &BLANK_CLASS, atom(V0, 1, V1), 20)
 }
 
 // In a loop nothing is its own alternative.
-fn loops() {
-    case(b"loop of classes\n", &LOOPS, atom(V0, 1, 16), 9);
-    case(b"loop of properties\n", &LOOPS, atom(V0, 19, V1), 9);
+fn loops(rt: &impl Print) -> io::Result<()> {
+    case(rt, b"loop of classes\n", &LOOPS, atom(V0, 1, 16), 9)?;
+    case(rt, b"loop of properties\n", &LOOPS, atom(V0, 19, V1), 9)
 }
 
 // Both properties below lead to the highest one, and to its range.
-fn steps() {
-    case(b"two subproperty steps\n", &STEPS, atom(V0, 21, V1), 12);
+fn steps(rt: &impl Print) -> io::Result<()> {
+    case(rt, b"two subproperty steps\n", &STEPS, atom(V0, 21, V1), 12)?;
     case(
+        rt,
         b"subproperty steps and a range\n",
         &STEPS,
         atom(V0, 1, 16),
         15,
-    );
+    )
 }
 
 // Room for 513 rows, all 7.
@@ -85,53 +87,68 @@ fn sevens() -> [u32; 1539]
 }
 
 // A chain of 512 subclass steps: each class but the last is a source.
-fn chain() {
+fn chain(rt: &impl Print) -> io::Result<()> {
     let mut statements = no_statements();
     fill_chain(&mut statements);
     let mut out = sevens();
-    io::write_all(1, b"chain of 512 steps\n");
+    rt.write_all(b"chain of 512 steps\n")?;
     let reply = alternatives(&statements, atom(V0, 1, 528), &mut out);
-    print_replied(reply, &out, 3);
+    print_replied(rt, reply, &out, 3)
 }
 
 // The statements 16 2 17, 17 2 18, .. of a chain of 512 steps.
 fn fill_chain(statements: &mut [u32])
     requires { 1537 ≤ length statements.old }
 {
-    let mut i: usize = 0;
-    let mut class: u32 = 16;
-    while i < 512 {
-        let at = i * 3;
-        statements[at + 1] = class;
+    for i in 0..512u32 {
+        let at = i as usize * 3;
+        statements[at + 1] = 16 + i;
         statements[at + 2] = 2;
-        statements[at + 3] = class + 1;
-        class += 1;
-        i += 1;
+        statements[at + 3] = 17 + i;
     }
     statements[0] = 512;
 }
 
 // Six rows fit 18 words and not 17. Statements that do not ascend get 1, which comes before 6, and 6 before 8.
-fn refused() {
-    case(b"exactly enough\n", &EXAMPLE, atom(V0, 1, 17), 18);
-    case(b"one word short\n", &EXAMPLE, atom(V0, 1, 17), 17);
-    case(b"descending\n", &DESCENDING, atom(V0, 1, 17), 6);
+fn refused(rt: &impl Print) -> io::Result<()> {
+    case(rt, b"exactly enough\n", &EXAMPLE, atom(V0, 1, 17), 18)?;
+    case(rt, b"one word short\n", &EXAMPLE, atom(V0, 1, 17), 17)?;
+    case(rt, b"descending\n", &DESCENDING, atom(V0, 1, 17), 6)?;
     case(
+        rt,
         b"descending, and a blank\n",
         &DESCENDING,
         atom(V0, 1, BLANK),
         6,
-    );
-    case(b"a blank, and no room\n", &EXAMPLE, atom(V0, 1, BLANK), 2);
+    )?;
+    case(
+        rt,
+        b"a blank, and no room\n",
+        &EXAMPLE,
+        atom(V0, 1, BLANK),
+        2,
+    )
 }
 
 // What is no atom gets 6.
-fn no_atoms() {
-    case(b"a blank\n", &BLANK_CLASS, atom(V0, 1, BLANK), 6);
-    case(b"a literal subject\n", &EXAMPLE, atom(LITERAL, 1, 17), 6);
-    case(b"a literal property\n", &EXAMPLE, atom(V0, LITERAL, 17), 6);
-    case(b"the word 0\n", &EXAMPLE, atom(V0, 1, NO_TERM), 6);
-    case(b"variable 16\n", &EXAMPLE, atom(V16, 1, 17), 6);
+fn no_atoms(rt: &impl Print) -> io::Result<()> {
+    case(rt, b"a blank\n", &BLANK_CLASS, atom(V0, 1, BLANK), 6)?;
+    case(
+        rt,
+        b"a literal subject\n",
+        &EXAMPLE,
+        atom(LITERAL, 1, 17),
+        6,
+    )?;
+    case(
+        rt,
+        b"a literal property\n",
+        &EXAMPLE,
+        atom(V0, LITERAL, 17),
+        6,
+    )?;
+    case(rt, b"the word 0\n", &EXAMPLE, atom(V0, 1, NO_TERM), 6)?;
+    case(rt, b"variable 16\n", &EXAMPLE, atom(V16, 1, 17), 6)
 }
 
 // An atom of three words.
@@ -144,16 +161,27 @@ fn atom(subject: u32, property: u32, object: u32) -> Triple {
 }
 
 // A case by itself: the alternatives of an atom, into an output of so many words.
-fn case(name: &[u8], statements: &[u32], atom: Triple, words: usize)
+fn case(
+    rt: &impl Print,
+    name: &[u8],
+    statements: &[u32],
+    atom: Triple,
+    words: usize,
+) -> io::Result<()>
     requires { words ≤ 48 }
 {
     let mut out = [7u32; 48];
-    io::write_all(1, name);
-    print_alternatives(statements, atom, &mut out[..words]);
+    rt.write_all(name)?;
+    print_alternatives(rt, statements, atom, &mut out[..words])
 }
 
 // Works out alternatives, and prints the reply and the output.
-fn print_alternatives(statements: &[u32], atom: Triple, out: &mut [u32]) {
+fn print_alternatives(
+    rt: &impl Print,
+    statements: &[u32],
+    atom: Triple,
+    out: &mut [u32],
+) -> io::Result<()> {
     let reply = alternatives(statements, atom, out);
-    print_replied(reply, out, 3);
+    print_replied(rt, reply, out, 3)
 }

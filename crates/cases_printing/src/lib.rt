@@ -5,97 +5,96 @@ ghost use Rattle.std.specs.Prelude.{◌<◌};
 
 use spec::Reply;
 use spec_ntriples::ByteReply;
+use std::io;
 
 // Prints a reply, and below it the words of the output, rows of so many words on a line each. Nothing is promised but that it ends.
-pub fn print_replied(reply: Reply, words: &[u32], width: usize)
+pub fn print_replied(rt: &impl Print, reply: Reply, words: &[u32], width: usize) -> io::Result<()>
     requires { 0 < width }
 {
-    print_reply(reply);
-    print_words(words, width);
+    print_reply(rt, reply)?;
+    print_words(rt, words, width)
 }
 
 // Prints the number of rows given, or the number that refused, and no line end.
-fn print_reply(reply: Reply) {
+fn print_reply(rt: &impl Print, reply: Reply) -> io::Result<()> {
     match reply {
-        Reply::Rows(n) => {
-            io::write_all(1, b"rows ");
-            io::print_decimal(1, n as u64);
-        }
-        Reply::Refused(n) => print_refused(n),
+        Reply::Rows(n) => print!(rt; "rows {n}"),
+        Reply::Refused(n) => print_refused(rt, n),
     }
 }
 
 // Prints the number that refused, and no line end.
-fn print_refused(n: u32) {
-    io::write_all(1, b"refused ");
-    print_word(n);
+fn print_refused(rt: &impl Print, n: u32) -> io::Result<()> {
+    print!(rt; "refused {n}")
 }
 
 // Prints words, each row of them on a line of its own, and a line end.
-fn print_words(words: &[u32], width: usize)
+fn print_words(rt: &impl Print, words: &[u32], width: usize) -> io::Result<()>
     requires { 0 < width }
 {
-    let mut i = 0;
-    while i < words.len() {
-        print_gap(i % width);
-        print_word(words[i]);
-        i += 1;
+    for (i, word) in words.iter().enumerate() {
+        print_gap(rt, i % width)?;
+        print_word(rt, *word)?;
     }
-    io::write_all(1, b"\n");
+    rt.write_all(b"\n")
 }
 
 // Prints what stands before a word in a column: a line end before the first, else a space.
-fn print_gap(column: usize) {
+fn print_gap(rt: &impl Print, column: usize) -> io::Result<()> {
     if column == 0 {
-        io::write_all(1, b"\n    ");
-        return;
+        return rt.write_all(b"\n    ");
     }
-    io::write_all(1, b" ");
+    rt.write_all(b" ")
 }
 
 // Prints a word in decimal.
-fn print_word(word: u32) {
-    io::print_decimal(1, word as u64);
+fn print_word(rt: &impl Print, word: u32) -> io::Result<()> {
+    print!(rt; "{word}")
 }
 
 // Prints the reply of a reading, and below it the bytes of the dictionary and of the delivery. Nothing is promised but that it ends.
-pub fn print_read(reply: ByteReply, dictionary: &[u8], delivery: &[u8]) {
-    print_filled(reply, b"dictionary", dictionary);
-    io::write_all(1, b"  delivery");
-    print_bytes(delivery);
+pub fn print_read(
+    rt: &impl Print,
+    reply: ByteReply,
+    dictionary: &[u8],
+    delivery: &[u8],
+) -> io::Result<()> {
+    print_filled(rt, reply, b"dictionary", dictionary)?;
+    rt.write_all(b"  delivery")?;
+    print_bytes(rt, delivery)
 }
 
 // Prints a reply, and below it the bytes that have this name.
-pub fn print_filled(reply: ByteReply, name: &[u8], bytes: &[u8]) {
-    print_byte_reply(reply);
-    io::write_all(1, b"\n  ");
-    io::write_all(1, name);
-    print_bytes(bytes);
+pub fn print_filled(
+    rt: &impl Print,
+    reply: ByteReply,
+    name: &[u8],
+    bytes: &[u8],
+) -> io::Result<()> {
+    print_byte_reply(rt, reply)?;
+    rt.write_all(b"\n  ")?;
+    rt.write_all(name)?;
+    print_bytes(rt, bytes)
 }
 
 // Prints the number of bytes written, or the number that refused, and no line end.
-fn print_byte_reply(reply: ByteReply) {
+fn print_byte_reply(rt: &impl Print, reply: ByteReply) -> io::Result<()> {
     match reply {
-        ByteReply::Length(n) => {
-            io::write_all(1, b"length ");
-            io::print_decimal(1, n as u64);
-        }
-        ByteReply::Refused(n) => print_refused(n),
+        ByteReply::Length(n) => print!(rt; "length {n}"),
+        ByteReply::Refused(n) => print_refused(rt, n),
     }
 }
 
 // Prints bytes in hexadecimal, 32 on a line, and a line end.
-fn print_bytes(bytes: &[u8]) {
-    let mut i = 0;
-    while i < bytes.len() {
-        print_gap(i % 32);
-        print_byte(bytes[i]);
-        i += 1;
+fn print_bytes(rt: &impl Print, bytes: &[u8]) -> io::Result<()> {
+    for (i, byte) in bytes.iter().enumerate() {
+        print_gap(rt, i % 32)?;
+        print_byte(rt, *byte)?;
     }
-    io::write_all(1, b"\n");
+    rt.write_all(b"\n")
 }
 
 // Prints a byte in hexadecimal.
-fn print_byte(byte: u8) {
-    io::print_hex(1, byte as u64, 2);
+fn print_byte(rt: &impl Print, byte: u8) -> io::Result<()> {
+    print!(rt; "{byte:02x}")
 }

@@ -2,14 +2,14 @@
 // the delivery's result or why there is none (document 02, slips 1 and 3).
 #![tactic(auto)]
 
-use libc::{STDERR_FILENO, STDIN_FILENO, STDOUT_FILENO};
+use std::io;
 
-fn main() {
+fn main(rt: HostRuntime) -> io::Result<()> {
     let mut input = report_input::input_buffer();
-    let n = io::read_full(STDIN_FILENO, &mut input);
+    let n = program_input::read_full(&mut rt.stdin(), &mut input)?;
     let mut out = report_kept_rooms::output_buffer();
     let mut errors = report_kept_rooms::errors_buffer();
     let printed = report_kept::respond(&input[..n], &mut out, &mut errors);
-    io::write_all(STDOUT_FILENO, &out[..printed.output]);
-    io::write_all(STDERR_FILENO, &errors[..printed.errors]);
+    rt.write_all(&out[..printed.output])?;
+    rt.stderr().write_all(&errors[..printed.errors])
 }

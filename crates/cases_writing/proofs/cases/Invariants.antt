@@ -1,0 +1,6 @@
+-- Each turn begins behind the case before it.
+use Rattle.std.proofs.Common.{length, ◌-◌}
+use Rattle.cases_writing.proofs.cases.Given as goal
+
+abbrev pub decreases-loop-from : goal.decreases-loop-from
+decreases-loop-from g l = length l.lines - l.from
