@@ -1,3 +1,4 @@
+use borrow.Author.Tests.{not-true, not-false}
 use mathlib.Core.Path.{refl, sym, ◌∙◌}
 use native.Mathlib.Omega.{arith}
 use Rattle.table.proofs.Store.{is_store_formed, formed_is_store}
@@ -57,13 +58,13 @@ pub shape_of-supports-then-not-step : goal.shape_of-supports-then-not-step
 shape_of-supports-then-not-step c = c.withdraw_fact-step.auto.supports ∙ c.loop-left.invariant.2.same_supports
 
 pub returns-then-not-step : goal.returns-then-not-step
-returns-then-not-step c = record { counted_after = left_refused _ (left-next c.loop-left.left c.loop-left.invariant.0 c.loop-left-test.true c.entry_at-fact.result c.entry_at-fact.ensures c.withdraw_fact-step.result.answer c.withdraw_fact-step.ensures.supports_after c.tallied-sum.ensures) (λ t. update_malformed Withdrawal _ t (sym c.withdraw_fact-step.ensures.formed_value ∙ c.if-not-step.true)) c.refused.ensures; formed_value = sym (sym c.withdraw_fact-step.ensures.formed_value ∙ c.if-not-step.true) }
+returns-then-not-step c = record { counted_after = left_refused _ (left-next c.loop-left.left c.loop-left.invariant.0 c.loop-left-test.true c.entry_at-fact.result c.entry_at-fact.ensures c.withdraw_fact-step.result.answer c.withdraw_fact-step.ensures.supports_after c.tallied-sum.ensures) (λ t. update_malformed Withdrawal _ t (sym c.withdraw_fact-step.ensures.formed_value ∙ not-true _ c.if-not-step.true)) c.refused.ensures; formed_value = sym (sym c.withdraw_fact-step.ensures.formed_value ∙ not-true _ c.if-not-step.true) }
 
 pub loop-left-smaller : goal.loop-left-smaller
 loop-left-smaller c = omega (arith, c.loop-left-test.true)
 
 pub loop-left-preserved : goal.loop-left-preserved
-loop-left-preserved c = (left-next c.loop-left.left c.loop-left.invariant.0 c.loop-left-test.true c.entry_at-fact.result c.entry_at-fact.ensures c.withdraw_fact-step.result.answer c.withdraw_fact-step.ensures.supports_after c.tallied-sum.ensures, is_store_formed _ _ _ _ (sym c.withdraw_fact-step.ensures.formed_value ∙ c.if-not-step.false), record { same_statements = c.withdraw_fact-step.auto.statements ∙ c.loop-left.invariant.2.same_statements; same_facts = c.withdraw_fact-step.auto.facts ∙ c.loop-left.invariant.2.same_facts; same_kept = c.withdraw_fact-step.auto.kept ∙ c.loop-left.invariant.2.same_kept; same_supports = c.withdraw_fact-step.auto.supports ∙ c.loop-left.invariant.2.same_supports }, c.withdraw_fact-step.ensures.supports_bound_2)
+loop-left-preserved c = (left-next c.loop-left.left c.loop-left.invariant.0 c.loop-left-test.true c.entry_at-fact.result c.entry_at-fact.ensures c.withdraw_fact-step.result.answer c.withdraw_fact-step.ensures.supports_after c.tallied-sum.ensures, is_store_formed _ _ _ _ (sym c.withdraw_fact-step.ensures.formed_value ∙ not-false _ c.if-not-step.false), record { same_statements = c.withdraw_fact-step.auto.statements ∙ c.loop-left.invariant.2.same_statements; same_facts = c.withdraw_fact-step.auto.facts ∙ c.loop-left.invariant.2.same_facts; same_kept = c.withdraw_fact-step.auto.kept ∙ c.loop-left.invariant.2.same_kept; same_supports = c.withdraw_fact-step.auto.supports ∙ c.loop-left.invariant.2.same_supports }, c.withdraw_fact-step.ensures.supports_bound_2)
 
 pub shape_of-statements : goal.shape_of-statements
 shape_of-statements c = c.loop-left.invariant.2.same_statements
