@@ -16,9 +16,7 @@ pub slice_bounds-print_delivery-end-in-Length : goal.slice_bounds-print_delivery
 slice_bounds-print_delivery-end-in-Length c = sym (length-take-le _ c.read_ntriples.new.delivery (omega (arith, delivery_room c.args.file.now c.read_ntriples.result (omega (arith, c.if-file-gt-MOST_INPUT.false)) c.empty_dictionary-dictionary.ensures (sym c.delivery_buffer-delivery.ensures) c.read_ntriples.ensures _ c.in-Length.is, c.read_ntriples.auto.delivery, c.delivery_buffer-delivery.ensures)))
 
 pub returns-in-Length : goal.returns-in-Length
-returns-in-Length c =
-    let both1 = c.print_delivery.ensures.1 in
-    record { text = read-printed c.args.file.now c.read_ntriples.result (omega (arith, c.if-file-gt-MOST_INPUT.false)) c.empty_dictionary-dictionary.ensures (sym c.delivery_buffer-delivery.ensures) c.read_ntriples.ensures _ c.in-Length.is c.print_delivery.ensures.errors_after; output = both1.0; errors = both1.1 }
+returns-in-Length c = record { text = read-printed c.args.file.now c.read_ntriples.result (omega (arith, c.if-file-gt-MOST_INPUT.false)) c.empty_dictionary-dictionary.ensures (sym c.delivery_buffer-delivery.ensures) c.read_ntriples.ensures _ c.in-Length.is c.print_delivery.ensures.errors_after; output = c.print_delivery.ensures.output_le_most_output; errors = c.print_delivery.ensures.errors_le_head_room }
 
 pub returns-in-Refused : goal.returns-in-Refused
 returns-in-Refused c = record { text = read_refused c.args.file.now c.read_ntriples.result (omega (arith, c.if-file-gt-MOST_INPUT.false)) c.empty_dictionary-dictionary.ensures (sym c.delivery_buffer-delivery.ensures) c.read_ntriples.ensures c.args.out.now _ c.in-Refused.is c.refuse.ensures.output_value c.refuse.ensures.appended; output = omega (arith, c.refuse.ensures.output_value); errors = c.refuse.ensures.errors_le_head_room }
