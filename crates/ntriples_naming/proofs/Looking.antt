@@ -1,4 +1,4 @@
--- What looking for the texts of lines means for their words (words-vocabulary, words-found). Assumes nothing.
+-- What looking for the texts of lines means for their words (words_vocabulary, words-found). Assumes nothing.
 use Prim.Native.Nat.{ℕ, zero, suc, ◌+◌, ◌*◌, ◌<◌}
 use mathlib.Core.Path.{◌≡◌, sym, ap, ◌∙◌}
 use mathlib.Core.List.{List, [], ◌∷◌, ◌++◌, flat_map}

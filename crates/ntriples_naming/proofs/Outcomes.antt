@@ -1,4 +1,4 @@
--- What naming the lines of a batch means for reading (all-entered, all-rows, lacks-ground). Assumes nothing.
+-- What naming the lines of a batch means for reading (all_entered, all-rows, lacks-ground). Assumes nothing.
 use Prim.Native.Nat.{ℕ, suc, ◌+◌, ◌*◌, ◌<◌}
 use mathlib.Core.Path.{◌≡◌, refl, sym, ap, ◌∙◌}
 use mathlib.Core.Bool.{false, ◌&&◌}

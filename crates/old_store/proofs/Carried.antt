@@ -1,6 +1,6 @@
--- What carrying over leaves: refused, zeros (carrying-refused-zero); accepted, the old rows and supports, in tables that are well formed under any
--- limits that admit them (carrying-same, carrying-formed, carrying-store), and the same words where the lengths are the same (carrying-exact); and the
--- lengths in every case (carrying-lengths). Assumes nothing.
+-- What carrying over leaves: refused, zeros (carrying_refused_zero); accepted, the old rows and supports, in tables that are well formed under any
+-- limits that admit them (carrying_same, carrying_formed, carrying_store), and the same words where the lengths are the same (carrying_exact); and the
+-- lengths in every case (carrying_lengths). Assumes nothing.
 use Prim.Native.Nat.{ℕ, zero, suc, ◌+◌, ◌-◌, ◌*◌, ◌≤◌}
 use mathlib.Core.Path.{◌≡◌, refl, sym, ap, ◌∙◌, subst}
 use mathlib.Core.Bool.{Bool, true}

@@ -7,21 +7,21 @@ use native.Mathlib.Decide.{dec_lt}
 use native.Mathlib.Omega.{arith}
 use Rattle.spec.specs.declared.Triple.{Triple}
 use Rattle.spec.specs.Terms.{triple}
-use Rattle.spec.specs.inside.Comparison.{Less, by_subject_lem, by_property, by_object_lem}
+use Rattle.spec.specs.inside.Comparison.{Less, by_subject, by_property, by_object}
 use Rattle.spec.specs.Tables.{row_at}
 use Rattle.rdfs_reach.specs.inside.Marks.{Begins}
 use Rattle.table.specs.inside.Bounds.{Below}
 
 -- A row that is less than x k 0 is not of the subject x and the property k.
 not_below : (t : Triple) (x k : ℕ) → Less t (triple x k 0) → t.subject ≡ x → t.property ≡ k → ⊥
-not_below t x k (by_subject_lem h) p q = omega arith
+not_below t x k (by_subject h) p q = omega arith
 not_below t x k (by_property e h) p q = omega arith
-not_below t x k (by_object_lem e f h) p q = omega arith
+not_below t x k (by_object e f h) p q = omega arith
 
 -- A row that is not less is below none of them.
 not_less : (t : Triple) (x k : ℕ) → ¬ Less t (triple x k 0) → (x ≤ t.subject) × (t.subject ≡ x → k ≤ t.property)
 not_less t x k n = (
-  by_cases (dec_lt t.subject x) (λ (l : t.subject < x). absurd (n (by_subject_lem l))) (λ l. omega arith),
+  by_cases (dec_lt t.subject x) (λ (l : t.subject < x). absurd (n (by_subject l))) (λ l. omega arith),
   λ e. by_cases (dec_lt t.property k) (λ (l : t.property < k). absurd (n (by_property e l))) (λ l. omega arith),
 )
 

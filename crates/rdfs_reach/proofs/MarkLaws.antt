@@ -13,7 +13,7 @@ use lib.Dec.{eqb}
 use borrow.Author.Tests.{eq-eqb, eqb-true}
 use Rattle.spec.specs.declared.Triple.{Triple}
 use Rattle.spec.specs.Terms.{triple}
-use Rattle.spec.specs.inside.Comparison.{Less, by_subject_lem, by_property, by_object_lem, triple_eq}
+use Rattle.spec.specs.inside.Comparison.{Less, by_subject, by_property, by_object, triple_eq}
 use Rattle.spec.proofs.Ascending.{is_ascending_iff, and_left, and_right}
 use Rattle.spec.specs.Tables.{row_at, first_rows, rows, count, is_statement_table}
 use Rattle.spec.proofs.TableRows.{length-first_rows, get_or-row_at, length-rows}
@@ -82,9 +82,9 @@ statements_rising s = record { fits = s.size; ascends = s.ascends }
 
 -- A row below one of the subject x and the property k, and not below all of them, is one of them.
 between : {x k : ℕ} (t u : Triple) → Less t u → x ≤ t.subject → (t.subject ≡ x → k ≤ t.property) → u.subject ≡ x → u.property ≡ k → (t.subject ≡ x) × (t.property ≡ k)
-between {x} {k} t u (by_subject_lem h) a b p q = absurd (omega arith)
+between {x} {k} t u (by_subject h) a b p q = absurd (omega arith)
 between {x} {k} t u (by_property e h) a b p q = let z : k ≤ t.property = b (omega arith) in absurd (omega arith)
-between {x} {k} t u (by_object_lem e f h) a b p q = (omega arith, omega arith)
+between {x} {k} t u (by_object e f h) a b p q = (omega arith, omega arith)
 
 -- Past a row that is not below all of the subject x and the property k, and is none of them, there is none of them.
 past : {x k : ℕ} (t u : Triple) → Less t u → x ≤ t.subject → (t.subject ≡ x → k ≤ t.property) → ((t.subject ≡ x) × (t.property ≡ k) → ⊥) → u.subject ≡ x → u.property ≡ k → ⊥

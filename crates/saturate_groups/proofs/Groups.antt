@@ -8,7 +8,7 @@ use native.Mathlib.Decide.{ℕ_discrete, dec_lt}
 use lib.ListN.{get_or}
 use Rattle.spec.specs.declared.Triple.{Triple}
 use Rattle.spec.specs.Terms.{triple}
-use Rattle.spec.specs.inside.Comparison.{Less, by_subject_lem, by_property, by_object_lem}
+use Rattle.spec.specs.inside.Comparison.{Less, by_subject, by_property, by_object}
 use Rattle.spec.specs.Tables.{row_at}
 use Rattle.table.specs.inside.Bounds.{Below}
 use Rattle.table.proofs.SearchLaws.{rows-less}
@@ -43,20 +43,20 @@ module _ (st : List ℕ) (m : ℕ) (S : Statements st m) where
   module _ {a k x r : ℕ} (G : Group st m a k x) (B : Below st m (triple a k 0) r) where
     -- A statement between the first that is not below a k 0 and one of the group is of the group.
     first-in : (i : ℕ) → r < m → i < m → subject_node st i ≡ x → ¬ Less (row_at st r) (triple a k 0) → Less (row_at st r) (row_at st i) → subject_node st r ≡ x
-    first-in i h l e n (by_subject_lem q) = absurd (n (by_subject_lem (omega (arith, row-subject st i, (G.has i l e).0))))
+    first-in i h l e n (by_subject q) = absurd (n (by_subject (omega (arith, row-subject st i, (G.has i l e).0))))
     first-in i h l e n (by_property s q) =
         let own : (row_at st r).subject ≡ a = s ∙ row-subject st i ∙ (G.has i l e).0 in
         let least : k ≤ (row_at st r).property = by_cases (dec_lt (row_at st r).property k) (λ (z : (row_at st r).property < k). absurd (n (by_property own z))) (λ z. omega arith) in
         G.down r i h l e (sym (row-subject st r) ∙ own) (omega (arith, row_property st r)) (omega (arith, row_property st r, row_property st i))
-    first-in i h l e n (by_object_lem s t q) =
+    first-in i h l e n (by_object s t q) =
         let same : get_or st (r * 3 + 2) 0 ≡ get_or st (i * 3 + 2) 0 = omega (arith, row_property st r, row_property st i) in
         G.down r i h l e (sym (row-subject st r) ∙ s ∙ row-subject st i ∙ (G.has i l e).0) (omega (arith, (G.has i l e).1)) (omega arith)
 
     -- One of the group is not below a k 0.
     not_less : (i : ℕ) → i < m → subject_node st i ≡ x → ¬ Less (row_at st i) (triple a k 0)
-    not_less i l e (by_subject_lem q) = omega (arith, row-subject st i, (G.has i l e).0)
+    not_less i l e (by_subject q) = omega (arith, row-subject st i, (G.has i l e).0)
     not_less i l e (by_property s q) = omega (arith, row_property st i, (G.has i l e).1)
-    not_less i l e (by_object_lem s t q) = omega arith
+    not_less i l e (by_object s t q) = omega arith
 
     -- Where that first is not of the group, there is none.
     pub group-none : {y : ℕ} → y ≡ m → (r < m → ¬ (subject_node st r ≡ x)) → Found (subject_node st) m x y

@@ -7,7 +7,7 @@ use native.Mathlib.Omega.{arith}
 use native.Mathlib.Decide.{dec_lt, ℕ_discrete}
 use Rattle.spec.specs.declared.Triple.{Triple}
 use Rattle.spec.specs.Terms.{triple}
-use Rattle.spec.specs.inside.Comparison.{Less, by_subject_lem, by_property, by_object_lem, triple_eq}
+use Rattle.spec.specs.inside.Comparison.{Less, by_subject, by_property, by_object, triple_eq}
 use Rattle.spec.specs.Saturation.{Kept}
 use Rattle.spec.specs.inside.Counts.{Counts, lookup}
 use Rattle.saturate_merge.specs.inside.Output.{Output, put_one, put_all}
@@ -21,25 +21,25 @@ pub record ObjectWithin (x q a b : ℕ) (u : Triple) : Type 0 where
   pub high : u.object < b
 
 pub from-within : (x q a b : ℕ) (u : Triple) → ¬ Less u (triple x q a) → Less u (triple x q b) → ObjectWithin x q a b u
-from-within x q a b u n (by_subject_lem h) = absurd (n (by_subject_lem h))
+from-within x q a b u n (by_subject h) = absurd (n (by_subject h))
 from-within x q a b u n (by_property e h) = absurd (n (by_property e h))
-from-within x q a b u n (by_object_lem e f h) = record { is = triple_eq u (triple x q u.object) e f refl; low = by_cases (dec_lt u.object a) (λ l. absurd (n (by_object_lem e f l))) (λ l. omega arith); high = h }
+from-within x q a b u n (by_object e f h) = record { is = triple_eq u (triple x q u.object) e f refl; low = by_cases (dec_lt u.object a) (λ l. absurd (n (by_object e f l))) (λ l. omega arith); high = h }
 
 pub after-within : (x q a b : ℕ) (u : Triple) → Less (triple x q a) u → Less u (triple x q b) → ObjectWithin x q (suc a) b u
-after-within x q a b u (by_subject_lem g) (by_subject_lem h) = absurd (omega arith)
-after-within x q a b u (by_subject_lem g) (by_property e h) = absurd (omega arith)
-after-within x q a b u (by_subject_lem g) (by_object_lem e f h) = absurd (omega arith)
-after-within x q a b u (by_property c g) (by_subject_lem h) = absurd (omega arith)
+after-within x q a b u (by_subject g) (by_subject h) = absurd (omega arith)
+after-within x q a b u (by_subject g) (by_property e h) = absurd (omega arith)
+after-within x q a b u (by_subject g) (by_object e f h) = absurd (omega arith)
+after-within x q a b u (by_property c g) (by_subject h) = absurd (omega arith)
 after-within x q a b u (by_property c g) (by_property e h) = absurd (omega arith)
-after-within x q a b u (by_property c g) (by_object_lem e f h) = absurd (omega arith)
-after-within x q a b u (by_object_lem c d g) (by_subject_lem h) = absurd (omega arith)
-after-within x q a b u (by_object_lem c d g) (by_property e h) = absurd (omega arith)
-after-within x q a b u (by_object_lem c d g) (by_object_lem e f h) = record { is = triple_eq u (triple x q u.object) e f refl; low = omega arith; high = h }
+after-within x q a b u (by_property c g) (by_object e f h) = absurd (omega arith)
+after-within x q a b u (by_object c d g) (by_subject h) = absurd (omega arith)
+after-within x q a b u (by_object c d g) (by_property e h) = absurd (omega arith)
+after-within x q a b u (by_object c d g) (by_object e f h) = record { is = triple_eq u (triple x q u.object) e f refl; low = omega arith; high = h }
 
 pub not_less : (x q a b : ℕ) → b ≤ a → ¬ Less (triple x q a) (triple x q b)
-not_less x q a b le (by_subject_lem h) = omega arith
+not_less x q a b le (by_subject h) = omega arith
 not_less x q a b le (by_property e h) = omega arith
-not_less x q a b le (by_object_lem e f h) = omega arith
+not_less x q a b le (by_object e f h) = omega arith
 
 pub record Listing (K : Kept) (x q room : ℕ) (out₀ out : Output) (T : ℕ → ℕ) (m : ℕ) : Type 0 where
   pub done : out ≡ put_all room (between (triple x q 0) (triple x q m) K) out₀
@@ -57,7 +57,7 @@ listing-put K x q room out₀ out T T' m m' c a g here pos up same none =
     let e : between (triple x q 0) (triple x q m') K ≡ between (triple x q 0) (triple x q m) K ++ (triple x q m, c) ∷ [] =
     between_more (triple x q 0) (triple x q m) (triple x q m') c K a
     (not_less x q m 0 (omega arith))
-    (by_object_lem refl refl up)
+    (by_object refl refl up)
     (λ u k l. let w = after-within x q m m' u k l in rw w.is (g.left u.object (omega (arith, w.low)) ∙ sym (same u.object (omega (arith, w.low))) ∙ none u.object (omega (arith, w.low)) w.high))
     (g.left m (omega arith) ∙ here)
     pos in
@@ -86,13 +86,13 @@ listing_end K x q room out₀ out T m a g top =
     g.done ∙ ap (λ (k : Kept). put_all room k out₀) (sym e)
   where
     down : ¬ Less (triple x (q + 1) 0) (triple x q m)
-    down (by_subject_lem h) = omega arith
+    down (by_subject h) = omega arith
     down (by_property e h) = omega arith
-    down (by_object_lem e f h) = omega arith
+    down (by_object e f h) = omega arith
 
     none : (u : Triple) → ¬ Less u (triple x q m) → Less u (triple x (q + 1) 0) → lookup K u ≡ 0
-    none u n (by_subject_lem h) = absurd (n (by_subject_lem h))
-    none u n (by_object_lem e f h) = absurd (omega arith)
+    none u n (by_subject h) = absurd (n (by_subject h))
+    none u n (by_object e f h) = absurd (omega arith)
     none u n (by_property e h) = by_cases (dec_lt u.property q) (λ l. absurd (n (by_property e l)))
-        (λ l. let f : u.property ≡ q = omega arith in by_cases (dec_lt u.object m) (λ k. absurd (n (by_object_lem e f k)))
+        (λ l. let f : u.property ≡ q = omega arith in by_cases (dec_lt u.object m) (λ k. absurd (n (by_object e f k)))
         (λ k. rw (triple_eq u (triple x q u.object) e f refl) (g.left u.object (omega arith) ∙ top u.object (omega arith))))

@@ -94,13 +94,13 @@ hits_least [] h = absurd (omega arith)
 hits_least (l ∷ ls) h =
     by_cases (dec_lt (front_of l) (least_of ls))
     (λ lt. let m : least_of (l ∷ ls) ≡ front_of l = ap (λ (b : Bool). cond b (front_of l) (least_of ls)) (lt-ltb (front_of l) (least_of ls) lt) in
-      let e : hit (least_of (l ∷ ls)) l ≡ 1 = ap (λ (x : ℕ). hit x l) m ∙ front-hit l (omega (arith, least_small ls)) in
-      omega (arith, e))
+    let e : hit (least_of (l ∷ ls)) l ≡ 1 = ap (λ (x : ℕ). hit x l) m ∙ front-hit l (omega (arith, least_small ls)) in
+    omega (arith, e))
     (λ n. let k : least_of ls ≤ front_of l = omega arith in
-      let m : least_of (l ∷ ls) ≡ least_of ls = ap (λ (b : Bool). cond b (front_of l) (least_of ls)) (le-ltb (front_of l) (least_of ls) k) in
-      let p : 0 < hits (least_of ls) ls = hits_least ls (omega (arith, m)) in
-      let e : hits (least_of (l ∷ ls)) ls ≡ hits (least_of ls) ls = ap (λ (x : ℕ). hits x ls) m in
-      omega (arith, e, p))
+    let m : least_of (l ∷ ls) ≡ least_of ls = ap (λ (b : Bool). cond b (front_of l) (least_of ls)) (le-ltb (front_of l) (least_of ls) k) in
+    let p : 0 < hits (least_of ls) ls = hits_least ls (omega (arith, m)) in
+    let e : hits (least_of (l ∷ ls)) ls ≡ hits (least_of ls) ls = ap (λ (x : ℕ). hits x ls) m in
+    omega (arith, e, p))
 
 pub tally-strips : (m o : ℕ) (ls : List (List ℕ)) → m < o → tally o (strips m ls) ≡ tally o ls
 unfolding tally strips

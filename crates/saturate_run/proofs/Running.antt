@@ -11,7 +11,7 @@ use lib.Dec.{eqb}
 use borrow.Author.Tests.{lt-ltb, le-ltb, eq-eqb, ne_eqb}
 use Rattle.spec.specs.declared.Triple.{Triple}
 use Rattle.spec.specs.Terms.{is_literal, triple}
-use Rattle.spec.specs.inside.Comparison.{Less, by_subject_lem, by_property, by_object_lem, triple_eq}
+use Rattle.spec.specs.inside.Comparison.{Less, by_subject, by_property, by_object, triple_eq}
 use Rattle.spec.proofs.Lists.{true-not_false}
 use Rattle.spec.specs.Saturation.{Kept}
 use Rattle.spec.specs.inside.Counts.{Counts, lookup}
@@ -33,9 +33,9 @@ use Rattle.saturate_next.specs.inside.Run.{EndOf, subject_from, thing_from, next
 
 -- A lesser row has no greater subject.
 less-subject : {t u : Triple} → Less t u → t.subject ≤ u.subject
-less-subject (by_subject_lem h) = omega arith
+less-subject (by_subject h) = omega arith
 less-subject (by_property e h) = omega arith
-less-subject (by_object_lem e q h) = omega arith
+less-subject (by_object e q h) = omega arith
 
 -- The next subject is the subject of fact i, or the object at place j.
 pub data NextIs (f ix : List ℕ) (n i j v : ℕ) : Type 0 where
@@ -118,14 +118,14 @@ module _ (f ix : List ℕ) (n : ℕ) (fw : Facts f n) (once : Once n ix) (sorted
 
   module _ (below : (a : ℕ) → a < n → get_or ix a 0 < n) (st : List ℕ) (m : ℕ) (d r keys : List ℕ) (nc ns room : ℕ) where
     not_first : (u : Triple) → ¬ Less u (triple 0 0 0)
-    not_first u (by_subject_lem h) = omega arith
+    not_first u (by_subject h) = omega arith
     not_first u (by_property e h) = omega arith
-    not_first u (by_object_lem e q h) = omega arith
+    not_first u (by_object e q h) = omega arith
 
     subject-order : (a b : ℕ) → a ≤ b → ¬ Less (triple b 0 0) (triple a 0 0)
-    subject-order a b l (by_subject_lem h) = omega arith
+    subject-order a b l (by_subject h) = omega arith
     subject-order a b l (by_property e h) = omega arith
-    subject-order a b l (by_object_lem e q h) = omega arith
+    subject-order a b l (by_object e q h) = omega arith
 
     -- No row has a subject from lo on below v.
     gap : (K : Kept) → Counts K → Supported K st m d r keys nc ns f n → (i j lo v : ℕ) → lo ≤ v → v ≡ next_subject f ix n i j → ((y : ℕ) → y < i → subject_at f y < lo) → ((a : ℕ) → a < j → object_of f ix a < lo)
@@ -133,12 +133,12 @@ module _ (f ix : List ℕ) (n : ℕ) (fw : Facts f n) (once : Once n ix) (sorted
     gap K a s i j lo v le e bs bo = between-skip (triple 0 0 0) (triple lo 0 0) (triple v 0 0) K a (subject-order lo v le) (λ u h k. ap (lookup K) (triple_eq u (triple u.subject u.property u.object) refl refl refl) ∙ none u.subject u.property u.object (from u h) (upto u k))
       where
         from : (u : Triple) → ¬ Less u (triple lo 0 0) → lo ≤ u.subject
-        from u h = by_cases (dec_lt u.subject lo) (λ k. absurd (h (by_subject_lem k))) (λ k. omega arith)
+        from u h = by_cases (dec_lt u.subject lo) (λ k. absurd (h (by_subject k))) (λ k. omega arith)
 
         upto : (u : Triple) → Less u (triple v 0 0) → u.subject < v
-        upto u (by_subject_lem h) = h
+        upto u (by_subject h) = h
         upto u (by_property q h) = absurd (omega arith)
-        upto u (by_object_lem q w h) = absurd (omega arith)
+        upto u (by_object q w h) = absurd (omega arith)
 
         none : (x p o : ℕ) → lo ≤ x → x < v → lookup K (triple x p o) ≡ 0
         none x p o l u =
@@ -247,5 +247,5 @@ module _ (f ix : List ℕ) (n : ℕ) (fw : Facts f n) (once : Once n ix) (sorted
         none : (u : Triple) → ¬ Within (triple 0 0 0) (triple (2 ^ 32) 0 0) u → lookup K u ≡ 0
         none u w =
             by_cases (dec_lt u.subject (2 ^ 32))
-            (λ k. absurd (w (not_first u, by_subject_lem k)))
+            (λ k. absurd (w (not_first u, by_subject k)))
             (λ k. ap (lookup K) (triple_eq u (triple u.subject u.property u.object) refl refl refl) ∙ s.absent u.subject u.property u.object (λ y b q. omega (arith, fw.subject_small y b)) (λ y b t q. omega (arith, fw.object_small y b)))

@@ -12,7 +12,7 @@ use lib.Dec.{leb}
 use borrow.Author.Tests.{eqb-true, leb-true, eq-eqb, ne_eqb}
 use Rattle.spec.specs.declared.Triple.{Triple}
 use Rattle.spec.specs.Terms.{is_uri, is_blank, is_literal, triple, is_resource, is_triple, is_statement, is_allowed_statement, is_allowed_fact}
-use Rattle.spec.specs.inside.Comparison.{triple_eq, Less, by_subject_lem, by_property, by_object_lem}
+use Rattle.spec.specs.inside.Comparison.{triple_eq, Less, by_subject, by_property, by_object}
 use Rattle.spec.proofs.Order.{of_subject, of_property, of_object}
 use Rattle.spec.proofs.Lists.{or_cases, true-not_false}
 use Rattle.spec.proofs.Ascending.{and_left, and_right}
@@ -153,9 +153,9 @@ record Stands (t u : Triple) : Type 0 where
 
 -- A lesser row stands so.
 stands : {t u : Triple} → Less t u → Stands t u
-stands (by_subject_lem h) = record { subjects = omega arith; properties = λ e. absurd (omega arith); objects = λ e q. absurd (omega arith) }
+stands (by_subject h) = record { subjects = omega arith; properties = λ e. absurd (omega arith); objects = λ e q. absurd (omega arith) }
 stands (by_property e h) = record { subjects = omega arith; properties = λ _. omega arith; objects = λ _ q. absurd (omega arith) }
-stands (by_object_lem e g h) = record { subjects = omega arith; properties = λ _. omega arith; objects = λ _ _. h }
+stands (by_object e g h) = record { subjects = omega arith; properties = λ _. omega arith; objects = λ _ _. h }
 
 module _ (allowed : Triple → Bool) (most : ℕ) (ws : List ℕ) (w : WellFormed allowed most ws) (i j : ℕ) (l : i < j) (h : j < count ws) where
   -- The subjects of later rows are no less,

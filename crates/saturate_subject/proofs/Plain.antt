@@ -8,7 +8,7 @@ use native.Mathlib.Decide.{dec_lt, ℕ_discrete}
 use borrow.Author.Tests.{eq-eqb, ne_eqb}
 use Rattle.spec.specs.declared.Triple.{Triple}
 use Rattle.spec.specs.Terms.{triple}
-use Rattle.spec.specs.inside.Comparison.{Less, by_subject_lem, by_property, by_object_lem, triple_eq, equal_triples}
+use Rattle.spec.specs.inside.Comparison.{Less, by_subject, by_property, by_object, triple_eq, equal_triples}
 use Rattle.spec.proofs.Order.{less_ne, of_property, of_object}
 use Rattle.spec.specs.Tables.{row_at}
 use Rattle.spec.specs.Saturation.{Kept}
@@ -40,14 +40,14 @@ one_subject f n x i e g le s =
     same y l u = row-subject f y ∙ s y l (omega arith) ∙ sym (s (y + 1) (omega arith) u) ∙ sym (row-subject f (y + 1))
 
     property-order : (y z : ℕ) → Less (row_at f y) (row_at f z) → (row_at f y).subject ≡ (row_at f z).subject → property_at f y ≤ property_at f z
-    property-order y z (by_subject_lem h) e = absurd (omega arith)
+    property-order y z (by_subject h) e = absurd (omega arith)
     property-order y z (by_property a h) e = omega (arith, row_property f y, row_property f z)
-    property-order y z (by_object_lem a b h) e = omega (arith, row_property f y, row_property f z)
+    property-order y z (by_object a b h) e = omega (arith, row_property f y, row_property f z)
 
     object-order : (y z : ℕ) → Less (row_at f y) (row_at f z) → (row_at f y).subject ≡ (row_at f z).subject → (row_at f y).property ≡ (row_at f z).property → object_at f y < object_at f z
-    object-order y z (by_subject_lem h) e q = absurd (omega arith)
+    object-order y z (by_subject h) e q = absurd (omega arith)
     object-order y z (by_property a h) e q = absurd (omega arith)
-    object-order y z (by_object_lem a b h) e q = omega (arith, row-object f y, row-object f z)
+    object-order y z (by_object a b h) e q = omega (arith, row-object f y, row-object f z)
 
 -- ---- facts as rows
 
@@ -102,14 +102,14 @@ pub record PropertyWithin (x v w : ℕ) (u : Triple) : Type 0 where
   pub high : u.property < w
 
 pub property-within : (x v w : ℕ) (u : Triple) → ¬ Less u (triple x v 0) → Less u (triple x w 0) → PropertyWithin x v w u
-property-within x v w u n (by_subject_lem h) = absurd (n (by_subject_lem h))
+property-within x v w u n (by_subject h) = absurd (n (by_subject h))
 property-within x v w u n (by_property e h) = record { is = triple_eq u (triple x u.property u.object) e refl refl; low = by_cases (dec_lt u.property v) (λ l. absurd (n (by_property e l))) (λ l. omega arith); high = h }
-property-within x v w u n (by_object_lem e q h) = absurd (omega arith)
+property-within x v w u n (by_object e q h) = absurd (omega arith)
 
 pub not_before : (x v p o : ℕ) → v ≤ p → ¬ Less (triple x p o) (triple x v 0)
-not_before x v p o l (by_subject_lem h) = omega arith
+not_before x v p o l (by_subject h) = omega arith
 not_before x v p o l (by_property e h) = omega arith
-not_before x v p o l (by_object_lem e q h) = omega arith
+not_before x v p o l (by_object e q h) = omega arith
 
 -- The part of K between two properties, where only the facts q .. z support its rows.
 pub plain_part : (K : Kept) → Counts K → (f : List ℕ) (n x v w q z : ℕ) → Facts f n → q ≤ z → z ≤ n → Of f x q z → ((y : ℕ) → q ≤ y → y < z → v ≤ property_at f y) → ((y : ℕ) → q ≤ y → y < z → property_at f y < w)

@@ -9,7 +9,7 @@ use lib.ListN.{length, get_or}
 use borrow.Author.Tests.{eq-eqb}
 use Rattle.spec.specs.declared.Triple.{Triple}
 use Rattle.spec.specs.Terms.{triple}
-use Rattle.spec.specs.inside.Comparison.{Less, by_subject_lem, by_property, by_object_lem, triple_eq}
+use Rattle.spec.specs.inside.Comparison.{Less, by_subject, by_property, by_object, triple_eq}
 use Rattle.spec.specs.Saturation.{Kept}
 use Rattle.spec.specs.inside.Counts.{Counts, lookup}
 use Rattle.saturate_schema.specs.inside.Compiled.{property_at}
@@ -211,9 +211,9 @@ module _ (st : List ℕ) (m : ℕ) (d keys : List ℕ) (nc ns : ℕ) (counts f :
       ∙ ap (λ (k : Kept). put_all room k out₀) (sym join)
     where
       over : (v : ℕ) → ¬ Less (triple (x + 1) 0 0) (triple x v 0)
-      over v (by_subject_lem i) = omega arith
+      over v (by_subject i) = omega arith
       over v (by_property i k) = omega arith
-      over v (by_object_lem i j k) = omega arith
+      over v (by_object i j k) = omega arith
 
       past : ¬ Less (triple (x + 1) 0 0) (triple x (2 ^ 32) 0)
       past = over (2 ^ 32)
@@ -225,10 +225,10 @@ module _ (st : List ℕ) (m : ℕ) (d keys : List ℕ) (nc ns : ℕ) (counts f :
 
       beyond : (K : Kept) → PropertyRows K st m d keys nc ns f x t e → (u : Triple) → ¬ Less u (triple x (2 ^ 32) 0) → Less u (triple (x + 1) 0 0) → lookup K u ≡ 0
       beyond K h u j (by_property i k) = absurd (omega arith)
-      beyond K h u j (by_object_lem i c k) = absurd (omega arith)
-      beyond K h u j (by_subject_lem k) =
+      beyond K h u j (by_object i c k) = absurd (omega arith)
+      beyond K h u j (by_subject k) =
           by_cases (dec_lt u.subject x)
-          (λ v. absurd (j (by_subject_lem v)))
+          (λ v. absurd (j (by_subject v)))
           (λ v. let i : u.subject ≡ x = omega arith in by_cases (dec_lt u.property (2 ^ 32))
           (λ c. absurd (j (by_property i c)))
           (λ c. ap (lookup K) (triple_eq u (triple x u.property u.object) i refl refl) ∙ zero-at K h u.property u.object (omega arith)))

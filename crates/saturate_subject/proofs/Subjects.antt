@@ -11,7 +11,7 @@ use lib.Dec.{eqb}
 use borrow.Author.Tests.{eq-eqb, ne_eqb}
 use Rattle.spec.specs.declared.Triple.{Triple}
 use Rattle.spec.specs.Terms.{is_literal, triple}
-use Rattle.spec.specs.inside.Comparison.{Less, by_subject_lem, by_property, by_object_lem, triple_eq}
+use Rattle.spec.specs.inside.Comparison.{Less, by_subject, by_property, by_object, triple_eq}
 use Rattle.spec.specs.Saturation.{Kept}
 use Rattle.spec.specs.inside.Counts.{Counts, lookup}
 use Rattle.saturate_merge.specs.inside.Output.{Output, put_all}
@@ -186,11 +186,11 @@ module _ (f : List ℕ) (n x i t e : ℕ) (fw : Facts f n) (sr : Range (subject_
           ∙ ap (λ (k : Kept). put_all room k out₀) (sym j₂)
         where
           over : ¬ Less (triple (x + 1) 0 0) (triple x 2 0)
-          over (by_subject_lem q) = omega arith
+          over (by_subject q) = omega arith
           over (by_property q k) = omega arith
-          over (by_object_lem q j k) = omega arith
+          over (by_object q j k) = omega arith
 
           zero_row : (u : Triple) → ¬ Less u (triple x 0 0) → Less u (triple x 1 0) → lookup K u ≡ 0
-          zero_row u l (by_subject_lem k) = absurd (l (by_subject_lem k))
-          zero_row u l (by_object_lem q c k) = absurd (omega arith)
+          zero_row u l (by_subject k) = absurd (l (by_subject k))
+          zero_row u l (by_object q c k) = absurd (omega arith)
           zero_row u l (by_property q k) = ap (lookup K) (triple_eq u (triple x 0 u.object) q (omega arith) refl) ∙ none_before K s u.object

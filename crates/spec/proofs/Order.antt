@@ -2,19 +2,19 @@
 use mathlib.Core.Path.{◌≡◌, refl, ap}
 use native.Mathlib.Omega.{arith}
 use Rattle.spec.specs.declared.Triple.{Triple}
-use Rattle.spec.specs.inside.Comparison.{Less, by_subject_lem, by_property, by_object_lem, less_irrefl, Trichotomy, less, same, more, choose, by_order}
+use Rattle.spec.specs.inside.Comparison.{Less, by_subject, by_property, by_object, less_irrefl, Trichotomy, less, same, more, choose, by_order}
 
 -- The order is transitive.
 pub less_trans : {t u v : Triple} → Less t u → Less u v → Less t v
-less_trans (by_subject_lem a) (by_subject_lem b) = by_subject_lem (omega arith)
-less_trans (by_subject_lem a) (by_property b c) = by_subject_lem (omega arith)
-less_trans (by_subject_lem a) (by_object_lem b c d) = by_subject_lem (omega arith)
-less_trans (by_property e a) (by_subject_lem b) = by_subject_lem (omega arith)
+less_trans (by_subject a) (by_subject b) = by_subject (omega arith)
+less_trans (by_subject a) (by_property b c) = by_subject (omega arith)
+less_trans (by_subject a) (by_object b c d) = by_subject (omega arith)
+less_trans (by_property e a) (by_subject b) = by_subject (omega arith)
 less_trans (by_property e a) (by_property b c) = by_property (omega arith) (omega arith)
-less_trans (by_property e a) (by_object_lem b c d) = by_property (omega arith) (omega arith)
-less_trans (by_object_lem e f a) (by_subject_lem b) = by_subject_lem (omega arith)
-less_trans (by_object_lem e f a) (by_property b c) = by_property (omega arith) (omega arith)
-less_trans (by_object_lem e f a) (by_object_lem b c d) = by_object_lem (omega arith) (omega arith) (omega arith)
+less_trans (by_property e a) (by_object b c d) = by_property (omega arith) (omega arith)
+less_trans (by_object e f a) (by_subject b) = by_subject (omega arith)
+less_trans (by_object e f a) (by_property b c) = by_property (omega arith) (omega arith)
+less_trans (by_object e f a) (by_object b c d) = by_object (omega arith) (omega arith) (omega arith)
 
 pub less_ne : {t u : Triple} → Less t u → ¬ (t ≡ u)
 less_ne h e = less_irrefl (rw e at h)

@@ -10,7 +10,7 @@ use borrow.Author.Tests.{lt-ltb, le-ltb, eq-eqb, ne_eqb}
 use Rattle.spec.specs.declared.Triple.{Triple}
 use Rattle.spec.specs.Rows.{less, words}
 use Rattle.spec.specs.Order.{is_less, is_same, is_in}
-use Rattle.spec.specs.inside.Comparison.{Less, by_subject_lem, by_property, by_object_lem, Trichotomy, less as is-less, same as is-same, more as is-more, compare_triples, equal_triples}
+use Rattle.spec.specs.inside.Comparison.{Less, by_subject, by_property, by_object, Trichotomy, less as is-less, same as is-same, more as is-more, compare_triples, equal_triples}
 use Rattle.spec.proofs.Lists.{true-not_false, cond_elim, by_test, any_in, any_out}
 use Rattle.spec.proofs.Order.{of_subject, of_property, of_object}
 use Rattle.spec.proofs.RowOrder as rows
@@ -20,12 +20,12 @@ use Rattle.spec.proofs.RowOrder as rows
 -- A lesser triple has lesser words,
 pub less-is_less : {t u : Triple} → Less t u → is_less t u ≡ true
 unfolding less
-less-is_less {t} {u} (by_subject_lem h) = rw (lt-ltb t.subject u.subject h)
+less-is_less {t} {u} (by_subject h) = rw (lt-ltb t.subject u.subject h)
 less-is_less {t} {u} (by_property e h) =
     let a : u.subject ≤ t.subject = omega arith in
     let b : t.subject ≤ u.subject = omega arith in
     rw (le-ltb t.subject u.subject a, le-ltb u.subject t.subject b, lt-ltb t.property u.property h)
-less-is_less {t} {u} (by_object_lem e f h) =
+less-is_less {t} {u} (by_object e f h) =
     let a : u.subject ≤ t.subject = omega arith in
     let b : t.subject ≤ u.subject = omega arith in
     let c : u.property ≤ t.property = omega arith in
@@ -61,15 +61,15 @@ is_same_yes t u e = rw (eq-eqb t.subject u.subject (of_subject e), eq-eqb t.prop
 -- and no others are.
 less-is_same : {t u : Triple} → Less t u → is_same t u ≡ false
 unfolding is_same
-less-is_same {t} {u} (by_subject_lem h) = rw (ne_eqb t.subject u.subject (λ e. omega arith))
+less-is_same {t} {u} (by_subject h) = rw (ne_eqb t.subject u.subject (λ e. omega arith))
 less-is_same {t} {u} (by_property e h) = rw (eq-eqb t.subject u.subject e, ne_eqb t.property u.property (λ q. omega arith))
-less-is_same {t} {u} (by_object_lem e f h) = rw (eq-eqb t.subject u.subject e, eq-eqb t.property u.property f, ne_eqb t.object u.object (λ q. omega arith))
+less-is_same {t} {u} (by_object e f h) = rw (eq-eqb t.subject u.subject e, eq-eqb t.property u.property f, ne_eqb t.object u.object (λ q. omega arith))
 
 more-is_same : {t u : Triple} → Less u t → is_same t u ≡ false
 unfolding is_same
-more-is_same {t} {u} (by_subject_lem h) = rw (ne_eqb t.subject u.subject (λ e. omega arith))
+more-is_same {t} {u} (by_subject h) = rw (ne_eqb t.subject u.subject (λ e. omega arith))
 more-is_same {t} {u} (by_property e h) = rw (eq-eqb t.subject u.subject (sym e), ne_eqb t.property u.property (λ q. omega arith))
-more-is_same {t} {u} (by_object_lem e f h) = rw (eq-eqb t.subject u.subject (sym e), eq-eqb t.property u.property (sym f), ne_eqb t.object u.object (λ q. omega arith))
+more-is_same {t} {u} (by_object e f h) = rw (eq-eqb t.subject u.subject (sym e), eq-eqb t.property u.property (sym f), ne_eqb t.object u.object (λ q. omega arith))
 
 pub is_same_no : (t u : Triple) → ¬ (t ≡ u) → is_same t u ≡ false
 is_same_no t u n = by (compare_triples t u)

@@ -1,5 +1,5 @@
--- Texts that reading gives are canonical, and canonical texts, read, give themselves (text-canonical, canonical-text, canonical-means,
--- document-canonical). Assumes nothing.
+-- Texts that reading gives are canonical, and canonical texts, read, give themselves (text_canonical, canonical-text, canonical_means,
+-- document_canonical). Assumes nothing.
 use Prim.Native.Nat.{ℕ}
 use mathlib.Core.Path.{◌≡◌, refl, sym}
 use mathlib.Core.Bool.{true}
@@ -121,7 +121,7 @@ line_canonical cs t h L =
     }
 
 line_said : (cs : List ℕ) (ts : List TextTriple) (t : TextTriple) → all is_scalar cs ≡ true → LineSays cs ts → Memᴰ t ts → CanonicalTriple t
-line_said cs ts t h (LineSays.no_triple_lem m e) k = absurd (Memᴰ.not-nil (rw e at k))
+line_said cs ts t h (LineSays.no_triple m e) k = absurd (Memᴰ.not-nil (rw e at k))
 line_said cs ts t h (LineSays.one_triple u L e) k =
     ⊎_elim (λ (q : t ≡ u). rw q (line_canonical cs u h L)) (λ j. absurd (Memᴰ.not-nil j)) (Memᴰ.cases_cons (rw e at k))
 

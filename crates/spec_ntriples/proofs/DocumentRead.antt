@@ -1,4 +1,4 @@
--- A file is read exactly as its lines say (document-read, document-refused, at the end). Assumes nothing.
+-- A file is read exactly as its lines say (document-read, document_refused, at the end). Assumes nothing.
 use Prim.Native.Nat.{ℕ}
 use mathlib.Core.Path.{◌≡◌, refl, sym, ap, ◌∙◌, subst}
 use mathlib.Core.Bool.{Bool, true, false, not}
@@ -72,7 +72,7 @@ record Said (l : List ℕ) (d : Document) (ts : List TextTriple) : Type 0 where
 line_said : (l : List ℕ) (x : Line) (d : Document) (ts : List TextTriple) → read_line l ≡ x → with_line x d ≡ triples ts → Said l d ts
 unfolding with_line
 line_said l wrong d ts p e = refused-not e
-line_said l empty d ts p e = record { ls = []; us = ts; line = LineSays.no_triple_lem ((line-empty l).0 p) refl; behind = e; same = refl }
+line_said l empty d ts p e = record { ls = []; us = ts; line = LineSays.no_triple ((line-empty l).0 p) refl; behind = e; same = refl }
 line_said l (full t) d ts p e =
     let f = first t d ts e in
     record { ls = t ∷ []; us = f.later; line = LineSays.one_triple t ((line_read l t).0 p) refl; behind = f.behind; same = f.same }
@@ -117,7 +117,7 @@ eols_nothing es r (Repeated.more s t q m n) = rw (q, m.spelled, m.allowed, nothi
 
 line-read_as : (l : List ℕ) (ls us : List TextTriple) → LineSays l ls → with_line (read_line l) (triples us) ≡ triples (ls ++ us)
 unfolding with_line with_triple
-line-read_as l ls us (LineSays.no_triple_lem m e) = rw ((line-empty l).1 m, e)
+line-read_as l ls us (LineSays.no_triple m e) = rw ((line-empty l).1 m, e)
 line-read_as l ls us (LineSays.one_triple t L e) = rw ((line_read l t).1 L, e)
 
 said-lines : (cs : List ℕ) (ts : List TextTriple) → Says cs ts → read_lines (lines cs) ≡ triples ts

@@ -1,4 +1,4 @@
--- The reader of IRIs and strings reads exactly pieces, one after the other, up to the end mark (iri-scanned, string-scanned, scan-iri, scan-string). Assumes nothing.
+-- The reader of IRIs and strings reads exactly pieces, one after the other, up to the end mark (iri_scanned, string_scanned, scan_iri, scan_string). Assumes nothing.
 use Prim.Native.Nat.{ℕ, zero, suc, ◌+◌, ◌-◌, ◌*◌, ◌≤◌, ◌<◌}
 use Prim.Native.Char.{code}
 use mathlib.Core.Path.{◌≡◌, refl, sym, ap, ◌∙◌, subst}

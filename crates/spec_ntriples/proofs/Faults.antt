@@ -1,4 +1,4 @@
--- A line that the grammar allows is read as a triple, or has a fault (line-faults, line_refused, at the end). Assumes nothing.
+-- A line that the grammar allows is read as a triple, or has a fault (line_faults, line_refused, at the end). Assumes nothing.
 use Prim.Native.Nat.{ℕ}
 use Prim.Native.Char.{code}
 use mathlib.Core.Path.{◌≡◌, refl, sym, ap, ◌∙◌}

@@ -1,4 +1,4 @@
--- A line is read exactly as the grammar and its meaning say (line_read, line-empty, line-wrong, line-unique, at the end). Assumes nothing.
+-- A line is read exactly as the grammar and its meaning say (line_read, line-empty, line_wrong, line_unique, at the end). Assumes nothing.
 use Prim.Native.Nat.{ℕ}
 use Prim.Native.Char.{code}
 use mathlib.Core.Path.{◌≡◌, refl, sym, ap, ◌∙◌, subst}

@@ -1,4 +1,4 @@
--- A file read again, and files read one after the other (reading-again, reading-then, at the end). Assumes nothing.
+-- A file read again, and files read one after the other (reading_again, reading_then, at the end). Assumes nothing.
 use Prim.Native.Nat.{ℕ, ◌^◌, ◌<◌}
 use mathlib.Core.Path.{◌≡◌, refl, sym, ap, ◌∙◌}
 use mathlib.Core.List.{List, [], ◌∷◌, ◌++◌, map, append_assoc}

@@ -1,4 +1,4 @@
--- A reading is refused by the first "no", and then changes nothing (reading-refused, reading-refused-leaves, reading-accepted, at the end).
+-- A reading is refused by the first "no", and then changes nothing (reading_refused, reading_refused_leaves, reading_accepted, at the end).
 -- Assumes nothing.
 use Prim.Native.Nat.{ℕ, suc, ◌+◌, ◌*◌, ◌≤◌, min}
 use mathlib.Core.Path.{◌≡◌, refl, sym, ap, ◌∙◌, subst}

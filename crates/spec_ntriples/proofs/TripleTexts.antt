@@ -1,4 +1,4 @@
--- The texts of a file's triples are canonical, of their kind, and of a kind that may stand there (document-texts, at the end). Assumes nothing.
+-- The texts of a file's triples are canonical, of their kind, and of a kind that may stand there (document_texts, at the end). Assumes nothing.
 use Prim.Native.Nat.{ℕ, ◌≤◌}
 use mathlib.Core.Path.{◌≡◌, refl}
 use mathlib.Core.Bool.{true, ◌&&◌, ◌||◌}
@@ -85,7 +85,7 @@ line_texts_lem cs t h L =
 -- ---- a file's
 
 line_said : (cs : List ℕ) (ts : List TextTriple) → all is_scalar cs ≡ true → LineSays cs ts → Each TextsRight ts
-line_said cs ts h (LineSays.no_triple_lem m e) = rw e tt
+line_said cs ts h (LineSays.no_triple m e) = rw e tt
 line_said cs ts h (LineSays.one_triple t L e) = rw e (line_texts_lem cs t h L, tt)
 
 says_texts : (cs : List ℕ) (ts : List TextTriple) → all is_scalar cs ≡ true → Says cs ts → Each TextsRight ts

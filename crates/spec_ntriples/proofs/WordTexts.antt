@@ -1,4 +1,4 @@
--- A text's term has that text, and its kind (word-text, word-right, at the end). Assumes nothing.
+-- A text's term has that text, and its kind (word_text, word_right, at the end). Assumes nothing.
 use Prim.Native.Nat.{ℕ, zero, suc, ◌+◌, ◌-◌, ◌*◌, ◌^◌, ◌≤◌, ◌<◌}
 use mathlib.Core.Path.{◌≡◌, refl, sym, ap, ◌∙◌, subst}
 use mathlib.Core.Bool.{true, false, ◌&&◌, cond}

@@ -122,7 +122,7 @@ is_one_line l = all (λ c. not (is_one_of (codes "\r\n") c)) l
 
 -- What a line says: nothing, or a triple.
 pub data LineSays (line : List ℕ) (ts : List TextTriple) : Type 0 where
-  no_triple_lem : Matches empty_line line → ts ≡ [] → LineSays line ts
+  no_triple : Matches empty_line line → ts ≡ [] → LineSays line ts
   one_triple : (t : TextTriple) → TripleLine line t → ts ≡ t ∷ [] → LineSays line ts
 
 -- [1] ntriplesDoc ::= triple? (EOL triple)* EOL?, with lines that have no triple anywhere: lines with EOL between them, and their triples.

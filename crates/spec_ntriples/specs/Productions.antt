@@ -1,4 +1,4 @@
--- The grammar of RDF 1.1 N-Triples (W3C Recommendation, section 7), production for production, with "-" for "_" in their names.
+-- The grammar of RDF 1.1 N-Triples (W3C Recommendation, section 7), production for production, under the names that they have there.
 -- Definitions only.
 use Prim.Native.Char.{code}
 use Rattle.std.specs.Prelude.{true, [], ◌∷◌}

@@ -1,5 +1,5 @@
--- Triples written as a canonical document are read back, and canonical form is a fixed point (document-written, document-form,
--- canonical-same, form-canonical, canonical-once, at the end). Assumes nothing.
+-- Triples written as a canonical document are read back, and canonical form is a fixed point (document-written, document_form,
+-- canonical_same, form_canonical, canonical_once, at the end). Assumes nothing.
 use Prim.Native.Nat.{ℕ}
 use mathlib.Core.Path.{◌≡◌, refl, sym, ap, ◌∙◌}
 use mathlib.Core.Bool.{Bool, true, not}
@@ -172,7 +172,7 @@ written-lines [] h =
       chars = [];
       scalar = refl;
       encoded = refl;
-      says = Says.last refl (LineSays.no_triple_lem (record { front = []; back = []; spelled = refl; first = Repeated.end refl; second = inl refl }) refl);
+      says = Says.last refl (LineSays.no_triple (record { front = []; back = []; spelled = refl; first = Repeated.end refl; second = inl refl }) refl);
       canonical = CanonicalLines.none refl;
       normal = tt;
     }

@@ -1,4 +1,4 @@
--- The text of a term, as characters: they mean the term, are canonical and stand in one line (spell-term, at the end). Assumes nothing.
+-- The text of a term, as characters: they mean the term, are canonical and stand in one line (spell_term, at the end). Assumes nothing.
 use Prim.Native.Nat.{ℕ, zero, suc, ◌≤◌}
 use Prim.Native.Char.{code}
 use mathlib.Core.Path.{◌≡◌, refl, sym, ap, ◌∙◌, subst}

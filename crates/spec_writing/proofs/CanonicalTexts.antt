@@ -1,5 +1,5 @@
--- A canonical term's bytes are the text that it means exactly where its tag is in lower case and its type is not xsd:string (term-exact,
--- means-normal). Assumes nothing.
+-- A canonical term's bytes are the text that it means exactly where its tag is in lower case and its type is not xsd:string (term_exact,
+-- means_normal). Assumes nothing.
 use Prim.Native.Nat.{ℕ}
 use Prim.Native.Char.{code}
 use mathlib.Core.Path.{◌≡◌, refl, sym, ap, ◌∙◌, subst}

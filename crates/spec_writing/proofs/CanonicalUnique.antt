@@ -1,5 +1,5 @@
 -- A file is its own canonical form exactly where it is canonical, its tags are in lower case and it leaves the type xsd:string off
--- (canonical-unique, canonical-exactly, at the end). Assumes nothing.
+-- (canonical_unique, canonical_exactly, at the end). Assumes nothing.
 use Prim.Native.Nat.{ℕ}
 use mathlib.Core.Path.{◌≡◌, refl, sym, ap, ◌∙◌, subst}
 use mathlib.Core.Bool.{true}

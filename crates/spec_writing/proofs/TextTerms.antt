@@ -1,5 +1,5 @@
--- A dictionary's terms and texts lead back and forth; its texts are canonical and of their terms' kinds (text-term, term-text, text-none,
--- text-canonical, text-kind, at the end). Assumes nothing.
+-- A dictionary's terms and texts lead back and forth; its texts are canonical and of their terms' kinds (text_term, term_text, text_none,
+-- text_canonical, text-kind, at the end). Assumes nothing.
 use Prim.Native.Nat.{ℕ, zero, suc, ◌-◌, ◌≤◌, ◌<◌}
 use mathlib.Core.Path.{◌≡◌, refl, sym, ap, ◌∙◌}
 use mathlib.Core.Bool.{true, false, ◌&&◌}

@@ -1,5 +1,5 @@
--- A writing is refused by the first "no", and then leaves zeros; else it gives the lines (writing-refused, writing-refused-leaves,
--- writing-accepted, writing-accepted-gives, at the end). Assumes nothing.
+-- A writing is refused by the first "no", and then leaves zeros; else it gives the lines (writing_refused, writing_refused_leaves,
+-- writing_accepted, writing_accepted_gives, at the end). Assumes nothing.
 use Prim.Native.Nat.{ℕ, zero, ◌-◌, ◌<◌}
 use mathlib.Core.Path.{◌≡◌, refl, sym, ap, ◌∙◌, subst}
 use mathlib.Core.Bool.{Bool, true, false, ◌&&◌}

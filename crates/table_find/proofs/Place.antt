@@ -7,7 +7,7 @@ use native.Mathlib.Decide.{dec_lt}
 use native.Mathlib.Omega.{arith}
 use lib.ListN.{length, get_or}
 use Rattle.spec.specs.declared.Triple.{Triple}
-use Rattle.spec.specs.inside.Comparison.{Less, by_object_lem, triple_eq, compare_triples, Ascending}
+use Rattle.spec.specs.inside.Comparison.{Less, by_object, triple_eq, compare_triples, Ascending}
 use Rattle.spec.proofs.Order.{less_trans, less_ne, by_order_elim, by_order-less, by_order_same, by_order_more}
 use Rattle.spec.proofs.Ascending.{above_asc}
 use Rattle.table_find.specs.declared.Ordering.{Ordering}
@@ -34,9 +34,9 @@ says-ordering t u Higher h = sym (by_order_more (compare_triples t u) Lower Equa
 
 -- Where subjects and properties are equal, the objects decide.
 pub by_objects : (t u : Triple) (o : Ordering) → t.subject ≡ u.subject → t.property ≡ u.property → Says o t.object u.object → SaysOf o t u
-by_objects t u Lower a b h = by_object_lem a b h
+by_objects t u Lower a b h = by_object a b h
 by_objects t u Equal a b h = triple_eq t u a b h
-by_objects t u Higher a b h = by_object_lem (sym a) (sym b) h
+by_objects t u Higher a b h = by_object (sym a) (sym b) h
 
 -- The place of a row from what stands before and behind it.
 pub place_at_lem : (x : Triple) (us : List Triple) (d : Triple) (i : ℕ) → i < length us → ((k : ℕ) → k < i → Less (get_or us k d) x) → get_or us i d ≡ x → place x us ≡ At i

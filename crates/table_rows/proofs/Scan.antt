@@ -11,7 +11,7 @@ use borrow.Author.Tests.{lt-ltb, le-ltb, eq-eqb, ne_eqb}
 use Rattle.spec.specs.declared.Triple.{Triple}
 use Rattle.spec.specs.Terms.{triple}
 use Rattle.spec.specs.Order.{is_less, is_ascending}
-use Rattle.spec.specs.inside.Comparison.{Less, by_subject_lem, by_property, by_object_lem, triple_eq, less_irrefl, Trichotomy, less, same, more, compare_triples}
+use Rattle.spec.specs.inside.Comparison.{Less, by_subject, by_property, by_object, triple_eq, less_irrefl, Trichotomy, less, same, more, compare_triples}
 use Rattle.spec.proofs.Order.{less_asym}
 use Rattle.spec.proofs.Tests.{less-is_less, more-is_less, same-is_less, is_less_false}
 use Rattle.spec.specs.Tables.{triple_from, row_at, first_rows}
@@ -115,9 +115,9 @@ abbrev pub Same : List ℕ → ℕ → ℕ → ℕ → Type 0
 Same ws p q k = (j : ℕ) → j < k → get_or ws (p + j) 0 ≡ get_or ws (q + j) 0
 
 less-words : (ws : List ℕ) (p q k : ℕ) → k < 3 → Same ws p q k → get_or ws (p + k) 0 < get_or ws (q + k) 0 → Less (triple_from ws p) (triple_from ws q)
-less-words ws p q zero h s l = by_subject_lem (rw (add-zero p, add-zero q) at l)
+less-words ws p q zero h s l = by_subject (rw (add-zero p, add-zero q) at l)
 less-words ws p q (suc zero) h s l = by_property (rw (add-zero p, add-zero q) at (s 0 (omega arith))) l
-less-words ws p q (suc (suc zero)) h s l = by_object_lem (rw (add-zero p, add-zero q) at (s 0 (omega arith))) (s 1 (omega arith)) l
+less-words ws p q (suc (suc zero)) h s l = by_object (rw (add-zero p, add-zero q) at (s 0 (omega arith))) (s 1 (omega arith)) l
 less-words ws p q (suc (suc (suc k))) h s l = absurd (omega arith)
 
 same-words : (ws : List ℕ) (p q : ℕ) → Same ws p q 3 → triple_from ws p ≡ triple_from ws q
@@ -147,14 +147,14 @@ abbrev tested : Triple → Triple → Bool
 tested x y = ltb x.subject y.subject || (eqb x.subject y.subject && (ltb x.property y.property || (eqb x.property y.property && ltb x.object y.object)))
 
 tested-less : (x y : Triple) → Less x y → tested x y ≡ true
-tested-less x y (by_subject_lem h) = rw (lt-ltb x.subject y.subject h)
+tested-less x y (by_subject h) = rw (lt-ltb x.subject y.subject h)
 tested-less x y (by_property e h) = rw (le-ltb x.subject y.subject (omega arith), eq-eqb x.subject y.subject e, lt-ltb x.property y.property h)
-tested-less x y (by_object_lem e k h) = rw (le-ltb x.subject y.subject (omega arith), eq-eqb x.subject y.subject e, le-ltb x.property y.property (omega arith), eq-eqb x.property y.property k, lt-ltb x.object y.object h)
+tested-less x y (by_object e k h) = rw (le-ltb x.subject y.subject (omega arith), eq-eqb x.subject y.subject e, le-ltb x.property y.property (omega arith), eq-eqb x.property y.property k, lt-ltb x.object y.object h)
 
 tested_more : (x y : Triple) → Less y x → tested x y ≡ false
-tested_more x y (by_subject_lem h) = rw (le-ltb x.subject y.subject (omega arith), ne_eqb x.subject y.subject (λ e. omega arith))
+tested_more x y (by_subject h) = rw (le-ltb x.subject y.subject (omega arith), ne_eqb x.subject y.subject (λ e. omega arith))
 tested_more x y (by_property e h) = rw (le-ltb x.subject y.subject (omega arith), eq-eqb x.subject y.subject (sym e), le-ltb x.property y.property (omega arith), ne_eqb x.property y.property (λ q. omega arith))
-tested_more x y (by_object_lem e k h) = rw (le-ltb x.subject y.subject (omega arith), eq-eqb x.subject y.subject (sym e), le-ltb x.property y.property (omega arith), eq-eqb x.property y.property (sym k), le-ltb x.object y.object (omega arith))
+tested_more x y (by_object e k h) = rw (le-ltb x.subject y.subject (omega arith), eq-eqb x.subject y.subject (sym e), le-ltb x.property y.property (omega arith), eq-eqb x.property y.property (sym k), le-ltb x.object y.object (omega arith))
 
 tested_same : (x : Triple) → tested x x ≡ false
 tested_same x = rw (le-ltb x.subject x.subject (omega arith), eq-eqb x.subject x.subject refl, le-ltb x.property x.property (omega arith), eq-eqb x.property x.property refl, le-ltb x.object x.object (omega arith))

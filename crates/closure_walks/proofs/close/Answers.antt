@@ -30,12 +30,12 @@ loop-n-preserved-then-applies c = let bit = bit_at c.loop-n.closure in
 
 pub loop-n-preserved : goal.loop-n-preserved
 loop-n-preserved c = (
-      omega arith,
-      c.loop-n.invariant.1,
-      c.loop-n.invariant.2,
-      closed_pass c.args.statements.now _ c.args.columns.now _ (bit_at c.loop-n.closure) 0 c.loop-n.n c.loop-n.invariant.0 c.requires.columns c.loop-n.invariant.3
-          (sym c.applies.ensures ∙ c.if-applies.false),
-    )
+  omega arith,
+  c.loop-n.invariant.1,
+  c.loop-n.invariant.2,
+  closed_pass c.args.statements.now _ c.args.columns.now _ (bit_at c.loop-n.closure) 0 c.loop-n.n c.loop-n.invariant.0 c.requires.columns c.loop-n.invariant.3
+      (sym c.applies.ensures ∙ c.if-applies.false),
+)
 
 pub returns : goal.returns
 returns c = let e : c.loop-n.n ≡ c.args.m = omega arith in rw e at c.loop-n.invariant.3

@@ -13,11 +13,11 @@ append_objects-e-requires c = record { statements = c.requires.statements; room 
 
 pub loop-i-preserved : goal.loop-i-preserved
 loop-i-preserved c = (
-      search rules,
-      (turn_more c.loop-i.invariant.1 _ refl
-          (omega (arith, c.loop-i.invariant.0, c.loop-i-test.true, c.loop-i.invariant.1.done.grown.grows, c.requires.from_le_to)) c.append_objects-e.ensures
-          c.append_objects-e.auto.used c.append_objects-e.auto.found),
-    )
+  search rules,
+  (turn_more c.loop-i.invariant.1 _ refl
+      (omega (arith, c.loop-i.invariant.0, c.loop-i-test.true, c.loop-i.invariant.1.done.grown.grows, c.requires.from_le_to)) c.append_objects-e.ensures
+      c.append_objects-e.auto.used c.append_objects-e.auto.found),
+)
 
 pub returns : goal.returns
 returns c = let q : c.loop-i.i ≡ c.args.to = omega arith in let t = rw q at c.loop-i.invariant.1 in

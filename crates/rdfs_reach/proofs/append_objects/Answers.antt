@@ -13,5 +13,10 @@ returns-then-used-first-ne0 c = extended_none c.args.st.now _ _ _ c.args.used.no
     c.args.found.now _ c.requires.statements c.first_row-first.ensures c.requires.room j l (record { subject = q; property = p }) in c.if-used-first-ne0.true (sym w.1 ∙ z))
 
 pub append_block-requires : goal.append_block-requires
-append_block-requires c = record { statements = c.requires.statements; begins = c.first_row-first.ensures; room = c.requires.room; by_index = λ j l h. let w = same_mark c.args.st.now _ _ _ _ c.args.used.now c.args.found.now _ c.requires.statements c.first_row-first.ensures c.requires.room j l h in w.1 ∙
-              c.if-used-first-ne0.false }
+append_block-requires c = record {
+  statements = c.requires.statements;
+  begins = c.first_row-first.ensures;
+  room = c.requires.room;
+  by_index = λ j l h. let w = same_mark c.args.st.now _ _ _ _ c.args.used.now c.args.found.now _ c.requires.statements c.first_row-first.ensures c.requires.room j l h in w.1 ∙
+      c.if-used-first-ne0.false;
+}

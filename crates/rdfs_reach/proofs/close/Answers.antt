@@ -18,10 +18,10 @@ loop-i-smaller c = let h : c.loop-i.i < c.loop-i.e = omega (arith, c.loop-i-test
 
 pub loop-i-preserved : goal.loop-i-preserved
 loop-i-preserved c = let h : c.loop-i.i < c.loop-i.e = omega (arith, c.loop-i-test.true, c.loop-i.invariant.1.done.grown.grows) in (
-      omega (arith, c.append_objects-e.ensures.grown.grows),
-      turn_more c.loop-i.invariant.1 _ refl h c.append_objects-e.ensures c.append_objects-e.auto.used c.append_objects-e.auto.found,
-      reached_more _ refl c.loop-i.invariant.1.low h c.loop-i.invariant.2 c.append_objects-e.ensures,
-    )
+  omega (arith, c.append_objects-e.ensures.grown.grows),
+  turn_more c.loop-i.invariant.1 _ refl h c.append_objects-e.ensures c.append_objects-e.auto.used c.append_objects-e.auto.found,
+  reached_more _ refl c.loop-i.invariant.1.low h c.loop-i.invariant.2 c.append_objects-e.ensures,
+)
 
 pub returns : goal.returns
 returns c = let q : c.loop-i.i ≡ c.loop-i.e = omega arith in let t = rw q at c.loop-i.invariant.1 in

@@ -18,26 +18,26 @@ close_statement-requires c = omega (arith, c.loop-n.invariant.1, c.loop-n.invari
 
 pub loop-n-preserved-then-applies : goal.loop-n-preserved-then-applies
 loop-n-preserved-then-applies c = (
-      omega (arith, c.loop-n-test.true),
-      c.close_statement.auto.square ∙ c.loop-n.invariant.1,
-      c.gains.auto.gain ∙ c.loop-n.invariant.2,
-      closed_more c.args.statements.now c.args.m c.args.columns.now c.args.ns (at c.loop-n.square) c.args.via c.loop-n.n c.loop-n.invariant.0 c.requires.columns c.loop-n.invariant.3
-          (at c.close_statement.new.square) (word c.gains.new.gain) _ _ _ c.loop-n-test.true
-          (step_made c.args.statements.now c.args.m c.args.columns.now c.args.ns (at c.loop-n.square) (at c.close_statement.new.square) (word c.gains.new.gain) c.loop-n.n _ _ _ _ _
-          c.subject_node-s.ensures c.object_node-e.ensures.0 c.column-ss.ensures c.column-so.ensures c.first_statement-go.ensures c.gains.ensures c.close_statement.ensures.extended)
-          (sym c.applies.ensures ∙ c.if-applies.true),
-      c.close_statement.ensures.bits c.loop-n.invariant.4,
-    )
+  omega (arith, c.loop-n-test.true),
+  c.close_statement.auto.square ∙ c.loop-n.invariant.1,
+  c.gains.auto.gain ∙ c.loop-n.invariant.2,
+  closed_more c.args.statements.now c.args.m c.args.columns.now c.args.ns (at c.loop-n.square) c.args.via c.loop-n.n c.loop-n.invariant.0 c.requires.columns c.loop-n.invariant.3
+      (at c.close_statement.new.square) (word c.gains.new.gain) _ _ _ c.loop-n-test.true
+      (step_made c.args.statements.now c.args.m c.args.columns.now c.args.ns (at c.loop-n.square) (at c.close_statement.new.square) (word c.gains.new.gain) c.loop-n.n _ _ _ _ _
+      c.subject_node-s.ensures c.object_node-e.ensures.0 c.column-ss.ensures c.column-so.ensures c.first_statement-go.ensures c.gains.ensures c.close_statement.ensures.extended)
+      (sym c.applies.ensures ∙ c.if-applies.true),
+  c.close_statement.ensures.bits c.loop-n.invariant.4,
+)
 
 pub loop-n-preserved : goal.loop-n-preserved
 loop-n-preserved c = (
-      omega arith,
-      c.loop-n.invariant.1,
-      c.loop-n.invariant.2,
-      closed_pass c.args.statements.now c.args.m c.args.columns.now c.args.ns (at c.loop-n.square) c.args.via c.loop-n.n c.loop-n.invariant.0 c.requires.columns c.loop-n.invariant.3
-          (sym c.applies.ensures ∙ c.if-applies.false),
-      c.loop-n.invariant.4,
-    )
+  omega arith,
+  c.loop-n.invariant.1,
+  c.loop-n.invariant.2,
+  closed_pass c.args.statements.now c.args.m c.args.columns.now c.args.ns (at c.loop-n.square) c.args.via c.loop-n.n c.loop-n.invariant.0 c.requires.columns c.loop-n.invariant.3
+      (sym c.applies.ensures ∙ c.if-applies.false),
+  c.loop-n.invariant.4,
+)
 
 pub shape_of-square : goal.shape_of-square
 shape_of-square c = c.loop-n.invariant.1

@@ -19,22 +19,22 @@ unite-requires c = omega (arith, c.loop-i.invariant.1)
 
 pub loop-i-preserved-then-leads : goal.loop-i-preserved-then-leads
 loop-i-preserved-then-leads c = (
-      omega arith,
-      c.unite.auto.square ∙ c.loop-i.invariant.1,
-      spread_yes (at c.args.square.now) (at c.loop-i.square) (word c.args.gain.now) _ _ _ c.loop-i.invariant.2 (at c.unite.new.square) _ (omega arith)
-          ((leads_old c.args.statements.now (at c.args.square.now) (at c.loop-i.square) (word c.args.gain.now) _ _ _ _ c.loop-i.invariant.2).0 (c.leads.ensures.if_true c.if-leads.true))
-          (united-joined _ _ _ _ _ (omega arith) c.unite.ensures),
-      λ b. united_bits _ _ _ _ _ c.unite.ensures (c.loop-i.invariant.3 b),
-    )
+  omega arith,
+  c.unite.auto.square ∙ c.loop-i.invariant.1,
+  spread_yes (at c.args.square.now) (at c.loop-i.square) (word c.args.gain.now) _ _ _ c.loop-i.invariant.2 (at c.unite.new.square) _ (omega arith)
+      ((leads_old c.args.statements.now (at c.args.square.now) (at c.loop-i.square) (word c.args.gain.now) _ _ _ _ c.loop-i.invariant.2).0 (c.leads.ensures.if_true c.if-leads.true))
+      (united-joined _ _ _ _ _ (omega arith) c.unite.ensures),
+  λ b. united_bits _ _ _ _ _ c.unite.ensures (c.loop-i.invariant.3 b),
+)
 
 pub loop-i-preserved : goal.loop-i-preserved
 loop-i-preserved c = (
-      omega arith,
-      c.loop-i.invariant.1,
-      spread_no (at c.args.square.now) (at c.loop-i.square) (word c.args.gain.now) _ _ _ c.loop-i.invariant.2
-          (λ z. c.leads.ensures.if_false c.if-leads.false ((leads_old c.args.statements.now (at c.args.square.now) (at c.loop-i.square) (word c.args.gain.now) _ _ _ _ c.loop-i.invariant.2).1 z)),
-      c.loop-i.invariant.3,
-    )
+  omega arith,
+  c.loop-i.invariant.1,
+  spread_no (at c.args.square.now) (at c.loop-i.square) (word c.args.gain.now) _ _ _ c.loop-i.invariant.2
+      (λ z. c.leads.ensures.if_false c.if-leads.false ((leads_old c.args.statements.now (at c.args.square.now) (at c.loop-i.square) (word c.args.gain.now) _ _ _ _ c.loop-i.invariant.2).1 z)),
+  c.loop-i.invariant.3,
+)
 
 pub shape_of-square : goal.shape_of-square
 shape_of-square c = c.loop-i.invariant.1

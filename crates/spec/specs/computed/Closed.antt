@@ -1,5 +1,5 @@
 -- The statements closed, computed. Nobody has to read it: `Follows` of specs/Rules.antt says what they are.
--- Fixed by closed-is (proofs/Computed.antt): the members of `closed` are exactly the statements that follow from allowed statements, whatever
+-- Fixed by closed_is (proofs/Computed.antt): the members of `closed` are exactly the statements that follow from allowed statements, whatever
 -- allowed facts stand beside them.
 use mathlib.Core.List.{List, [], ◌∷◌, ◌++◌, map, flat_map}
 use Rattle.std.specs.Prelude.{ℕ}

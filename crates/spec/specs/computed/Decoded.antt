@@ -1,7 +1,7 @@
 -- Whether bytes are a delivery, and what they say, found by a walk over them. Nobody has to read it: `encode` of specs/Messages.antt says what
 -- the bytes of a message are.
 -- Fixed by whole_iff (crates/delivery_format/proofs/Decoded.antt): bytes are whole exactly when they are not too many and those of a message.
--- Fixed by read-is (crates/delivery_format/proofs/Decoded.antt): what is read of the bytes of a message is that message.
+-- Fixed by read_is (crates/delivery_format/proofs/Decoded.antt): what is read of the bytes of a message is that message.
 -- Fixed by word_is (crates/delivery_format/proofs/Decoded.antt): the word that is read of four bytes is the one whose bytes they are.
 use Rattle.std.specs.Prelude.{ℕ, zero, suc, ◌+◌, ◌*◌, Bool, ◌&&◌, List, [], ◌∷◌, length, get_or, take, drop, eqb, leb}
 use Rattle.spec.specs.declared.Triple.{Triple}

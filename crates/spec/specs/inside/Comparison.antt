@@ -6,9 +6,9 @@ use Rattle.spec.specs.declared.Triple.{Triple}
 
 -- The order by subject, property, object: `is_less` decides it.
 pub data Less (t u : Triple) : Type 0 where
-  by_subject_lem : t.subject < u.subject → Less t u
+  by_subject : t.subject < u.subject → Less t u
   by_property : t.subject ≡ u.subject → t.property < u.property → Less t u
-  by_object_lem : t.subject ≡ u.subject → t.property ≡ u.property → t.object < u.object → Less t u
+  by_object : t.subject ≡ u.subject → t.property ≡ u.property → t.object < u.object → Less t u
 
 -- Strictly ascending: each row is less than the next.
 abbrev pub Above : Triple → List Triple → Type 0
@@ -46,14 +46,14 @@ unfoldable pub compare_triples : (t u : Triple) → Trichotomy t u
 unfolding compare_numbers
 compare_triples t u =
     elim (compare_numbers t.subject u.subject) [
-      | below h ↦ less (by_subject_lem h)
-      | above h ↦ more (by_subject_lem h)
+      | below h ↦ less (by_subject h)
+      | above h ↦ more (by_subject h)
       | equal a ↦ elim (compare_numbers t.property u.property) [
         | below h ↦ less (by_property a h)
         | above h ↦ more (by_property (sym a) h)
         | equal b ↦ elim (compare_numbers t.object u.object) [
-          | below h ↦ less (by_object_lem a b h)
-          | above h ↦ more (by_object_lem (sym a) (sym b) h)
+          | below h ↦ less (by_object a b h)
+          | above h ↦ more (by_object (sym a) (sym b) h)
           | equal c ↦ same (triple_eq t u a b c)
         ]
       ]
@@ -61,9 +61,9 @@ compare_triples t u =
 
 -- No triple is less than itself.
 pub less_irrefl : {t : Triple} → Less t t → ⊥
-less_irrefl (by_subject_lem h) = omega arith
+less_irrefl (by_subject h) = omega arith
 less_irrefl (by_property e h) = omega arith
-less_irrefl (by_object_lem e k h) = omega arith
+less_irrefl (by_object e k h) = omega arith
 
 -- Whether two triples are equal.
 unfoldable pub equal_triples : Discrete Triple

@@ -1,8 +1,8 @@
 -- Terms, lines and documents of N-Triples, read by functions that compute (RDF 1.1 N-Triples, section 7). Nobody has to read it:
 -- specs/Productions.antt has the grammar, and specs/Meaning.antt what its terms, lines and documents mean.
--- Fixed by line-read (proofs/LineRead.antt): a line is read as a triple exactly when it matches the grammar and means that triple.
+-- Fixed by line_read (proofs/LineRead.antt): a line is read as a triple exactly when it matches the grammar and means that triple.
 -- Fixed by line-empty (proofs/LineRead.antt): a line is read as none exactly when it matches white space and a comment.
--- Fixed by line-refused (proofs/Faults.antt): any other line is wrong, and so is one with a fault.
+-- Fixed by line_refused (proofs/Faults.antt): any other line is wrong, and so is one with a fault.
 -- Fixed by document-read (proofs/DocumentRead.antt): a file is read as triples exactly when it is UTF-8 of lines that say them.
 use Rattle.std.specs.Prelude.{ℕ, Bool, true, ◌&&◌, ◌||◌, cond, List, [], ◌∷◌, eqb}
 use Prim.Native.Char.{code}

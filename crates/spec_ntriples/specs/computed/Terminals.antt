@@ -1,6 +1,6 @@
 -- The terminals of N-Triples, read from the front of characters, with escapes resolved (RDF 1.1 N-Triples, section 7), by functions that
 -- compute. Nobody has to read it: specs/Productions.antt has the grammar, and specs/Meaning.antt what its terminals stand for.
--- Fixed by line-read (proofs/LineRead.antt): a line is read as a triple exactly when it matches the grammar and means that triple.
+-- Fixed by line_read (proofs/LineRead.antt): a line is read as a triple exactly when it matches the grammar and means that triple.
 use Rattle.std.specs.Prelude.{ℕ, zero, suc, ◌+◌, ◌*◌, Bool, true, false, ◌&&◌, cond, List, [], ◌∷◌, eqb, ltb}
 use Prim.Native.Char.{code}
 use Rattle.spec_ntriples.specs.Utf8.{is_scalar}

@@ -14,10 +14,10 @@ overflow_cast-new c = omega (arith, c.type_inv.old c.loop-place.place)
 
 pub loop-place-preserved : goal.loop-place-preserved
 loop-place-preserved c = (
-      omega arith,
-      simp length-set c.loop-place.invariant.1,
-      ap (λ (w : List ℕ). set w c.loop-place.place (get_or c.args.old.now c.loop-place.place 0)) c.loop-place.invariant.2 ∙ copied_more c.args.old.now c.args.new.now c.loop-place.place (omega arith) (omega arith),
-    )
+  omega arith,
+  simp length-set c.loop-place.invariant.1,
+  ap (λ (w : List ℕ). set w c.loop-place.place (get_or c.args.old.now c.loop-place.place 0)) c.loop-place.invariant.2 ∙ copied_more c.args.old.now c.args.new.now c.loop-place.place (omega arith) (omega arith),
+)
 
 pub returns : goal.returns
 returns c = let e : c.loop-place.place ≡ c.args.n = omega arith in rw e at c.loop-place.invariant.2

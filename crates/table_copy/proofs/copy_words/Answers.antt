@@ -11,10 +11,10 @@ loop-i-init c = (omega arith, refl, refl)
 
 pub loop-i-preserved : goal.loop-i-preserved
 loop-i-preserved c = (
-      omega arith,
-      simp length-set c.loop-i.invariant.1,
-      ap (λ (w : List ℕ). set w c.loop-i.i (get_or c.args.old.now c.loop-i.i 0)) c.loop-i.invariant.2 ∙ copied_more c.args.old.now c.args.new.now c.loop-i.i (omega arith) (omega arith),
-    )
+  omega arith,
+  simp length-set c.loop-i.invariant.1,
+  ap (λ (w : List ℕ). set w c.loop-i.i (get_or c.args.old.now c.loop-i.i 0)) c.loop-i.invariant.2 ∙ copied_more c.args.old.now c.args.new.now c.loop-i.i (omega arith) (omega arith),
+)
 
 pub returns : goal.returns
 returns c = let e : c.loop-i.i ≡ c.args.n = omega arith in rw e at c.loop-i.invariant.2

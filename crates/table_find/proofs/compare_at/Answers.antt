@@ -1,6 +1,6 @@
 -- The first words that differ decide the order of two triples.
 use mathlib.Core.Path.{sym}
-use Rattle.spec.specs.inside.Comparison.{by_subject_lem, by_property}
+use Rattle.spec.specs.inside.Comparison.{by_subject, by_property}
 use Rattle.table_find.specs.declared.Ordering.TheVariants.{Lower, Higher}
 use Rattle.spec.specs.Tables.{row_at}
 use Rattle.table_find.proofs.Place.{says-ordering, by_objects}
@@ -8,11 +8,11 @@ use Rattle.table_find.proofs.compare_at.Goals as goal
 
 pub returns-in-Lower : goal.returns-in-Lower
 unfolding row_at
-returns-in-Lower c = says-ordering _ _ Lower (by_subject_lem (rw c.in-Lower.is at c.compare.ensures))
+returns-in-Lower c = says-ordering _ _ Lower (by_subject (rw c.in-Lower.is at c.compare.ensures))
 
 pub returns-in-Higher : goal.returns-in-Higher
 unfolding row_at
-returns-in-Higher c = says-ordering _ _ Higher (by_subject_lem (rw c.in-Higher.is at c.compare.ensures))
+returns-in-Higher c = says-ordering _ _ Higher (by_subject (rw c.in-Higher.is at c.compare.ensures))
 
 pub returns-in-Lower-compare : goal.returns-in-Lower-compare
 unfolding row_at

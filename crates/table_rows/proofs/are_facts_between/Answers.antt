@@ -12,10 +12,10 @@ loop-i-init c = (search rules, search rules, refl)
 
 pub loop-i-preserved : goal.loop-i-preserved
 loop-i-preserved c = (
-      search rules,
-      search rules,
-      c.loop-i.invariant.2 ∙ row_fold c.loop-i.ok is_allowed_fact c.args.t.now c.args.b c.loop-i.i c.row_at-x.ensures c.is_allowed_fact.ensures c.row_at.ensures c.is_less.ensures c.loop-i.invariant.0 (omega arith),
-    )
+  search rules,
+  search rules,
+  c.loop-i.invariant.2 ∙ row_fold c.loop-i.ok is_allowed_fact c.args.t.now c.args.b c.loop-i.i c.row_at-x.ensures c.is_allowed_fact.ensures c.row_at.ensures c.is_less.ensures c.loop-i.invariant.0 (omega arith),
+)
 
 pub returns : goal.returns
 returns c = sym (c.loop-i.invariant.2 ∙ fold_end c.loop-i.ok (no_row is_allowed_fact c.args.t.now c.args.b c.loop-i.i c.loop-i-test.false))
