@@ -140,7 +140,7 @@ tagged_exact u t string tag e S m N M =
     let f : u ≡ string ++ (codes "@" ++ ls) = e ∙ ap (λ x. string ++ x) g in
     let a = means_unique u t _ M (Means.tagged string S.chars [] ls f (string-quoted string S) (Repeated.end refl) n refl) in
     bytes_of t 2 _ (utf8 u) a
-    (ap (λ x. string_text S.chars ++ (codes "@" ++ x)) (N.lowerCase string ls f S n)
+    (ap (λ x. string_text S.chars ++ (codes "@" ++ x)) (N.lower_case string ls f S n)
     ∙ ap (λ x. x ++ (codes "@" ++ ls)) (string_bytes string S)
     ∙ ap (λ x. utf8 string ++ x) (sym (encode_ascii (codes "@" ++ ls) (tag_ascii (codes "@" ++ ls) n)))
     ∙ sym (encode-append string (codes "@" ++ ls))
@@ -184,7 +184,7 @@ term_exact u t h (CanonicalTerm.typed string type e S I) N M = typed_exact u t s
 pub subject_normal : (u : List ℕ) → Matches subject u → NormalTerm u
 subject_normal u k =
     record {
-      lowerCase = λ string tag e S m. subject-not u string S.chars (codes "@" ++ tag) k e (string-quoted string S);
+      lower_case = λ string tag e S m. subject-not u string S.chars (codes "@" ++ tag) k e (string-quoted string S);
       no_string_type = λ string e S. subject-not u string S.chars (codes "^^" ++ xsd_string) k e (string-quoted string S);
     }
 
@@ -218,4 +218,4 @@ type_normal u t M h string e S =
     omega (arith, d, length-append (string_text S.chars) (codes "^^" ++ xsd_string))
 
 pub means_normal : (u : List ℕ) (t : Text) → Means u t → t.bytes ≡ utf8 u → NormalTerm u
-means_normal u t M h = record { lowerCase = tag_normal u t M h; no_string_type = type_normal u t M h }
+means_normal u t M h = record { lower_case = tag_normal u t M h; no_string_type = type_normal u t M h }

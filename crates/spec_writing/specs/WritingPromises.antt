@@ -50,7 +50,7 @@ pub record WritingAccepted (formed : Bool) (table dictionary : List ℕ) (len n 
 -- What slip 1 asks of texts beyond the Recommendation, of a canonical term: "language tags put in lower case, and the type xsd:string left
 -- off".
 pub record NormalTerm (u : List ℕ) : Type 0 where
-  pub lowerCase
+  pub lower_case
       : (string tag : List ℕ) → u ≡ string ++ (codes "@" ++ tag) → CanonicalString string → Matches LANGTAG (codes "@" ++ tag) → map lower_char tag ≡ tag
   pub no_string_type : (string : List ℕ) → u ≡ string ++ (codes "^^" ++ xsd_string) → CanonicalString string → ⊥
 
