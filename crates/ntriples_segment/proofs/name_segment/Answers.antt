@@ -16,8 +16,8 @@ returns-then-segment-f c = λ es ts B L. (here-some es ts c.args.dictionary.now 
 
 -- src/lib.rt:84:5
 pub name_last-requires : goal.name_last-requires
-name_last-requires c = record { can = c.requires; last = here-last c.requires.old c.requires.triples c.args.dictionary.now c.args.first c.args.f c.args.terms.now c.requires.looked c.index_segment-segment.new.slots c.index_segment-segment.result c.index_segment-segment.ensures c.if-segment-f.false; enough = omega (arith, c.index_segment-segment.auto.slots, c.no_slots-slots.ensures.0) }
+name_last-requires c = record { can = c.requires; last = here-last c.requires.old c.requires.triples c.args.dictionary.now c.args.first c.args.f c.args.terms.now c.requires.looked c.index_segment-segment.new.slots c.index_segment-segment.result c.index_segment-segment.ensures (omega arith); enough = omega (arith, c.index_segment-segment.auto.slots, c.no_slots-slots.ensures.0) }
 
 -- src/lib.rt:62:1
 pub returns : goal.returns
-returns c = λ es ts B L. c.name_last.ensures es ts B L (here-last es ts c.args.dictionary.now c.args.first c.args.f c.args.terms.now L c.index_segment-segment.new.slots c.index_segment-segment.result c.index_segment-segment.ensures c.if-segment-f.false)
+returns c = λ es ts B L. c.name_last.ensures es ts B L (here-last es ts c.args.dictionary.now c.args.first c.args.f c.args.terms.now L c.index_segment-segment.new.slots c.index_segment-segment.result c.index_segment-segment.ensures (omega arith))

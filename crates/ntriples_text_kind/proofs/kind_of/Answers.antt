@@ -1,3 +1,4 @@
+use native.Mathlib.Omega.{arith}
 use Rattle.ntriples_bytes.proofs.Decoding.{some_at}
 use Rattle.ntriples_text_kind.proofs.Vocabulary.{token-within, kind-literal, kind_blank, kind_iri}
 use Rattle.ntriples_text_kind.proofs.kind_of.Goals as goal
@@ -12,4 +13,4 @@ pub returns-then-c-eq-UNDERSCORE : goal.returns-then-c-eq-UNDERSCORE
 returns-then-c-eq-UNDERSCORE c = λ t H. kind_blank c.args.line.now c.args.from c.args.end t H c.char_at-c.result c.char_at-c.ensures c.if-c-eq-UNDERSCORE.true
 
 pub returns : goal.returns
-returns c = λ t H. kind_iri c.args.line.now c.args.from c.args.end t H c.char_at-c.result c.char_at-c.ensures c.if-c-eq-QUOTE.false c.if-c-eq-UNDERSCORE.false
+returns c = λ t H. kind_iri c.args.line.now c.args.from c.args.end t H c.char_at-c.result c.char_at-c.ensures c.if-c-eq-QUOTE.false (omega arith)
