@@ -2,17 +2,15 @@
 use Prim.Native.Nat.{ℕ}
 use mathlib.Core.Path.{◌≡◌, ap}
 use mathlib.Core.List.{List}
-use Rattle.spec.specs.declared.Reply.{Reply}
-use Rattle.spec.specs.Outputs.{Replied, replied, reply_number, reply_count}
+use Rattle.spec.specs.Outputs.{Replied, replied, reply_number, reply_count, Reply}
 use Rattle.spec.specs.declared.Answer.{Answer}
 use Rattle.spec.specs.Tables.{Tables}
 use Rattle.spec.specs.Updates.{answer_number}
 use Rattle.spec.specs.inside.Pairs.{outcome}
 use Rattle.spec.specs.declared.Delivered.{Delivered}
 use Rattle.spec.specs.Exported.{updated, numbered_outcome, received, result_words, numbered_delivery, listed, numbered_reply}
-use Rattle.spec_ntriples.specs.declared.ByteReply.{ByteReply}
 use Rattle.spec_ntriples.specs.Reading.{ReadFile, read_file}
-use Rattle.spec_ntriples.specs.Exported.{byte_reply_number, byte_reply_length, file_read, numbered_reading}
+use Rattle.spec_ntriples.specs.Exported.{file_read, numbered_reading}
 use Rattle.spec_writing.specs.Writing.{Written, written}
 use Rattle.spec_writing.specs.Exported.{lines_written, numbered_writing}
 
@@ -29,9 +27,9 @@ pub delivery_numbered : (d : Delivered) (n : ℕ) (ws : List ℕ) (T : Tables) (
 delivery_numbered d n ws T o e f h = rw (e, f) (ap numbered_delivery h)
 
 -- A reading's number, length and bytes are those of what was read.
-pub reading_numbered : (p : ByteReply) (n l : ℕ) (d m : List ℕ) (o : ReadFile) → n ≡ byte_reply_number p → l ≡ byte_reply_length p → read_file p d m ≡ o → file_read n l d m ≡ numbered_reading o
+pub reading_numbered : (p : Reply) (n l : ℕ) (d m : List ℕ) (o : ReadFile) → n ≡ reply_number p → l ≡ reply_count p → read_file p d m ≡ o → file_read n l d m ≡ numbered_reading o
 reading_numbered p n l d m o e f h = rw (e, f) (ap numbered_reading h)
 
 -- A writing's number, length and bytes are those of what was written.
-pub writing_numbered : (p : ByteReply) (n l : ℕ) (bs : List ℕ) (o : Written) → n ≡ byte_reply_number p → l ≡ byte_reply_length p → written p bs ≡ o → lines_written n l bs ≡ numbered_writing o
+pub writing_numbered : (p : Reply) (n l : ℕ) (bs : List ℕ) (o : Written) → n ≡ reply_number p → l ≡ reply_count p → written p bs ≡ o → lines_written n l bs ≡ numbered_writing o
 writing_numbered p n l bs o e f h = rw (e, f) (ap numbered_writing h)

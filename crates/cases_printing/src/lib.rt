@@ -4,28 +4,25 @@
 ghost use Rattle.std.specs.Prelude.{◌<◌};
 
 use spec::Reply;
-use spec_ntriples::ByteReply;
 use std::io;
 
 // Prints a reply, and below it the words of the output, rows of so many words on a line each. Nothing is promised but that it ends.
 pub fn print_replied(rt: &impl Print, reply: Reply, words: &[u32], width: usize) -> io::Result<()>
     requires { 0 < width }
 {
-    print_reply(rt, reply)?;
+    print_reply(rt, b"rows ", reply)?;
     print_words(rt, words, width)
 }
 
-// Prints the number of rows given, or the number that refused, and no line end.
-fn print_reply(rt: &impl Print, reply: Reply) -> io::Result<()> {
+// Prints how much was given, behind what it is called, or the number that refused, and no line end.
+fn print_reply(rt: &impl Print, given: &[u8], reply: Reply) -> io::Result<()> {
     match reply {
-        Reply::Rows(n) => print!(rt; "rows {n}"),
-        Reply::Refused(n) => print_refused(rt, n),
+        Ok(n) => {
+            rt.write_all(given)?;
+            print!(rt; "{n}")
+        }
+        Err(n) => print!(rt; "refused {n}"),
     }
-}
-
-// Prints the number that refused, and no line end.
-fn print_refused(rt: &impl Print, n: u32) -> io::Result<()> {
-    print!(rt; "refused {n}")
 }
 
 // Prints words, each row of them on a line of its own, and a line end.
@@ -55,7 +52,7 @@ fn print_word(rt: &impl Print, word: u32) -> io::Result<()> {
 // Prints the reply of a reading, and below it the bytes of the dictionary and of the delivery. Nothing is promised but that it ends.
 pub fn print_read(
     rt: &impl Print,
-    reply: ByteReply,
+    reply: Reply,
     dictionary: &[u8],
     delivery: &[u8],
 ) -> io::Result<()> {
@@ -65,24 +62,11 @@ pub fn print_read(
 }
 
 // Prints a reply, and below it the bytes that have this name.
-pub fn print_filled(
-    rt: &impl Print,
-    reply: ByteReply,
-    name: &[u8],
-    bytes: &[u8],
-) -> io::Result<()> {
-    print_byte_reply(rt, reply)?;
+pub fn print_filled(rt: &impl Print, reply: Reply, name: &[u8], bytes: &[u8]) -> io::Result<()> {
+    print_reply(rt, b"length ", reply)?;
     rt.write_all(b"\n  ")?;
     rt.write_all(name)?;
     print_bytes(rt, bytes)
-}
-
-// Prints the number of bytes written, or the number that refused, and no line end.
-fn print_byte_reply(rt: &impl Print, reply: ByteReply) -> io::Result<()> {
-    match reply {
-        ByteReply::Length(n) => print!(rt; "length {n}"),
-        ByteReply::Refused(n) => print_refused(rt, n),
-    }
 }
 
 // Prints bytes in hexadecimal, 32 on a line, and a line end.

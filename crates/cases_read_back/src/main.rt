@@ -11,7 +11,7 @@ use dictionary_bytes::is_same;
 use ntriples_copy::copy_bytes;
 use ntriples_read::read_ntriples;
 use report_store::{no_facts, no_kept, no_statements, no_supports};
-use spec_ntriples::ByteReply;
+use spec::Reply;
 use std::io;
 
 fn main(rt: HostRuntime) -> io::Result<()> {
@@ -56,7 +56,7 @@ fn back(
     requires { length dictionary.old ≤ 300 }
 {
     rt.write_all(name)?;
-    print_reading(rt, file, dictionary, delivery)?;
+    let _ = print_reading(rt, file, dictionary, delivery)?;
     kept_back(rt, delivery, dictionary)
 }
 
@@ -149,7 +149,7 @@ fn print_reading(
     file: &[u8],
     dictionary: &mut [u8],
     delivery: &mut [u8],
-) -> io::Result<ByteReply> {
+) -> io::Result<Reply> {
     let reply = read_ntriples(file, dictionary, delivery);
     print_filled(rt, reply, b"delivery", delivery)?;
     Ok(reply)
@@ -164,16 +164,16 @@ fn print_sameness(rt: &impl Print, same: bool) -> io::Result<()> {
 }
 
 // How many bytes a reply says, at most so many.
-fn end_of(reply: ByteReply, most: usize) -> usize
+fn end_of(reply: Reply, most: usize) -> usize
     ensures { result ≤ most }
 {
     match reply {
-        ByteReply::Length(n) => {
+        Ok(n) => {
             if n < most {
                 return n;
             }
             most
         }
-        ByteReply::Refused(_) => 0,
+        Err(_) => 0,
     }
 }

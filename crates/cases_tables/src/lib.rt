@@ -2,7 +2,7 @@
 #![tactic(auto)]
 
 use ntriples_write::{write_facts, write_kept, write_statements};
-use spec_ntriples::ByteReply;
+use spec::Reply;
 
 // The tables whose rows are written.
 #[derive(Clone, Copy)]
@@ -13,7 +13,7 @@ pub enum Rows {
 }
 
 // Writes a table with a dictionary. Nothing is promised but that it ends.
-pub fn write(rows: Rows, table: &[u32], dictionary: &[u8], out: &mut [u8]) -> ByteReply {
+pub fn write(rows: Rows, table: &[u32], dictionary: &[u8], out: &mut [u8]) -> Reply {
     match rows {
         Rows::Statements => write_statements(table, dictionary, out),
         Rows::Facts => write_facts(table, dictionary, out),

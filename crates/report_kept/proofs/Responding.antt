@@ -1,4 +1,6 @@
 -- What is printed for a file: of a delivery, and of a reading, by their replies. Assumes nothing.
+use Rattle.spec.specs.Outputs.{Reply}
+use Rattle.std.specs.Prelude.{Ok, Err}
 use Prim.Native.Nat.{ℕ, ◌≤◌, ◌<◌}
 use mathlib.Core.Path.{◌≡◌, refl, sym, ap, ◌∙◌}
 use mathlib.Core.List.{List}
@@ -8,8 +10,6 @@ use Rattle.spec.specs.Tables.{Tables, tables}
 use Rattle.spec.specs.Messages.{most_bytes}
 use Rattle.spec.specs.declared.Delivered.{Delivered}
 use Rattle.spec.specs.Deliveries.{deliver}
-use Rattle.spec_ntriples.specs.declared.ByteReply.{ByteReply}
-use Rattle.spec_ntriples.specs.declared.ByteReply.TheVariants.{Length, Refused}
 use Rattle.spec_ntriples.specs.Reading.{ReadFile, read_file, read_nTriples}
 use Rattle.spec_writing.specs.Writing.{write_kept}
 use Rattle.report_text.specs.Text.{refusal_text}
@@ -50,7 +50,7 @@ unfolding printed_from
 too_long-printed file out h A = errors_only out refl A ∙ sym (rw (lt-leb (length file) most_input h) refl)
 
 -- A file that was read.
-module _ (file : List ℕ) (r : ByteReply) {d₀ D m : List ℕ} {len : ℕ} (short : length file ≤ most_input) (zeros : d₀ ≡ empty_dictionary)
+module _ (file : List ℕ) (r : Reply) {d₀ D m : List ℕ} {len : ℕ} (short : length file ≤ most_input) (zeros : d₀ ≡ empty_dictionary)
     (whole : len ≡ most_bytes) (is : read_file r D m ≡ read_nTriples d₀ file len) where
   read_is : printed_from file ≡ printed_read r D m
   unfolding printed_from
@@ -59,12 +59,12 @@ module _ (file : List ℕ) (r : ByteReply) {d₀ D m : List ℕ} {len : ℕ} (sh
       (ap (λ (f : ReadFile). printed_read f.reply f.dictionary f.delivery) (sym (is_read file r short zeros whole is)))
 
   -- What is printed of its delivery,
-  pub read-printed : {p : Printout} (n : ℕ) → r ≡ Length n → p ≡ printed_result D (deliver empty_store (take n m)) → p ≡ printed_from file
+  pub read-printed : {p : Printout} (n : ℕ) → r ≡ Ok n → p ≡ printed_result D (deliver empty_store (take n m)) → p ≡ printed_from file
   unfolding printed_read
-  read-printed n e h = h ∙ sym (read_is ∙ ap (λ (s : ByteReply). printed_read s D m) e)
+  read-printed n e h = h ∙ sym (read_is ∙ ap (λ (s : Reply). printed_read s D m) e)
 
   -- or the number that refused it.
-  pub read_refused : {errors errors' : List ℕ} {o end : ℕ} (out : List ℕ) (n : ℕ) → r ≡ Refused n → o ≡ 0 → Appended (refusal_text n) 0 errors errors' end
+  pub read_refused : {errors errors' : List ℕ} {o end : ℕ} (out : List ℕ) (n : ℕ) → r ≡ Err n → o ≡ 0 → Appended (refusal_text n) 0 errors errors' end
       → printout (take o out) (take end errors') ≡ printed_from file
   unfolding printed_read
-  read_refused out n e z A = refusal-printed n out z A ∙ sym (read_is ∙ ap (λ (s : ByteReply). printed_read s D m) e)
+  read_refused out n e z A = refusal-printed n out z A ∙ sym (read_is ∙ ap (λ (s : Reply). printed_read s D m) e)

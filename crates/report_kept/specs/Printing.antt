@@ -1,11 +1,10 @@
 -- What the program `kept_ntriples` prints for the bytes of a file (document 02, slips 1 and 3). Definitions only.
-use Rattle.std.specs.Prelude.{ℕ, cond, List, [], length, take, replicate, eqb, leb}
+use Rattle.std.specs.Prelude.{ℕ, cond, List, [], length, take, replicate, eqb, leb, Ok, Err}
+use Rattle.spec.specs.Outputs.{Reply}
 use Rattle.spec.specs.Tables.{Tables, tables}
 use Rattle.spec.specs.Messages.{most_bytes}
 use Rattle.spec.specs.declared.Delivered.{Delivered}
 use Rattle.spec.specs.Deliveries.{deliver}
-use Rattle.spec_ntriples.specs.declared.ByteReply.{ByteReply}
-use Rattle.spec_ntriples.specs.declared.ByteReply.TheVariants.{Length, Refused}
 use Rattle.spec_ntriples.specs.Reading.{read_nTriples}
 use Rattle.spec_writing.specs.Writing.{write_kept}
 use Rattle.report_input.specs.Input.{most_input, too_long}
@@ -23,9 +22,9 @@ printed_result dictionary r =
     cond (eqb r.0.refusal 0) (printed_written r.0 (write_kept r.1.kept dictionary most_output)) (refusal r.0.refusal)
 
 -- of a file that was read, by the reply, the dictionary and the delivery, which is delivered to the empty store,
-unfoldable pub printed_read : ByteReply → List ℕ → List ℕ → Printout
-printed_read (Length n) dictionary delivery = printed_result dictionary (deliver empty_store (take n delivery))
-printed_read (Refused n) dictionary delivery = refusal n
+unfoldable pub printed_read : Reply → List ℕ → List ℕ → Printout
+printed_read (Ok n) dictionary delivery = printed_result dictionary (deliver empty_store (take n delivery))
+printed_read (Err n) dictionary delivery = refusal n
 
 -- and of any file: it is read with the empty dictionary into a delivery of the most bytes.
 unfoldable pub printed_from : List ℕ → Printout

@@ -16,7 +16,6 @@ use report_kept_rooms::{no_facts, no_kept, no_supports};
 use report_printout::{Lengths, refuse};
 use report_rooms::{delivery_buffer, empty_dictionary};
 use report_store::no_statements;
-use spec_ntriples::ByteReply;
 
 // Delivers bytes to the empty store, and writes what is printed of that with a dictionary.
 fn print_delivery(dictionary: &[u8], delivery: &[u8], out: &mut [u8], errors: &mut [u8]) -> Lengths
@@ -60,7 +59,7 @@ pub fn respond(file: &[u8], out: &mut [u8], errors: &mut [u8]) -> Lengths
     let mut dictionary = empty_dictionary();
     let mut delivery = delivery_buffer();
     match read_ntriples(file, &mut dictionary, &mut delivery) {
-        ByteReply::Length(n) => print_delivery(&dictionary, &delivery[..n], out, errors),
-        ByteReply::Refused(n) => refuse(n, errors),
+        Ok(n) => print_delivery(&dictionary, &delivery[..n], out, errors),
+        Err(n) => refuse(n, errors),
     }
 }

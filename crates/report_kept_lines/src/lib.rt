@@ -11,7 +11,6 @@ use ntriples_write::write_kept;
 use report::write_result;
 use report_printout::{Lengths, refuse};
 use spec::Delivered;
-use spec_ntriples::ByteReply;
 
 // Writes the kept facts that a delivery led to, and its result.
 pub fn write_delivered(
@@ -28,10 +27,10 @@ pub fn write_delivered(
     ensures errors_le_head_room { result.errors ≤ head_room }
 {
     match write_kept(kept, dictionary, out) {
-        ByteReply::Length(n) => Lengths {
+        Ok(n) => Lengths {
             output: n,
             errors: write_result(res, errors),
         },
-        ByteReply::Refused(n) => refuse(n, errors),
+        Err(n) => refuse(n, errors),
     }
 }

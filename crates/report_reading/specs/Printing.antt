@@ -1,9 +1,8 @@
 -- What the program `read_ntriples` prints for the bytes of a file (document 02, slip 1; for the longest file docs/DECISIONS.md, 75).
 -- Definitions only.
-use Rattle.std.specs.Prelude.{ℕ, cond, List, length, take, replicate, leb}
+use Rattle.std.specs.Prelude.{ℕ, cond, List, length, take, replicate, leb, Ok, Err}
+use Rattle.spec.specs.Outputs.{Reply}
 use Rattle.spec.specs.Messages.{most_bytes}
-use Rattle.spec_ntriples.specs.declared.ByteReply.{ByteReply}
-use Rattle.spec_ntriples.specs.declared.ByteReply.TheVariants.{Length, Refused}
 use Rattle.spec_ntriples.specs.Reading.{read_nTriples}
 use Rattle.report_text.specs.Text.{refusal_text}
 use Rattle.report_input.specs.Input.{most_input, too_long}
@@ -30,9 +29,9 @@ abbrev pub empty_dictionary : List ℕ
 empty_dictionary = replicate 1048576 0
 
 -- What is printed for a file that was read, by the reply and the delivery (the bytes of the delivery, or the word refused and the number),
-unfoldable pub printed_reply : ByteReply → List ℕ → Stream
-printed_reply (Length n) delivery = output (take n delivery)
-printed_reply (Refused n) delivery = errors (refusal_text n)
+unfoldable pub printed_reply : Reply → List ℕ → Stream
+printed_reply (Ok n) delivery = output (take n delivery)
+printed_reply (Err n) delivery = errors (refusal_text n)
 
 -- and for any: it is read with that dictionary into a delivery of the most bytes.
 unfoldable pub printed_for : List ℕ → Stream

@@ -9,9 +9,9 @@ use ntriples_read::read_ntriples;
 use report_input::{MOST_INPUT, write_too_long};
 use report_rooms::empty_dictionary;
 use report_text::write_labelled;
-use spec_ntriples::ByteReply;
 
-// How many bytes are printed: on standard output, or on standard error.
+// How many bytes are printed: on standard output, or on standard error. No Result: both are bytes to print, on one stream or
+// the other.
 #[derive(Clone, Copy)]
 pub enum Printed {
     Output(usize),
@@ -29,7 +29,7 @@ pub fn respond(file: &[u8], out: &mut [u8]) -> Printed
     }
     let mut dictionary = empty_dictionary();
     match read_ntriples(file, &mut dictionary, out) {
-        ByteReply::Length(n) => Printed::Output(n),
-        ByteReply::Refused(n) => { Printed::Errors(write_labelled(b"refused ", n, b'\n', out, 0)) }
+        Ok(n) => Printed::Output(n),
+        Err(n) => { Printed::Errors(write_labelled(b"refused ", n, b'\n', out, 0)) }
     }
 }

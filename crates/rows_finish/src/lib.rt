@@ -17,8 +17,8 @@ pub fn finish(out: &mut [u32], m: usize, c: Collected) -> Reply
 {
     if c.exceeded {
         clear(out);
-        return Reply::Refused(8);
+        return Err(8);
     }
     let s = settle(out, m, c);
-    Reply::Rows(s.sorted)
+    Ok(s.sorted)
 }

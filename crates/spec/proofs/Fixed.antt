@@ -1,4 +1,5 @@
 -- The claim of demand 3 fixes the whole run: what each call gave, and every word; and it fixes the reply to each question. Assumes nothing.
+use Rattle.std.specs.Prelude.{Ok}
 use Prim.Native.Nat.{ℕ, ◌*◌, ◌≤◌, ◌<◌}
 use mathlib.Core.Path.{◌≡◌, refl, sym, ap, ap₂, ◌∙◌}
 use mathlib.Core.Bool.{Bool, true, false}
@@ -12,7 +13,6 @@ use Rattle.spec.proofs.Ascending.{ascending_ext, is_ascending_iff}
 use Rattle.spec.proofs.OrderedRows.{ordered_ext}
 use Rattle.spec.specs.Tables.{layout, Tables, tables, Ledger}
 use Rattle.spec.specs.Lists.{padded}
-use Rattle.spec.specs.declared.Reply.TheVariants.{Rows}
 use Rattle.spec.specs.Outputs.{Replied, replied, filled}
 use Rattle.spec.specs.Questions.{head_count, is_question, is_head_bound, ask_kept, ask_rewritten}
 use Rattle.spec.specs.Ledger.{Run, run}
@@ -64,7 +64,7 @@ replies_unique {q} (refused_7 e f) (given _ j _ _) = no_both (is_head_bound q) j
 replies_unique {q} (refused_7 e f) (refused_8 _ j _ _) = no_both (is_head_bound q) j f
 replies_unique {q} (given e f x h) (refused_6 i) = no_both (is_question q) e i
 replies_unique {q} (given e f x h) (refused_7 _ j) = no_both (is_head_bound q) f j
-replies_unique {len} (given {R} e f x h) (given {R = Q} _ _ y _) = ap (λ (P : List (List ℕ)). replied (Rows (length P)) (filled len P)) (rows_unique R Q x y)
+replies_unique {len} (given {R} e f x h) (given {R = Q} _ _ y _) = ap (λ (P : List (List ℕ)). replied (Ok (length P)) (filled len P)) (rows_unique R Q x y)
 replies_unique {q} {len} (given {R} e f x h) (refused_8 {R = Q} _ _ y k) = no_room (head_count q) len R Q (rows_unique R Q x y) h k
 replies_unique {q} (refused_8 e f x h) (refused_6 i) = no_both (is_question q) e i
 replies_unique {q} (refused_8 e f x h) (refused_7 _ j) = no_both (is_head_bound q) f j

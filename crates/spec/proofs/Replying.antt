@@ -1,4 +1,5 @@
 -- A question that is computed among listed triples gets the reply that the claim words. Assumes nothing.
+use Rattle.std.specs.Prelude.{Ok, Err}
 use Prim.Native.Nat.{ℕ, ◌*◌, ◌/◌, ◌≤◌, ◌<◌}
 use mathlib.Core.Path.{◌≡◌, subst}
 use mathlib.Core.Bool.{true, false}
@@ -11,7 +12,6 @@ use borrow.Author.Tests.{leb-true, leb-false}
 use Rattle.spec.specs.declared.Triple.{Triple}
 use Rattle.spec.specs.Refusals.{first_refusal}
 use Rattle.spec.proofs.Lists.{by_test, le_or}
-use Rattle.spec.specs.declared.Reply.TheVariants.{Rows, Refused}
 use Rattle.spec.specs.Outputs.{are_fitting, replied, filled, give}
 use Rattle.spec.specs.Questions.{head_count, atoms, head, is_question, is_head_bound, IsAnswer, question_rows, ask}
 use Rattle.spec.proofs.Meaning.{answers_iff}
@@ -52,12 +52,12 @@ module _ (K : List Triple) (G : Triple → Type 0) (same : (t : Triple) → Mem�
   }
 
   -- Rows that fit are given,
-  asked-given : is_question q ≡ true → is_head_bound q ≡ true → are_fitting (head_count q) len (question_rows K q) ≡ true → replied (Rows (length (question_rows K q))) (filled len (question_rows K q)) ≡ ask true K q len
+  asked-given : is_question q ≡ true → is_head_bound q ≡ true → are_fitting (head_count q) len (question_rows K q) ≡ true → replied (Ok (length (question_rows K q))) (filled len (question_rows K q)) ≡ ask true K q len
   unfolding ask first_refusal give
   asked-given e f g = rw (e, f, g)
 
   -- and those that do not are refused by 8.
-  asked_8 : is_question q ≡ true → is_head_bound q ≡ true → are_fitting (head_count q) len (question_rows K q) ≡ false → replied (Refused 8) (replicate len 0) ≡ ask true K q len
+  asked_8 : is_question q ≡ true → is_head_bound q ≡ true → are_fitting (head_count q) len (question_rows K q) ≡ false → replied (Err 8) (replicate len 0) ≡ ask true K q len
   unfolding ask first_refusal give
   asked_8 e f g = rw (e, f, g)
 

@@ -1,5 +1,6 @@
 -- Worked by computation: a list of calls with what the ledger answers, and questions, alternatives and a delivery with their replies. Assumes
 -- nothing.
+use Rattle.std.specs.Prelude.{Ok, Err}
 use Prim.Native.Nat.{ℕ}
 use mathlib.Core.Path.{◌≡◌, refl}
 use mathlib.Core.List.{List, [], ◌∷◌, flat_map}
@@ -14,7 +15,6 @@ use Rattle.spec.specs.Refusals.{first_refusal}
 use Rattle.spec.specs.Tables.{capacity, first_rows, rows, are_zero, is_table, Tables, tables, are_formed, Ledger, ledger}
 use Rattle.spec.specs.Lists.{all, any, select}
 use Rattle.spec.specs.declared.Answer.TheVariants.{Applied, Idle, Refused}
-use Rattle.spec.specs.declared.Reply.TheVariants.{Rows, Refused as NotGiven}
 use Rattle.spec.specs.Outputs.{are_fitting, filled, Replied, replied, give}
 use Rattle.spec.specs.Questions.{atoms, head, is_atom, is_laid_out, is_question, stands_in_one, is_head_bound, ask, ask_kept, ask_rewritten}
 use Rattle.spec.specs.computed.Closed.{pairs_from, pairs, closed}
@@ -154,7 +154,7 @@ worked_question = 1 ∷ 1 ∷ 0xC0000000 ∷ 1 ∷ 17 ∷ 0xC0000000 ∷ []
 
 -- One row in eight words: 32, which is of class 16 and so of class 17.
 abbrev pub worked_reply : Replied
-worked_reply = replied (Rows 1) (32 ∷ 0 ∷ 0 ∷ 0 ∷ 0 ∷ 0 ∷ 0 ∷ 0 ∷ [])
+worked_reply = replied (Ok 1) (32 ∷ 0 ∷ 0 ∷ 0 ∷ 0 ∷ 0 ∷ 0 ∷ 0 ∷ [])
 
 -- Both ways give it.
 pub worked_kept : ask_kept worked_tables.statements worked_tables.kept worked_question 8 ≡ worked_reply
@@ -166,24 +166,24 @@ unfolding compute
 worked_rewritten = refl
 
 -- Asked for v1, which stands in no atom, it is refused by 7.
-pub worked_unbound : ask_kept worked_tables.statements worked_tables.kept (1 ∷ 1 ∷ 0xC0000000 ∷ 1 ∷ 17 ∷ 0xC0000001 ∷ []) 3 ≡ replied (NotGiven 7) (0 ∷ 0 ∷ 0 ∷ [])
+pub worked_unbound : ask_kept worked_tables.statements worked_tables.kept (1 ∷ 1 ∷ 0xC0000000 ∷ 1 ∷ 17 ∷ 0xC0000001 ∷ []) 3 ≡ replied (Err 7) (0 ∷ 0 ∷ 0 ∷ [])
 unfolding compute
 worked_unbound = refl
 
 -- ---- alternatives
 
 -- Those of "v0 1 17", in an output that they fill.
-pub worked-alternatives : reformulate worked_tables.statements (triple 0xC0000000 1 17) 6 ≡ replied (Rows 2) (0 ∷ 0 ∷ 0 ∷ 1 ∷ 16 ∷ 17 ∷ [])
+pub worked-alternatives : reformulate worked_tables.statements (triple 0xC0000000 1 17) 6 ≡ replied (Ok 2) (0 ∷ 0 ∷ 0 ∷ 1 ∷ 16 ∷ 17 ∷ [])
 unfolding compute
 worked-alternatives = refl
 
 -- An atom that names a blank is refused by 6.
-pub worked_blank : reformulate worked_tables.statements (triple 0x40000001 1 17) 6 ≡ replied (NotGiven 6) (0 ∷ 0 ∷ 0 ∷ 0 ∷ 0 ∷ 0 ∷ [])
+pub worked_blank : reformulate worked_tables.statements (triple 0x40000001 1 17) 6 ≡ replied (Err 6) (0 ∷ 0 ∷ 0 ∷ 0 ∷ 0 ∷ 0 ∷ [])
 unfolding compute
 worked_blank = refl
 
 -- ---- exported numbers
 
 -- The exported count is the row count, however large.
-pub worked-count : numbered_reply (replied (Rows 4294967296) []) ≡ listed 0 4294967296 []
+pub worked-count : numbered_reply (replied (Ok 4294967296) []) ≡ listed 0 4294967296 []
 worked-count = refl

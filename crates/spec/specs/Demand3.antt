@@ -1,5 +1,5 @@
 -- Demand 3 (document 01, "The ledger"): one claim about a list of calls. Definitions only.
-use Rattle.std.specs.Prelude.{ℕ, ◌*◌, ◌<◌, ◌≤◌, ◌≡◌, Bool, true, false, ◌↔◌, length, replicate, leb}
+use Rattle.std.specs.Prelude.{ℕ, ◌*◌, ◌<◌, ◌≤◌, ◌≡◌, Bool, true, false, ◌↔◌, length, replicate, leb, Ok, Err}
 use mathlib.Core.List.{List, [], ◌∷◌, ◌++◌, Memᴰ}
 use Rattle.spec.specs.declared.Triple.{Triple}
 use Rattle.spec.specs.Order.{is_ascending, ListOf}
@@ -7,7 +7,6 @@ use Rattle.spec.specs.Refusals.{first_refusal, triple_checks}
 use Rattle.spec.specs.Tables.{layout, Tables, tables, capacities_of, Ledger}
 use Rattle.spec.specs.Lists.{padded}
 use Rattle.spec.specs.Rules.{Follows, FollowsAsFact, Carries}
-use Rattle.spec.specs.declared.Reply.TheVariants.{Rows, Refused}
 use Rattle.spec.specs.Outputs.{Replied, replied, filled}
 use Rattle.spec.specs.declared.Change.{Change}
 use Rattle.spec.specs.Updates.{applying, update}
@@ -61,12 +60,12 @@ pub record RowsOf (G : Triple → Type 0) (q : List ℕ) (R : List (List ℕ)) :
 -- What a question q gets among the triples of a graph, into an output of len words: "both refuse it by 6 or 7 alike; otherwise each gives all
 -- of demand 2's rows, with their count, or 8 exactly when these do not fit its output whole". A refusal "leaves its whole output zero".
 pub data Replies (G : Triple → Type 0) (q : List ℕ) (len : ℕ) : Replied → Type 0 where
-  refused_6 : is_question q ≡ false → Replies G q len (replied (Refused 6) (replicate len 0))
-  refused_7 : is_question q ≡ true → is_head_bound q ≡ false → Replies G q len (replied (Refused 7) (replicate len 0))
+  refused_6 : is_question q ≡ false → Replies G q len (replied (Err 6) (replicate len 0))
+  refused_7 : is_question q ≡ true → is_head_bound q ≡ false → Replies G q len (replied (Err 7) (replicate len 0))
   given : {R : List (List ℕ)} → is_question q ≡ true → is_head_bound q ≡ true → RowsOf G q R → length R * head_count q ≤ len
-      → Replies G q len (replied (Rows (length R)) (filled len R))
+      → Replies G q len (replied (Ok (length R)) (filled len R))
   refused_8 : {R : List (List ℕ)} → is_question q ≡ true → is_head_bound q ≡ true → RowsOf G q R → len < length R * head_count q
-      → Replies G q len (replied (Refused 8) (replicate len 0))
+      → Replies G q len (replied (Err 8) (replicate len 0))
 
 -- ---- the claim
 

@@ -25,12 +25,8 @@ pub enum Answer {
     Refused(u32),
 }
 
-// The reply of a question, of alternatives or of a listing: the number of rows given, or the number that refused.
-#[derive(Clone, Copy)]
-pub enum Reply {
-    Rows(usize),
-    Refused(u32),
-}
+// The reply of what fills a lent output: the number of rows, or of bytes, that it gave, or the number of the question that refused it.
+pub type Reply = Result<usize, u32>;
 
 // How many entries were applied, idle and refused.
 #[derive(Clone, Copy)]

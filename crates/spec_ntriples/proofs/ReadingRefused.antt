@@ -1,5 +1,6 @@
 -- A reading is refused by the first "no", and then changes nothing (reading_refused, reading_refused_leaves, reading_accepted, at the end).
 -- Assumes nothing.
+use Rattle.std.specs.Prelude.{Ok, Err}
 use Prim.Native.Nat.{ℕ, suc, ◌+◌, ◌*◌, ◌≤◌, min}
 use mathlib.Core.Path.{◌≡◌, refl, sym, ap, ◌∙◌, subst}
 use mathlib.Core.Bool.{Bool, true, false, ◌&&◌}
@@ -9,6 +10,7 @@ use native.Mathlib.Omega.{arith}
 use lib.ListN.{length, replicate, length-append}
 use lib.Dec.{leb}
 use borrow.Author.Tests.{leb-true, leb-false, le-leb, lt-leb}
+use Rattle.spec.specs.Outputs.{Reply}
 use Rattle.spec.specs.declared.Triple.{Triple}
 use Rattle.spec.specs.Terms.{is_statement}
 use Rattle.spec.specs.Refusals.{first_refusal}
@@ -17,7 +19,6 @@ use Rattle.spec.specs.Deliveries.{is_fact}
 use Rattle.spec.specs.Messages.{most_bytes}
 use Rattle.spec.proofs.Lists.{by_test}
 use Rattle.spec.specs.Messages as format
-use Rattle.spec_ntriples.specs.declared.ByteReply.TheVariants.{Length, Refused}
 use Rattle.spec_ntriples.specs.Texts.{TextTriple}
 use Rattle.spec_ntriples.specs.computed.Lines.{Document, refused, triples, document}
 use Rattle.spec_ntriples.specs.Dictionary.{Entry, bytes_of_entries, are_numbers_enough, is_dictionary}
@@ -62,13 +63,13 @@ and_no false b h = refl
 
 -- ---- replies
 
-pub length-not : {C : Type 0} {m n : ℕ} → Length m ≡ Refused n → C
+pub length-not : {C : Type 0} {m n : ℕ} → ◌≡◌ {A = Reply} (Ok m) (Err n) → C
 length-not e = let z : ◌≡◌ {A = ℕ} 0 1 = cc in absurd (omega arith)
 
-pub refused-number : (m n : ℕ) → Refused m ≡ Refused n → m ≡ n
+pub refused-number : (m n : ℕ) → ◌≡◌ {A = Reply} (Err m) (Err n) → m ≡ n
 refused-number m n e = cc
 
-pub length-number : (m n : ℕ) → Length m ≡ Length n → m ≡ n
+pub length-number : (m n : ℕ) → ◌≡◌ {A = Reply} (Ok m) (Ok n) → m ≡ n
 length-number m n e = cc
 
 -- ---- each outcome
@@ -76,7 +77,7 @@ length-number m n e = cc
 module _ (dictionary file : List ℕ) (len : ℕ) where
   -- A refusal as a whole.
   abbrev refusal : ℕ → ReadFile
-  refusal n = read_file (Refused n) dictionary (replicate len 0)
+  refusal n = read_file (Err n) dictionary (replicate len 0)
 
   by_1 : is_dictionary dictionary ≡ false → read_nTriples dictionary file len ≡ refusal 1
   unfolding read_nTriples first_refusal conclude_reading
@@ -111,18 +112,18 @@ module _ (dictionary file : List ℕ) (len : ℕ) where
   record Acceptance : Type 0 where
     size : ℕ
     by : Accepted dictionary file len size
-    is : (read_nTriples dictionary file len).reply ≡ Length size
+    is : (read_nTriples dictionary file len).reply ≡ Ok size
 
   -- What an accepted reading gives.
   pub accepted_is : (n : ℕ) (A : Accepted dictionary file len n) → read_nTriples dictionary file len ≡ conclude_reading 0 dictionary (entries_with dictionary A.lines) (map (triple_of (entries_with dictionary A.lines)) A.lines) len
   accepted_is n A = by_none A.lines A.formed A.said (rw (le-leb _ _ A.space, A.numbers)) (le-leb _ _ A.room)
 
-  accepted_reply : (n : ℕ) → Accepted dictionary file len n → (read_nTriples dictionary file len).reply ≡ Length n
+  accepted_reply : (n : ℕ) → Accepted dictionary file len n → (read_nTriples dictionary file len).reply ≡ Ok n
   unfolding conclude_reading
   accepted_reply n A =
       let es : List Entry = entries_with dictionary A.lines in
       rw (accepted_is n A)
-      (ap Length (additions-length (map (triple_of es) A.lines) ∙ ap (λ (m : ℕ). 10 + 12 * m) (length-map (triple_of es) A.lines) ∙ sym A.size))
+      (ap Ok (additions-length (map (triple_of es) A.lines) ∙ ap (λ (m : ℕ). 10 + 12 * m) (length-map (triple_of es) A.lines) ∙ sym A.size))
 
   in_room : (ts : List TextTriple) → is_dictionary dictionary ≡ true → document file ≡ triples ts → length (bytes_of_entries (entries_with dictionary ts)) ≤ length dictionary → are_numbers_enough (entries_with dictionary ts) ≡ true → Refusal ⊎ Acceptance
   in_room ts h d s e =
@@ -162,7 +163,7 @@ module _ (dictionary file : List ℕ) (len : ℕ) where
   refused_by n (RefusedBy.no_room e h ts d s q r) = rw e (by-15 ts h d (rw (le-leb _ _ s, q)) (lt-leb _ _ r))
 
   -- Theorem 4: a reading is refused by n exactly where n is the number of the first "no" of 1, 13, 14 and 15.
-  pub reading_refused : (n : ℕ) → ((read_nTriples dictionary file len).reply ≡ Refused n) ↔ RefusedBy dictionary file len n
+  pub reading_refused : (n : ℕ) → ((read_nTriples dictionary file len).reply ≡ Err n) ↔ RefusedBy dictionary file len n
   reading_refused n = (
     λ e. ⊎_elim
         (λ (R : Refusal). subst (RefusedBy dictionary file len) (refused-number R.number n (sym (ap (λ (r : ReadFile). r.reply) R.is) ∙ e)) R.by)
@@ -172,11 +173,11 @@ module _ (dictionary file : List ℕ) (len : ℕ) where
   )
 
   -- It then leaves the dictionary as it was, and zeros.
-  pub reading_refused_leaves : (n : ℕ) → (read_nTriples dictionary file len).reply ≡ Refused n → read_nTriples dictionary file len ≡ read_file (Refused n) dictionary (replicate len 0)
+  pub reading_refused_leaves : (n : ℕ) → (read_nTriples dictionary file len).reply ≡ Err n → read_nTriples dictionary file len ≡ read_file (Err n) dictionary (replicate len 0)
   reading_refused_leaves n e = refused_by n ((reading_refused n).0 e)
 
   -- Otherwise the reply is the length of the delivery.
-  pub reading_accepted : (n : ℕ) → ((read_nTriples dictionary file len).reply ≡ Length n) ↔ Accepted dictionary file len n
+  pub reading_accepted : (n : ℕ) → ((read_nTriples dictionary file len).reply ≡ Ok n) ↔ Accepted dictionary file len n
   reading_accepted n = (
     λ e. ⊎_elim
         (λ (R : Refusal). length-not (sym e ∙ ap (λ (r : ReadFile). r.reply) R.is))

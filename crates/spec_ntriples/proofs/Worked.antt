@@ -1,11 +1,11 @@
 -- Worked examples of reading N-Triples, by computation. Assumes nothing.
+use Rattle.std.specs.Prelude.{Ok, Err}
 use Prim.Native.Nat.{ℕ}
 use Prim.Native.String.{String}
 use mathlib.Core.Path.{◌≡◌, refl}
 use mathlib.Core.Bool.{true, false}
 use mathlib.Core.List.{List, [], ◌∷◌, ◌++◌, map}
 use lib.ListN.{replicate}
-use Rattle.spec_ntriples.specs.declared.ByteReply.TheVariants.{Length, Refused}
 use Rattle.spec_ntriples.specs.Utf8.{utf8}
 use Rattle.spec_ntriples.specs.computed.Decoded.{Decoded, broken, decoded, decode}
 use Rattle.spec_ntriples.specs.Characters.{codes}
@@ -94,7 +94,7 @@ drinks =
 -- What they give.
 pub drinks-read
     : read_nTriples (replicate 140 0) drinks 60
-    ≡ read_file (Length 46)
+    ≡ read_file (Ok 46)
     (dictionary_bytes 140
     (entry 16 (codes "<p:cola>")
     ∷ entry 17 (codes "<p:Drink>")
@@ -107,16 +107,16 @@ unfolding compute
 drinks-read = refl
 
 -- A file whose three texts do not fit the dictionary, into a delivery that is too short: 14 comes before 15. With a byte more there, 15.
-pub no_space : read_nTriples (replicate 50 0) (codes "<p:a><p:q><p:b>.") 21 ≡ read_file (Refused 14) (replicate 50 0) (replicate 21 0)
+pub no_space : read_nTriples (replicate 50 0) (codes "<p:a><p:q><p:b>.") 21 ≡ read_file (Err 14) (replicate 50 0) (replicate 21 0)
 unfolding compute
 no_space = refl
 
-pub no_room : read_nTriples (replicate 51 0) (codes "<p:a><p:q><p:b>.") 21 ≡ read_file (Refused 15) (replicate 51 0) (replicate 21 0)
+pub no_room : read_nTriples (replicate 51 0) (codes "<p:a><p:q><p:b>.") 21 ≡ read_file (Err 15) (replicate 51 0) (replicate 21 0)
 unfolding compute
 no_room = refl
 
 -- A line that breaks the grammar is 13, also where the dictionary is full.
-pub broken_line : read_nTriples [] (codes "<p:a><p:q><p:b>.\nx") 0 ≡ read_file (Refused 13) [] []
+pub broken_line : read_nTriples [] (codes "<p:a><p:q><p:b>.\nx") 0 ≡ read_file (Err 13) [] []
 unfolding compute
 broken_line = refl
 

@@ -1,10 +1,10 @@
 -- Worked examples of the theorems about reading: a file with a line twice, what they say of it, and texts of terms. Assumes nothing.
+use Rattle.std.specs.Prelude.{Ok}
 use Prim.Native.Nat.{ℕ}
 use mathlib.Core.Path.{◌≡◌, refl}
 use mathlib.Core.List.{List, [], ◌∷◌, map}
 use native.Mathlib.Omega.{arith}
 use lib.ListN.{replicate}
-use Rattle.spec_ntriples.specs.declared.ByteReply.TheVariants.{Length}
 use Rattle.spec_ntriples.specs.Characters.{codes}
 use Rattle.spec_ntriples.specs.Texts.{text, TextTriple}
 use Rattle.spec_ntriples.specs.Dictionary.{entry, bytes_of_entries, dictionary_bytes}
@@ -27,7 +27,7 @@ loop = record { subject = text 0 (codes "<p:a>"); property = text 0 (codes "<p:q
 -- Each text has one entry, and each line a triple.
 pub twice-read
     : read_nTriples (replicate 36 0) twice 35
-    ≡ read_file (Length 34) (dictionary_bytes 36 (entry 16 (codes "<p:a>") ∷ entry 17 (codes "<p:q>") ∷ []))
+    ≡ read_file (Ok 34) (dictionary_bytes 36 (entry 16 (codes "<p:a>") ∷ entry 17 (codes "<p:q>") ∷ []))
     (0 ∷ 0 ∷ 0 ∷ 0 ∷ 0 ∷ 0 ∷ 2 ∷ 0 ∷ 16 ∷ 0 ∷ 0 ∷ 0 ∷ 17 ∷ 0 ∷ 0 ∷ 0 ∷ 16 ∷ 0 ∷ 0 ∷ 0 ∷ 16 ∷ 0 ∷ 0 ∷ 0 ∷ 17 ∷ 0 ∷ 0 ∷ 0 ∷ 16 ∷ 0 ∷ 0 ∷ 0 ∷ 0 ∷ 0 ∷ 0 ∷ [])
 unfolding compute
 twice-read = refl

@@ -1,13 +1,12 @@
 -- N-Triples read into a dictionary and a delivery (document 02, slip 1). Definitions only.
-use Rattle.std.specs.Prelude.{ℕ, zero, suc, ◌+◌, ◌-◌, ◌*◌, min, Bool, true, false, ◌&&◌, cond, List, [], ◌∷◌, ◌++◌, map, length, replicate, eqb, leb}
+use Rattle.std.specs.Prelude.{ℕ, zero, suc, ◌+◌, ◌-◌, ◌*◌, min, Bool, true, false, ◌&&◌, cond, List, [], ◌∷◌, ◌++◌, map, length, replicate, eqb, leb, Ok, Err}
+use Rattle.spec.specs.Outputs.{Reply}
 use Rattle.spec.specs.declared.Triple.{Triple}
 use Rattle.spec.specs.Terms.{triple, is_statement}
 use Rattle.spec.specs.Refusals.{first_refusal}
 use Rattle.spec.specs.Lists.{select}
 use Rattle.spec.specs.Deliveries.{is_fact}
 use Rattle.spec.specs.Messages.{Message, most_bytes, encode}
-use Rattle.spec_ntriples.specs.declared.ByteReply.{ByteReply}
-use Rattle.spec_ntriples.specs.declared.ByteReply.TheVariants.{Length, Refused}
 use Rattle.spec_ntriples.specs.Texts.{Text, TextTriple}
 use Rattle.spec_ntriples.specs.computed.Lines.{Document, refused, triples, document}
 use Rattle.spec_ntriples.specs.Dictionary.{Entry, entry, bytes_of_entries, dictionary_bytes, entries, term_of, next_term, are_numbers_enough, is_dictionary}
@@ -64,20 +63,20 @@ reading_checks dictionary d es len =
 
 -- What a reading gives and leaves: its reply, the dictionary's bytes and the delivery's.
 pub record ReadFile : Type 0 where
-  pub reply : ByteReply
+  pub reply : Reply
   pub dictionary : List ℕ
   pub delivery : List ℕ
 
 -- A reply with bytes.
-abbrev pub read_file : ByteReply → List ℕ → List ℕ → ReadFile
+abbrev pub read_file : Reply → List ℕ → List ℕ → ReadFile
 read_file r d m = record { reply = r; dictionary = d; delivery = m }
 
 -- "A refusal leaves outputs zero, and here the book unchanged"; else "the length is the result and unused bytes are zero".
 unfoldable pub conclude_reading : ℕ → List ℕ → List Entry → List Triple → ℕ → ReadFile
-conclude_reading (suc n) dictionary es ts len = read_file (Refused (suc n)) dictionary (replicate len 0)
+conclude_reading (suc n) dictionary es ts len = read_file (Err (suc n)) dictionary (replicate len 0)
 conclude_reading zero dictionary es ts len =
     let bytes = encode (additions ts) in
-    read_file (Length (length bytes)) (dictionary_bytes (length dictionary) es) (bytes ++ replicate (len - length bytes) 0)
+    read_file (Ok (length bytes)) (dictionary_bytes (length dictionary) es) (bytes ++ replicate (len - length bytes) 0)
 
 -- A file read with a dictionary into a delivery of len bytes.
 unfoldable pub read_nTriples : List ℕ → List ℕ → ℕ → ReadFile

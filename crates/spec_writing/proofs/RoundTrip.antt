@@ -1,4 +1,5 @@
 -- What is written with a dictionary is read back with it (statements-read-back, facts-read-back, kept-read-back, at the end). Assumes nothing.
+use Rattle.std.specs.Prelude.{Ok, Err}
 use Prim.Native.Nat.{ℕ, ◌+◌, ◌-◌, ◌*◌, ◌≤◌, ◌<◌, min}
 use mathlib.Core.Path.{◌≡◌, refl, sym, ap, ◌∙◌, subst}
 use mathlib.Core.Bool.{Bool, true, not}
@@ -15,7 +16,6 @@ use Rattle.spec.specs.Tables.{most_statements, most_facts, most_kept, rows, is_t
 use Rattle.spec.specs.Messages.{most_bytes, encode}
 use Rattle.spec.specs.inside.Each.{Each}
 use Rattle.spec.proofs.Ascending.{and_left, and_right}
-use Rattle.spec_ntriples.specs.declared.ByteReply.TheVariants.{Length, Refused}
 use Rattle.spec_ntriples.specs.Texts.{TextTriple}
 use Rattle.spec_ntriples.specs.Dictionary.{Entry, bytes_of_entries, dictionary_bytes, entries, term_of, is_dictionary}
 use Rattle.spec_ntriples.specs.Sights.{text_of, triple_texts, file_texts}
@@ -90,13 +90,13 @@ module _ (d : List ℕ) (h : is_dictionary d ≡ true) where
           size = rw count;
         }
 
-    conclude : (len : ℕ) → conclude_reading 0 d (entries d) ts len ≡ read_file (Length (10 + 12 * length ts)) d (padded len (encode (additions ts)))
+    conclude : (len : ℕ) → conclude_reading 0 d (entries d) ts len ≡ read_file (Ok (10 + 12 * length ts)) d (padded len (encode (additions ts)))
     unfolding conclude_reading
     conclude len =
-        ap (λ (n : ℕ). read_file (Length n) (dictionary_bytes (length d) (entries d)) (padded len (encode (additions ts)))) (additions-length ts)
-        ∙ ap (λ (x : List ℕ). read_file (Length (10 + 12 * length ts)) x (padded len (encode (additions ts)))) (sym (dictionary-written d h))
+        ap (λ (n : ℕ). read_file (Ok n) (dictionary_bytes (length d) (entries d)) (padded len (encode (additions ts)))) (additions-length ts)
+        ∙ ap (λ (x : List ℕ). read_file (Ok (10 + 12 * length ts)) x (padded len (encode (additions ts)))) (sym (dictionary-written d h))
 
-    back_fits : (len : ℕ) → 10 + 12 * length ts ≤ min len most_bytes → read_nTriples d (rows_bytes (entries d) ts) len ≡ read_file (Length (10 + 12 * length ts)) d (padded len (encode (additions ts)))
+    back_fits : (len : ℕ) → 10 + 12 * length ts ≤ min len most_bytes → read_nTriples d (rows_bytes (entries d) ts) len ≡ read_file (Ok (10 + 12 * length ts)) d (padded len (encode (additions ts)))
     unfolding accepted
     back_fits len r =
         accepted_is d (rows_bytes (entries d) ts) len (10 + 12 * length ts) (accepted len r)
@@ -104,7 +104,7 @@ module _ (d : List ℕ) (h : is_dictionary d ≡ true) where
         ∙ ap (λ (us : List Triple). conclude_reading 0 d (entries d) us len) (rows_back ts s)
         ∙ conclude len
 
-    back-exceeds : (len : ℕ) → min len most_bytes < 10 + 12 * length ts → read_nTriples d (rows_bytes (entries d) ts) len ≡ read_file (Refused 15) d (replicate len 0)
+    back-exceeds : (len : ℕ) → min len most_bytes < 10 + 12 * length ts → read_nTriples d (rows_bytes (entries d) ts) len ≡ read_file (Err 15) d (replicate len 0)
     back-exceeds len r =
         let R : RefusedBy d (rows_bytes (entries d) ts) len 15 =
         RefusedBy.no_room refl h texts (written-document d h ts k s) (rw same_entries (entries_fit d h)) (rw same_entries (formed d h).numbers) (rw count r) in
@@ -118,7 +118,7 @@ module _ (d : List ℕ) (h : is_dictionary d ≡ true) where
 
 -- The bytes of an accepted writing, read back.
 written-read-back
-    : (formed : Bool) (table d : List ℕ) (len n : ℕ) → (formed ≡ true → all is_triple (rows table) ≡ true) → (write_rows formed table d len).reply ≡ Length n
+    : (formed : Bool) (table d : List ℕ) (len n : ℕ) → (formed ≡ true → all is_triple (rows table) ≡ true) → (write_rows formed table d len).reply ≡ Ok n
     → ReadsBack d (take n (write_rows formed table d len).bytes) (length (rows table)) (additions (rows table))
 written-read-back formed table d len n f e =
     let A = (writing_accepted formed table d len n).0 e in
@@ -153,24 +153,24 @@ all_statements ts h = rw (select-all is_statement ts h, no_facts ts h)
 
 -- Theorem 1: where a table is written, its lines, read back with the same dictionary, leave the dictionary as it is and add the table's
 -- rows, in order; the facts,
-facts_of : (most : ℕ) (table d : List ℕ) (len n : ℕ) → (write_rows (is_table is_allowed_fact most table) table d len).reply ≡ Length n → ReadsBack d (take n (write_rows (is_table is_allowed_fact most table) table d len).bytes) (length (rows table)) (facts_addition (rows table))
+facts_of : (most : ℕ) (table d : List ℕ) (len n : ℕ) → (write_rows (is_table is_allowed_fact most table) table d len).reply ≡ Ok n → ReadsBack d (take n (write_rows (is_table is_allowed_fact most table) table d len).bytes) (length (rows table)) (facts_addition (rows table))
 facts_of most table d len n e =
     let A = (writing_accepted (is_table is_allowed_fact most table) table d len n).0 e in
     subst (ReadsBack d (take n (write_rows (is_table is_allowed_fact most table) table d len).bytes) (length (rows table)))
     (all_facts (rows table) (table-rows is_allowed_fact is_fact most table fact_fact A.table_formed))
     (written-read-back (is_table is_allowed_fact most table) table d len n (λ f. table-rows is_allowed_fact is_triple most table fact-triple f) e)
 
-pub facts-read_back : (table d : List ℕ) (len n : ℕ) → (write_facts table d len).reply ≡ Length n → ReadsBack d (take n (write_facts table d len).bytes) (length (rows table)) (facts_addition (rows table))
+pub facts-read_back : (table d : List ℕ) (len n : ℕ) → (write_facts table d len).reply ≡ Ok n → ReadsBack d (take n (write_facts table d len).bytes) (length (rows table)) (facts_addition (rows table))
 unfolding write_facts
 facts-read_back table d len n e = facts_of most_facts table d len n e
 
 -- the kept facts,
-pub kept-read_back : (table d : List ℕ) (len n : ℕ) → (write_kept table d len).reply ≡ Length n → ReadsBack d (take n (write_kept table d len).bytes) (length (rows table)) (facts_addition (rows table))
+pub kept-read_back : (table d : List ℕ) (len n : ℕ) → (write_kept table d len).reply ≡ Ok n → ReadsBack d (take n (write_kept table d len).bytes) (length (rows table)) (facts_addition (rows table))
 unfolding write_kept
 kept-read_back table d len n e = facts_of most_kept table d len n e
 
 -- and the statements.
-pub statements-read_back : (table d : List ℕ) (len n : ℕ) → (write_statements table d len).reply ≡ Length n → ReadsBack d (take n (write_statements table d len).bytes) (length (rows table)) (statements_addition (rows table))
+pub statements-read_back : (table d : List ℕ) (len n : ℕ) → (write_statements table d len).reply ≡ Ok n → ReadsBack d (take n (write_statements table d len).bytes) (length (rows table)) (statements_addition (rows table))
 unfolding write_statements
 statements-read_back table d len n e =
     let A = (writing_accepted (is_table is_allowed_statement most_statements table) table d len n).0 e in

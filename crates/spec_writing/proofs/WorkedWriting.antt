@@ -1,4 +1,5 @@
 -- Worked examples of writing N-Triples, by computation. Assumes nothing.
+use Rattle.std.specs.Prelude.{Ok, Err}
 use Prim.Native.Nat.{ℕ}
 use Prim.Native.String.{String}
 use mathlib.Core.Path.{◌≡◌, refl}
@@ -10,7 +11,6 @@ use Rattle.spec.specs.Lists.{all}
 use Rattle.spec.specs.Rows.{less}
 use Rattle.spec.specs.Order.{is_ascending}
 use Rattle.spec.specs.Tables.{capacity, first_rows, rows, are_zero, is_table}
-use Rattle.spec_ntriples.specs.declared.ByteReply.TheVariants.{Length, Refused}
 use Rattle.spec_ntriples.specs.Characters.{codes}
 use Rattle.spec_ntriples.specs.Texts.{is_same_text}
 use Rattle.spec_ntriples.specs.Dictionary.{entry, dictionary_bytes}
@@ -48,19 +48,19 @@ facts = 2 ∷ 16 ∷ 1 ∷ 17 ∷ 16 ∷ 18 ∷ 0x80000001 ∷ 0 ∷ []
 abbrev fact_lines : List ℕ
 fact_lines = codes "<p:cola> <http://www.w3.org/1999/02/22-rdf-syntax-ns#type> <p:Drink> .\n<p:cola> <p:name> \"Cola!\\n\"@en .\n"
 
-pub facts-written : write_facts facts drinks 110 ≡ written (Length 104) (fact_lines ++ replicate 6 0)
+pub facts-written : write_facts facts drinks 110 ≡ written (Ok 104) (fact_lines ++ replicate 6 0)
 unfolding worked
 facts-written = refl
 
 -- Read back with the same dictionary: the two facts added, in 34 bytes.
 pub facts-back
     : read_nTriples drinks fact_lines 40
-    ≡ read_file (Length 34) drinks
+    ≡ read_file (Ok 34) drinks
     (0 ∷ 0 ∷ 0 ∷ 0 ∷ 0 ∷ 0 ∷ 2 ∷ 0 ∷ 16 ∷ 0 ∷ 0 ∷ 0 ∷ 1 ∷ 0 ∷ 0 ∷ 0 ∷ 17 ∷ 0 ∷ 0 ∷ 0 ∷ 16 ∷ 0 ∷ 0 ∷ 0 ∷ 18 ∷ 0 ∷ 0 ∷ 0 ∷ 1 ∷ 0 ∷ 0 ∷ 128 ∷ 0 ∷ 0 ∷ replicate 6 0)
 unfolding worked
 facts-back = refl
 
-pub facts_back_refused : read_nTriples drinks fact_lines 33 ≡ read_file (Refused 15) drinks (replicate 33 0)
+pub facts_back_refused : read_nTriples drinks fact_lines 33 ≡ read_file (Err 15) drinks (replicate 33 0)
 unfolding worked
 facts_back_refused = refl
 
@@ -70,12 +70,12 @@ unfolding worked
 facts-read = facts-read_back facts drinks 110 104 refl
 
 -- They are kept facts as well; an output as long as the lines is filled.
-pub kept-written : write_kept facts drinks 104 ≡ written (Length 104) fact_lines
+pub kept-written : write_kept facts drinks 104 ≡ written (Ok 104) fact_lines
 unfolding worked
 kept-written = refl
 
 -- One byte too few: 8, and zeros.
-pub no_room : write_facts facts drinks 103 ≡ written (Refused 8) (replicate 103 0)
+pub no_room : write_facts facts drinks 103 ≡ written (Err 8) (replicate 103 0)
 unfolding worked
 no_room = refl
 
@@ -89,32 +89,32 @@ unfolding worked
 no_room_numbered = refl
 
 -- A statement, with a blank node.
-pub statement-written : write_statements (1 ∷ 17 ∷ 2 ∷ 0x40000001 ∷ []) drinks 72 ≡ written (Length 70) (codes "<p:Drink> <http://www.w3.org/2000/01/rdf-schema#subClassOf> _:goods .\n" ++ replicate 2 0)
+pub statement-written : write_statements (1 ∷ 17 ∷ 2 ∷ 0x40000001 ∷ []) drinks 72 ≡ written (Ok 70) (codes "<p:Drink> <http://www.w3.org/2000/01/rdf-schema#subClassOf> _:goods .\n" ++ replicate 2 0)
 unfolding worked
 statement-written = refl
 
 -- 6 has no text: 16, also where no byte is there for the lines.
-pub no_text_lem : write_facts (1 ∷ 16 ∷ 17 ∷ 6 ∷ []) drinks 0 ≡ written (Refused 16) []
+pub no_text_lem : write_facts (1 ∷ 16 ∷ 17 ∷ 6 ∷ []) drinks 0 ≡ written (Err 16) []
 unfolding worked
 no_text_lem = refl
 
 -- A property without one: 16.
-pub no_property-text : write_facts (1 ∷ 16 ∷ 19 ∷ 17 ∷ []) drinks 2 ≡ written (Refused 16) (0 ∷ 0 ∷ [])
+pub no_property-text : write_facts (1 ∷ 16 ∷ 19 ∷ 17 ∷ []) drinks 2 ≡ written (Err 16) (0 ∷ 0 ∷ [])
 unfolding worked
 no_property-text = refl
 
 -- An empty table has no lines, and fits no bytes.
-pub empty_table : write_facts (0 ∷ []) [] 0 ≡ written (Length 0) []
+pub empty_table : write_facts (0 ∷ []) [] 0 ≡ written (Ok 0) []
 unfolding worked
 empty_table = refl
 
 -- No table: 1, before 16. A statement is none of the facts.
-pub no_table : write_facts (1 ∷ 17 ∷ 2 ∷ 6 ∷ []) drinks 3 ≡ written (Refused 1) (0 ∷ 0 ∷ 0 ∷ [])
+pub no_table : write_facts (1 ∷ 17 ∷ 2 ∷ 6 ∷ []) drinks 3 ≡ written (Err 1) (0 ∷ 0 ∷ 0 ∷ [])
 unfolding worked
 no_table = refl
 
 -- No dictionary: 1.
-pub no_dictionary : write_facts (0 ∷ []) (7 ∷ []) 1 ≡ written (Refused 1) (0 ∷ [])
+pub no_dictionary : write_facts (0 ∷ []) (7 ∷ []) 1 ≡ written (Err 1) (0 ∷ [])
 unfolding worked
 no_dictionary = refl
 

@@ -1,5 +1,6 @@
 -- A writing is refused by the first "no", and then leaves zeros; else it gives the lines (writing_refused, writing_refused_leaves,
 -- writing_accepted, writing_accepted_gives, at the end). Assumes nothing.
+use Rattle.std.specs.Prelude.{Ok, Err}
 use Prim.Native.Nat.{ℕ, zero, ◌-◌, ◌<◌}
 use mathlib.Core.Path.{◌≡◌, refl, sym, ap, ◌∙◌, subst}
 use mathlib.Core.Bool.{Bool, true, false, ◌&&◌}
@@ -16,7 +17,6 @@ use Rattle.spec.specs.Refusals.{first_refusal}
 use Rattle.spec.specs.Tables.{rows}
 use Rattle.spec.proofs.Lists.{by_test, true-not_false}
 use Rattle.spec.proofs.TableAll.{all-member}
-use Rattle.spec_ntriples.specs.declared.ByteReply.TheVariants.{Length, Refused}
 use Rattle.spec_ntriples.specs.Dictionary.{Entry, entries, is_dictionary}
 use Rattle.spec_ntriples.specs.Sights.{text_of}
 use Rattle.spec_ntriples.proofs.ReadingRefused.{and_no, length-not, refused-number, length-number}
@@ -91,7 +91,7 @@ module _ (formed : Bool) (table dictionary : List ℕ) (len : ℕ) where
 
   -- A refusal as a whole.
   abbrev refusal : ℕ → Written
-  refusal n = written (Refused n) (replicate len 0)
+  refusal n = written (Err n) (replicate len 0)
 
   by_1 : (formed && is_dictionary dictionary) ≡ false → write_rows formed table dictionary len ≡ refusal 1
   unfolding write_rows first_refusal give_bytes
@@ -105,7 +105,7 @@ module _ (formed : Bool) (table dictionary : List ℕ) (len : ℕ) where
   unfolding write_rows first_refusal give_bytes
   by_8 h s f = rw (h, s, f)
 
-  by_none : (formed && is_dictionary dictionary) ≡ true → all (has_texts es) (rows table) ≡ true → leb (length lines) len ≡ true → write_rows formed table dictionary len ≡ written (Length (length lines)) (padded len lines)
+  by_none : (formed && is_dictionary dictionary) ≡ true → all (has_texts es) (rows table) ≡ true → leb (length lines) len ≡ true → write_rows formed table dictionary len ≡ written (Ok (length lines)) (padded len lines)
   unfolding write_rows first_refusal give_bytes
   by_none h s f = rw (h, s, f)
 
@@ -121,7 +121,7 @@ module _ (formed : Bool) (table dictionary : List ℕ) (len : ℕ) where
   record Acceptance : Type 0 where
     size : ℕ
     by : WritingAccepted formed table dictionary len size
-    is : write_rows formed table dictionary len ≡ written (Length size) (padded len lines)
+    is : write_rows formed table dictionary len ≡ written (Ok size) (padded len lines)
 
   in_texts : formed ≡ true → is_dictionary dictionary ≡ true → all (has_texts es) (rows table) ≡ true → Refusal ⊎ Acceptance
   in_texts a b s =
@@ -157,7 +157,7 @@ module _ (formed : Bool) (table dictionary : List ℕ) (len : ℕ) where
   refused_by n (WritingRefusedBy.no_room e a b s r) = rw e (by_8 (rw (a, b)) (none_lacks es (rows table) s) (lt-leb _ _ r))
 
   -- Theorem 5: a writing is refused by n exactly where n is the number of the first "no" of 1, 16 and 8.
-  pub writing_refused : (n : ℕ) → ((write_rows formed table dictionary len).reply ≡ Refused n) ↔ WritingRefusedBy formed table dictionary len n
+  pub writing_refused : (n : ℕ) → ((write_rows formed table dictionary len).reply ≡ Err n) ↔ WritingRefusedBy formed table dictionary len n
   writing_refused n = (
     λ e. ⊎_elim
         (λ (R : Refusal). subst (WritingRefusedBy formed table dictionary len) (refused-number R.number n (sym (ap (λ (r : Written). r.reply) R.is) ∙ e)) R.by)
@@ -167,16 +167,16 @@ module _ (formed : Bool) (table dictionary : List ℕ) (len : ℕ) where
   )
 
   -- It then leaves zeros.
-  pub writing_refused_leaves : (n : ℕ) → (write_rows formed table dictionary len).reply ≡ Refused n → (write_rows formed table dictionary len).bytes ≡ replicate len 0
+  pub writing_refused_leaves : (n : ℕ) → (write_rows formed table dictionary len).reply ≡ Err n → (write_rows formed table dictionary len).bytes ≡ replicate len 0
   writing_refused_leaves n e = ap (λ (r : Written). r.bytes) (refused_by n ((writing_refused n).0 e))
 
-  accepted_is : (n : ℕ) → WritingAccepted formed table dictionary len n → write_rows formed table dictionary len ≡ written (Length n) (padded len lines)
+  accepted_is : (n : ℕ) → WritingAccepted formed table dictionary len n → write_rows formed table dictionary len ≡ written (Ok n) (padded len lines)
   accepted_is n A =
       by_none (rw (A.table_formed, A.dictionary_formed)) (none_lacks es (rows table) A.have_texts) (le-leb _ _ A.room)
-      ∙ ap (λ (m : ℕ). written (Length m) (padded len lines)) (sym A.size)
+      ∙ ap (λ (m : ℕ). written (Ok m) (padded len lines)) (sym A.size)
 
   -- Otherwise the reply is the length of the lines,
-  pub writing_accepted : (n : ℕ) → ((write_rows formed table dictionary len).reply ≡ Length n) ↔ WritingAccepted formed table dictionary len n
+  pub writing_accepted : (n : ℕ) → ((write_rows formed table dictionary len).reply ≡ Ok n) ↔ WritingAccepted formed table dictionary len n
   writing_accepted n = (
     λ e. ⊎_elim
         (λ (R : Refusal). length-not (sym e ∙ ap (λ (r : Written). r.reply) R.is))
@@ -186,7 +186,7 @@ module _ (formed : Bool) (table dictionary : List ℕ) (len : ℕ) where
   )
 
   -- and the output is the lines and zeros.
-  pub writing_accepted_gives : (n : ℕ) → (write_rows formed table dictionary len).reply ≡ Length n → (write_rows formed table dictionary len).bytes ≡ padded len (rows_bytes (entries dictionary) (rows table))
+  pub writing_accepted_gives : (n : ℕ) → (write_rows formed table dictionary len).reply ≡ Ok n → (write_rows formed table dictionary len).bytes ≡ padded len (rows_bytes (entries dictionary) (rows table))
   writing_accepted_gives n e = ap (λ (r : Written). r.bytes) (accepted_is n ((writing_accepted n).0 e))
 
   -- The output stays as long as it was.

@@ -1,12 +1,11 @@
 -- Rows written as canonical N-Triples, with the texts of a dictionary (document 02, slip 3). Definitions only.
-use Rattle.std.specs.Prelude.{ℕ, zero, suc, Bool, ◌&&◌, List, [], ◌∷◌, ◌++◌, map, length, replicate, leb, ltb}
+use Rattle.std.specs.Prelude.{ℕ, zero, suc, Bool, ◌&&◌, List, [], ◌∷◌, ◌++◌, map, length, replicate, leb, ltb, Ok, Err}
+use Rattle.spec.specs.Outputs.{Reply}
 use Rattle.spec.specs.declared.Triple.{Triple}
 use Rattle.spec.specs.Terms.{kind}
 use Rattle.spec.specs.Lists.{all, padded}
 use Rattle.spec.specs.Refusals.{first_refusal}
 use Rattle.spec.specs.Tables.{rows, is_statement_table, is_fact_table, is_kept_table}
-use Rattle.spec_ntriples.specs.declared.ByteReply.{ByteReply}
-use Rattle.spec_ntriples.specs.declared.ByteReply.TheVariants.{Length, Refused}
 use Rattle.spec_ntriples.specs.Characters.{codes}
 use Rattle.spec_ntriples.specs.Texts.{Text, text, TextTriple}
 use Rattle.spec_ntriples.specs.Dictionary.{Entry, entries, is_dictionary}
@@ -59,17 +58,17 @@ writing_checks formed es ts len =
 
 -- What a writing gives and leaves: its reply and the bytes of the output.
 pub record Written : Type 0 where
-  pub reply : ByteReply
+  pub reply : Reply
   pub bytes : List ℕ
 
 -- A reply with bytes.
-abbrev pub written : ByteReply → List ℕ → Written
+abbrev pub written : Reply → List ℕ → Written
 written r bs = record { reply = r; bytes = bs }
 
 -- The first "no" refuses and leaves the whole output zero; else "the length is the result and unused bytes are zero".
 unfoldable pub give_bytes : ℕ → List ℕ → ℕ → Written
-give_bytes (suc n) bs len = written (Refused (suc n)) (replicate len 0)
-give_bytes zero bs len = written (Length (length bs)) (padded len bs)
+give_bytes (suc n) bs len = written (Err (suc n)) (replicate len 0)
+give_bytes zero bs len = written (Ok (length bs)) (padded len bs)
 
 -- The rows of a table's words, which are formed or not, written with a dictionary into an output of len bytes.
 unfoldable pub write_rows : Bool → List ℕ → List ℕ → ℕ → Written

@@ -1,11 +1,10 @@
 -- What writing promises (document 02, slip 3), in words that its theorems use. Definitions only.
-use Rattle.std.specs.Prelude.{ℕ, ◌+◌, ◌*◌, ◌≤◌, ◌<◌, min, ◌≡◌, Bool, true, false, length, replicate}
+use Rattle.std.specs.Prelude.{ℕ, ◌+◌, ◌*◌, ◌≤◌, ◌<◌, min, ◌≡◌, Bool, true, false, length, replicate, Ok, Err}
 use mathlib.Core.List.{List, [], ◌∷◌, ◌++◌, map, Memᴰ}
 use Rattle.spec.specs.declared.Triple.{Triple}
 use Rattle.spec.specs.Lists.{padded}
 use Rattle.spec.specs.Tables.{rows}
 use Rattle.spec.specs.Messages.{Message, most_bytes, encode}
-use Rattle.spec_ntriples.specs.declared.ByteReply.TheVariants.{Length, Refused}
 use Rattle.spec_ntriples.specs.Characters.{codes}
 use Rattle.spec_ntriples.specs.Texts.{lower_char, xsd_string}
 use Rattle.spec_ntriples.specs.Expressions.{Matches}
@@ -80,6 +79,6 @@ statements_addition ts = record { statements_withdrawn = []; facts_withdrawn = [
 pub record ReadsBack (dictionary file : List ℕ) (n : ℕ) (says : Message) : Type 0 where
   pub fits
       : (len : ℕ) → 10 + 12 * n ≤ min len most_bytes
-      → read_nTriples dictionary file len ≡ read_file (Length (10 + 12 * n)) dictionary (padded len (encode says))
+      → read_nTriples dictionary file len ≡ read_file (Ok (10 + 12 * n)) dictionary (padded len (encode says))
   pub exceeds
-      : (len : ℕ) → min len most_bytes < 10 + 12 * n → read_nTriples dictionary file len ≡ read_file (Refused 15) dictionary (replicate len 0)
+      : (len : ℕ) → min len most_bytes < 10 + 12 * n → read_nTriples dictionary file len ≡ read_file (Err 15) dictionary (replicate len 0)

@@ -3,4 +3,4 @@ use Rattle.capi.proofs.Numbers.{reading_numbered}
 use Rattle.capi.proofs.families_read_ntriples.Goals as goal
 
 pub returns : goal.returns
-returns c = reading_numbered _ _ _ _ _ _ c.byte_reply_number.ensures.0 c.byte_reply_number.ensures.1 c.read_ntriples.ensures
+returns c = reading_numbered _ _ _ _ _ _ c.reply_number.ensures.0 c.reply_number.ensures.1 c.read_ntriples.ensures

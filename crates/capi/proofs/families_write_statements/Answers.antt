@@ -3,4 +3,4 @@ use Rattle.capi.proofs.Numbers.{writing_numbered}
 use Rattle.capi.proofs.families_write_statements.Goals as goal
 
 pub returns : goal.returns
-returns c = writing_numbered _ _ _ _ _ c.byte_reply_number.ensures.0 c.byte_reply_number.ensures.1 c.write_statements.ensures
+returns c = writing_numbered _ _ _ _ _ c.reply_number.ensures.0 c.reply_number.ensures.1 c.write_statements.ensures
