@@ -1,4 +1,5 @@
 -- The reply of a listing: what each way through it leaves is what the definition says. Assumes nothing.
+use Rattle.std.specs.Prelude.{Ok, Err}
 use Prim.Native.Nat.{ℕ, ◌*◌, ◌/◌, ◌≤◌, ◌<◌}
 use mathlib.Core.Path.{◌≡◌, sym, ◌∙◌}
 use mathlib.Core.Bool.{Bool, true, false}
@@ -11,7 +12,6 @@ use Rattle.spec.specs.Refusals.{first_refusal}
 use Rattle.spec.specs.Tables.{count, rows}
 use Rattle.spec.specs.inside.Laid.{WellFormed}
 use Rattle.spec.proofs.TableRows.{length-rows}
-use Rattle.spec.specs.declared.Reply.TheVariants.{Rows, Refused}
 use Rattle.spec.specs.Outputs.{are_fitting, filled, replied, give}
 use Rattle.spec.specs.Listings.{listing_rows, listing}
 use Rattle.listing_rows.specs.inside.Asked.{Listable}
@@ -40,23 +40,23 @@ unfolding are_fitting
 output_room {ws} {order} len L o h = omega (arith, leb-true (length (listing_rows order (rows ws))) (len / 3) h, listing-count L o)
 
 -- Refused by 1: the table is not well formed.
-pub refuses_table : (formed : Bool) (order len : ℕ) (ws s : List ℕ) → formed ≡ false → s ≡ replicate len 0 → replied (Refused 1) s ≡ listing formed order ws len
+pub refuses_table : (formed : Bool) (order len : ℕ) (ws s : List ℕ) → formed ≡ false → s ≡ replicate len 0 → replied (Err 1) s ≡ listing formed order ws len
 unfolding listing first_refusal give
 refuses_table formed order len ws s f e = rw (f, e)
 
 -- Refused by 12: there is no such order.
-pub refuses_order : (formed : Bool) (order len : ℕ) (ws s : List ℕ) → formed ≡ true → 5 < order → s ≡ replicate len 0 → replied (Refused 12) s ≡ listing formed order ws len
+pub refuses_order : (formed : Bool) (order len : ℕ) (ws s : List ℕ) → formed ≡ true → 5 < order → s ≡ replicate len 0 → replied (Err 12) s ≡ listing formed order ws len
 unfolding listing first_refusal give
 refuses_order formed order len ws s f o e = rw (f, e, lt-leb order 5 o)
 
 -- Refused by 8: the rows do not fit.
 pub refuses_room : (formed : Bool) (order len : ℕ) (ws s : List ℕ) → formed ≡ true → order ≤ 5 → are_fitting 3 len (listing_rows order (rows ws)) ≡ false → s ≡ replicate len 0
-    → replied (Refused 8) s ≡ listing formed order ws len
+    → replied (Err 8) s ≡ listing formed order ws len
 unfolding listing first_refusal give
 refuses_room formed order len ws s f o h e = rw (f, e, le-leb order 5 o, h)
 
 -- The rows are given, with their number.
 pub gives-rows : (formed : Bool) (order len n : ℕ) (ws s : List ℕ) → formed ≡ true → order ≤ 5 → are_fitting 3 len (listing_rows order (rows ws)) ≡ true
-    → length (listing_rows order (rows ws)) ≡ n → s ≡ filled len (listing_rows order (rows ws)) → replied (Rows n) s ≡ listing formed order ws len
+    → length (listing_rows order (rows ws)) ≡ n → s ≡ filled len (listing_rows order (rows ws)) → replied (Ok n) s ≡ listing formed order ws len
 unfolding listing first_refusal give
 gives-rows formed order len n ws s f o h c e = rw (f, e, le-leb order 5 o, h, ← c)

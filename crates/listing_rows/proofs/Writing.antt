@@ -8,7 +8,7 @@ use lib.ListN.{length, get_or, set, length-set}
 use lib.Seq.{get_or-set_same, get_or-set_other}
 use Rattle.spec.specs.declared.Triple.{Triple}
 use Rattle.spec.specs.Tables as table
-use Rattle.rows.specs.inside.Rows.{row, row_at}
+use Rattle.rows.specs.inside.Rows.{row}
 use Rattle.rows.proofs.RowWords.{row_ext}
 use Rattle.rows.proofs.Tables.{eq_or}
 use Rattle.spec.specs.Listings.{column}
@@ -63,10 +63,6 @@ row_written t cs i x y z out l h p q r = record {
 
 -- ---- the loop over the rows
 
--- No row is written.
-pub none_written : (cs ws t : List ℕ) → RowsWritten cs 0 ws t t
-none_written cs ws t = record { each = λ j h. absurd (omega arith); after = λ w h. refl }
-
 -- One row more is written.
 pub more-written : (cs : List ℕ) (i : ℕ) (r : Triple) (ws t s u : List ℕ) → RowsWritten cs i ws t s → r ≡ table.row_at ws i → RowWritten i (map (column r) cs) s u → RowsWritten cs (i + 1) ws t u
 more-written cs i r ws t s u R q W = record {
@@ -76,7 +72,3 @@ more-written cs i r ws t s u R q W = record {
       (eq_or j i);
   after = λ w h. W.after w (omega arith) ∙ R.after w (omega arith);
 }
-
--- All rows are written.
-pub written_whole : (cs : List ℕ) (i n : ℕ) (ws t s : List ℕ) → RowsWritten cs i ws t s → i ≡ n → RowsWritten cs n ws t s
-written_whole cs i n ws t s R e = rw e at R

@@ -51,13 +51,10 @@ fn write_row(t: Triple, columns: [u32; 3], i: usize, out: &mut [u32])
     requires { i * 3 + 3 ≤ length out.old }
     ensures { RowWritten i (map (column t) columns) out.old out.new }
 {
-    let first = column(t, columns[0]);
-    let second = column(t, columns[1]);
-    let third = column(t, columns[2]);
     let at = i * 3;
-    out[at] = first;
-    out[at + 1] = second;
-    out[at + 2] = third;
+    out[at] = column(t, columns[0]);
+    out[at + 1] = column(t, columns[1]);
+    out[at + 2] = column(t, columns[2]);
 }
 
 // Writes the first n rows of a table, the columns of each in an order.
@@ -66,10 +63,8 @@ fn write_rows(table: &[u32], n: usize, columns: [u32; 3], out: &mut [u32])
     requires n_in_bounds_2 { n * 3 ≤ length out.old }
     ensures { RowsWritten columns n table.now out.old out.new }
 {
-    let mut i = 0;
-    while i < n {
+    for i in 0..n {
         write_row(row_at(table, i), columns, i, out);
-        i += 1;
     }
 }
 

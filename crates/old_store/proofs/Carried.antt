@@ -10,7 +10,7 @@ use native.Mathlib.Omega.{arith}
 use lib.ListN.{length, take, replicate, length-replicate, get_or-append}
 use lib.Seq.{get_or-take, length-take-le}
 use Rattle.spec.specs.declared.Triple.{Triple}
-use Rattle.spec.specs.Tables.{most_statements, most_facts, most_kept, count, rows, layout, is_table, Tables, tables, are_formed, contents, ledger, contents_of, kept_of}
+use Rattle.spec.specs.Tables.{most_statements, most_facts, most_kept, count, rows, layout, is_table, Tables, are_formed, contents, ledger, contents_of, kept_of}
 use Rattle.spec.specs.inside.Laid.{WellFormed}
 use Rattle.spec.proofs.TableRows.{length-rows, rows-layout, length-layout, count-layout}
 use Rattle.spec.proofs.TableAll.{are_zero-replicate}

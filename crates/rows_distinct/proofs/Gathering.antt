@@ -1,4 +1,5 @@
 -- The reply of collected rows: what `finish` leaves is what the definition says. Assumes nothing.
+use Rattle.std.specs.Prelude.{Ok, Err}
 use Prim.Native.Nat.{ℕ, ◌+◌, ◌*◌, ◌/◌, ◌≤◌, ◌<◌}
 use mathlib.Core.Path.{◌≡◌, refl, sym, ap, ap₂, ◌∙◌, subst}
 use mathlib.Core.Bool.{true, false}
@@ -16,7 +17,6 @@ use Rattle.spec.proofs.RowOrder.{never, less_irrefl, less_trans}
 use Rattle.spec.proofs.OrderedRows.{ordered_iff, ordered_ascends, ascending_ext, above-member}
 use Rattle.rows.proofs.RowWords.{drop_ext}
 use Rattle.rows.proofs.Tables.{tabulate-length}
-use Rattle.spec.specs.declared.Reply.TheVariants.{Rows, Refused}
 use Rattle.spec.specs.Outputs.{are_fitting, filled, replied, give}
 use Rattle.output.proofs.Filled.{get_or_zeros, rows-filled}
 use Rattle.rows_distinct.specs.declared.Collected.{Collected}
@@ -53,12 +53,12 @@ exceeds_unfit m len R e =
     ascending-length e.proof_rows (ordered R) e.ascends (ordered_ascends R) (λ x i. (ordered_iff x R).1 (e.each_put x i)) in
     lt-leb (length (ordered R)) (len / m) (omega (arith, leb-false (length e.proof_rows) (len / m) e.too_many))
 
-pub gathers_refused : (m : ℕ) (R : List (List ℕ)) (t s : List ℕ) (c : Collected) → c.exceeded ≡ true → s ≡ replicate (length t) 0 → Collects m R t c → replied (Refused 8) s ≡ gathered m R (length t)
+pub gathers_refused : (m : ℕ) (R : List (List ℕ)) (t s : List ℕ) (c : Collected) → c.exceeded ≡ true → s ≡ replicate (length t) 0 → Collects m R t c → replied (Err 8) s ≡ gathered m R (length t)
 unfolding gathered give
 gathers_refused m R t s c h z C = rw (exceeds_unfit m (length t) R (C.exceeds h), z)
 
 -- Settled rows are given.
-pub gathers-rows : (m : ℕ) (R : List (List ℕ)) (t s : List ℕ) (c : Collected) → 0 < m → c.added ≡ 0 → c.exceeded ≡ false → length s ≡ length t → Collects m R s c → replied (Rows c.sorted) s ≡ gathered m R (length t)
+pub gathers-rows : (m : ℕ) (R : List (List ℕ)) (t s : List ℕ) (c : Collected) → 0 < m → c.added ≡ 0 → c.exceeded ≡ false → length s ≡ length t → Collects m R s c → replied (Ok c.sorted) s ≡ gathered m R (length t)
 unfolding gathered give are_fitting
 gathers-rows m R t s c pos a e z C =
     let o : c.sorted + c.added ≡ c.sorted = omega arith in
@@ -71,4 +71,4 @@ gathers-rows m R t s c pos a e z C =
     let w : s ≡ filled (length t) (ordered R) =
     rows-filled m c.sorted (length t) s (ordered R) z h q
     (drop_ext (c.sorted * m) (replicate (length t) 0) s (z ∙ sym (length-replicate {A = ℕ} (length t) 0)) (λ x g. C.zeros x (subst (λ (k : ℕ). k * m ≤ x) (sym o) g) ∙ sym (get_or_zeros (length t) x))) in
-    rw (le-leb (length (ordered R)) (length t / m) (omega arith)) (ap₂ replied (ap Rows (sym n)) w)
+    rw (le-leb (length (ordered R)) (length t / m) (omega arith)) (ap₂ replied (ap Ok (sym n)) w)

@@ -38,9 +38,8 @@ pub fn add(out: &mut [u32], m: usize, row: &[u32], c: Collected) -> Collected
 {
     write_row(out, m, c.sorted + c.added, row);
     Collected {
-        sorted: c.sorted,
         added: c.added + 1,
-        exceeded: c.exceeded,
+        ..c
     }
 }
 
@@ -56,9 +55,9 @@ pub fn settle(out: &mut [u32], m: usize, c: Collected) -> Collected
     }
     let sorted = merge_distinct(out, m, c.sorted, c.added);
     Collected {
-        sorted: sorted,
+        sorted,
         added: 0,
-        exceeded: c.exceeded,
+        ..c
     }
 }
 

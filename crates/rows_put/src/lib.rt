@@ -13,13 +13,7 @@ use rows_single::is_among;
 fn is_spare(c: Collected, free: usize) -> bool
     ensures { result ≡ true → 0 < free }
 {
-    if free == 0 {
-        return false;
-    }
-    if c.sorted == 0 {
-        return true;
-    }
-    c.added < free - 1
+    0 < free && (c.sorted == 0 || c.added < free - 1)
 }
 
 // Puts a row that is neither the last one added nor among the sorted rows, where the rows are settled: one that is there is not added, and one that has no room is one too many.
@@ -35,9 +29,8 @@ fn put_settled(out: &mut [u32], m: usize, row: &[u32], s: Collected) -> Collecte
     let room = out.len() / m;
     if room - (s.sorted + s.added) == 0 {
         return Collected {
-            sorted: s.sorted,
-            added: s.added,
             exceeded: true,
+            ..s
         };
     }
     add(out, m, row, s)

@@ -1,6 +1,6 @@
 -- A row written word by word. Assumes nothing.
 use Prim.Native.Nat.{ℕ, ◌+◌, ◌*◌, ◌≤◌, ◌<◌}
-use mathlib.Core.Path.{◌≡◌, refl, ◌∙◌}
+use mathlib.Core.Path.{◌≡◌, ◌∙◌}
 use mathlib.Core.Logic.{⊎_elim}
 use mathlib.Core.List.{List}
 use native.Mathlib.Omega.{arith}
@@ -16,9 +16,6 @@ pub record WriteLoop (p k : ℕ) (u t s : List ℕ) : Type 0 where
   pub here : (w : ℕ) → w < k → get_or s (p + w) 0 ≡ get_or u w 0
   pub before : (w : ℕ) → w < p → get_or s w 0 ≡ get_or t w 0
   pub after : (w : ℕ) → p + k ≤ w → get_or s w 0 ≡ get_or t w 0
-
-pub write_none : (p : ℕ) (u t : List ℕ) → WriteLoop p 0 u t t
-write_none p u t = record { here = λ w l. absurd (omega arith); before = λ w l. refl; after = λ w l. refl }
 
 pub write_more : (p k : ℕ) (u t s : List ℕ) → WriteLoop p k u t s → p + k < length s → WriteLoop p (k + 1) u t (set s (p + k) (get_or u k 0))
 write_more p k u t s h fits = record {

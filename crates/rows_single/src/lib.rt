@@ -6,34 +6,30 @@ ghost use Rattle.spec.specs.Rows.{less};
 ghost use Rattle.rows.specs.inside.Rows as sorted-rows;
 ghost use Rattle.rows_single.specs.inside.Effects.{Found, RowWritten};
 
-// Whether the m words from p on of one slice are below the m words from q on of another.
+// Whether the m words from p on of one slice are below the m words from q on of another. Word by word, since the order of slices is slower on rows of few words.
 fn less_words(t: &[u32], p: usize, u: &[u32], q: usize, m: usize) -> bool
     requires { (p + m ≤ length t.now) × (q + m ≤ length u.now) }
     ensures { result ≡ less (sorted-rows.row m p t.now) (sorted-rows.row m q u.now) }
 {
-    let mut k = 0;
-    while k < m {
+    for k in 0..m {
         let x = t[p + k];
         let y = u[q + k];
         if x != y {
             return x < y;
         }
-        k += 1;
     }
     false
 }
 
-// Whether the m words from p on are the first m words of a row.
+// Whether the m words from p on are the first m words of a row. Word by word, since == of slices is slower on rows of few words.
 pub fn is_same(t: &[u32], p: usize, row: &[u32], m: usize) -> bool
     requires { (p + m ≤ length t.now) × (m ≤ length row.now) }
     ensures { result ≡ true → sorted-rows.row m p t.now ≡ sorted-rows.row m 0 row.now }
 {
-    let mut k = 0;
-    while k < m {
+    for k in 0..m {
         if t[p + k] != row[k] {
             return false;
         }
-        k += 1;
     }
     true
 }
@@ -59,15 +55,13 @@ pub fn is_among(out: &[u32], m: usize, n: usize, row: &[u32]) -> bool
     !less_words(row, 0, out, lo * m, m)
 }
 
-// Writes a row as row n.
+// Writes a row as row n. Word by word, since copy_from_slice is slower on rows of few words.
 pub fn write_row(out: &mut [u32], m: usize, n: usize, row: &[u32])
     requires { (n * m + m ≤ length out.old) × (m ≤ length row.now) }
     ensures { RowWritten m n (sorted-rows.row m 0 row.now) out.old out.new }
 {
     let at = n * m;
-    let mut k = 0;
-    while k < m {
+    for k in 0..m {
         out[at + k] = row[k];
-        k += 1;
     }
 }

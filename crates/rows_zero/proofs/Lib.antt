@@ -1,2 +1,1 @@
 pub mod Zeroed
-pub mod ZeroLoop

@@ -9,11 +9,7 @@ pub fn zero_words(t: &mut [u32], a: usize, e: usize)
     requires { (a ≤ e) × (e ≤ length t.old) }
     ensures { WordsZeroed a e t.old t.new }
 {
-    let mut i = a;
-    while i < e {
-        t[i] = 0;
-        i += 1;
-    }
+    t[a..e].fill(0);
 }
 
 // Sets the supports, which have 16 bits, from place a up to e, without e, to zero.
@@ -21,9 +17,5 @@ pub fn zero_supports(supports: &mut [u16], a: usize, e: usize)
     requires { (a ≤ e) × (e ≤ length supports.old) }
     ensures { WordsZeroed a e supports.old supports.new }
 {
-    let mut place = a;
-    while place < e {
-        supports[place] = 0;
-        place += 1;
-    }
+    supports[a..e].fill(0);
 }

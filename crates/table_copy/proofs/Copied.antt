@@ -1,24 +1,17 @@
 -- Laws of words that are copied in front of others, and of zeros behind them. Assumes nothing.
-use Prim.Native.Nat.{ℕ, suc, ◌+◌, ◌-◌, ◌*◌, ◌≤◌, ◌<◌}
-use mathlib.Core.Path.{◌≡◌, refl, sym, ap, ◌∙◌}
+use Prim.Native.Nat.{ℕ, ◌+◌, ◌*◌, ◌≤◌}
+use mathlib.Core.Path.{◌≡◌, refl, ap, ◌∙◌}
 use mathlib.Core.List.{List, [], ◌∷◌, ◌++◌, append-nil}
 use native.Mathlib.Numerals.{add-one}
 use native.Mathlib.Omega.{arith}
-use lib.ListN.{length, get_or, take, drop, set, length-append, length-drop}
-use lib.Seq.{take-suc, drop-cons, append_snoc, set_at, take_at, length-take-le, drop-length}
+use lib.ListN.{length, take, drop, length-append, length-drop}
+use lib.Seq.{take_at, length-take-le, drop-length}
 use Rattle.spec.specs.Lists.{padded}
 use Rattle.spec.specs.Tables.{count, first_rows, rows, flatten, layout}
 use Rattle.spec.specs.inside.Laid.{Laid}
 use Rattle.spec.proofs.TableRows.{length-first_rows, flatten-first_rows}
 use Rattle.rows_zero.specs.inside.Effects.{WordsZeroed}
 use Rattle.rows_zero.proofs.Zeroed.{zeroed_is}
-
--- One word more.
-pub copied_more : (s d : List ℕ) (i : ℕ) → i < length s → i < length d → set (take i s ++ drop i d) i (get_or s i 0) ≡ take (i + 1) s ++ drop (i + 1) d
-copied_more s d i h k =
-    rw (add-one i, drop-cons d i 0 k, take-suc s i 0 h)
-    (set_at (take i s) (get_or d i 0) (drop (suc i) d) (get_or s i 0) i (length-take-le i s (omega arith))
-    ∙ sym (append_snoc (take i s) (get_or s i 0) (drop (suc i) d)))
 
 -- The words stay as many.
 pub copied-length : (s d : List ℕ) (n : ℕ) → n ≤ length s → n ≤ length d → length (take n s ++ drop n d) ≡ length d

@@ -14,11 +14,7 @@ fn copy_words(old: &[u32], n: usize, new: &mut [u32])
     requires n_in_bounds_2 { n ≤ length new.old }
     ensures { new.new ≡ take n old.now ++ drop n new.old }
 {
-    let mut i = 0;
-    while i < n {
-        new[i] = old[i];
-        i += 1;
-    }
+    new[..n].copy_from_slice(&old[..n]);
 }
 
 // Copies the first n numbers of 16 bits, each into a word.
@@ -27,10 +23,8 @@ fn copy_shorts(old: &[u16], n: usize, new: &mut [u32])
     requires n_in_bounds_2 { n ≤ length new.old }
     ensures { new.new ≡ take n old.now ++ drop n new.old }
 {
-    let mut place = 0;
-    while place < n {
-        new[place] = old[place] as u32;
-        place += 1;
+    for (place, x) in old[..n].iter().enumerate() {
+        new[place] = u32::from(*x);
     }
 }
 

@@ -1,7 +1,6 @@
 -- `list_rows` asks questions 1, 12 and 8 over a cleared output, and fills it where each is answered by yes.
 use mathlib.Core.Path.{◌∙◌}
-use native.Mathlib.Omega.{arith}
-use Rattle.listing.proofs.Replies.{table_room, listing-count, listing_fits, output_room, refuses_table, refuses_order, refuses_room, gives-rows}
+use Rattle.listing.proofs.Replies.{listing-count, listing_fits, output_room, refuses_table, refuses_order, refuses_room, gives-rows}
 use Rattle.listing.proofs.list_rows.Goals as goal
 
 pub returns-then-not-formed : goal.returns-then-not-formed
@@ -9,12 +8,6 @@ returns-then-not-formed c = refuses_table _ _ _ _ _ c.if-not-formed.true c.clear
 
 pub returns-then-order-gt-LAST_ORDER : goal.returns-then-order-gt-LAST_ORDER
 returns-then-order-gt-LAST_ORDER c = refuses_order _ _ _ _ _ c.if-not-formed.false c.if-order-gt-LAST_ORDER.true c.clear.ensures
-
-pub bounds-table-0 : goal.bounds-table-0
-bounds-table-0 c = omega (arith, table_room (c.requires c.if-not-formed.false))
-
-pub overflow_cast-n : goal.overflow_cast-n
-overflow_cast-n c = omega (arith, c.type_inv.table 0)
 
 pub returns-then-not-are_fitting : goal.returns-then-not-are_fitting
 returns-then-not-are_fitting c = let formed = c.if-not-formed.false in

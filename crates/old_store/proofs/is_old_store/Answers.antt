@@ -1,6 +1,5 @@
 -- By the tests of `is_old_store`, one by one; a well-formed table has a word for its count.
 use mathlib.Core.Path.{sym, ◌∙◌}
-use native.Mathlib.Omega.{arith}
 use Rattle.spec.specs.Terms.{is_allowed_fact}
 use Rattle.spec.proofs.TableFormed.{some_word}
 use Rattle.old_store.specs.CarryingOver.{old_facts, old_kept, is_old_store}
@@ -28,15 +27,9 @@ pub bounds-facts-0 : goal.bounds-facts-0
 bounds-facts-0 c = let facts = sym c.is_table-2.ensures ∙ c.if-not-is_table-2.false in
     some_word is_allowed_fact old_facts c.args.facts.now facts
 
-pub overflow_cast-facts : goal.overflow_cast-facts
-overflow_cast-facts c = omega (arith, c.type_inv.facts 0)
-
 pub bounds-kept-0 : goal.bounds-kept-0
 bounds-kept-0 c = let kept = sym c.is_table-3.ensures ∙ c.if-not-is_table-3.false in
     some_word is_allowed_fact old_kept c.args.kept.now kept
-
-pub overflow_cast-kept : goal.overflow_cast-kept
-overflow_cast-kept c = omega (arith, c.type_inv.kept 0)
 
 pub returns : goal.returns
 unfolding is_old_store

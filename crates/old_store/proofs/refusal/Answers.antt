@@ -1,6 +1,5 @@
 -- By the questions of `carrying_checks`, one by one; the tables of an old store have words for their counts.
 use mathlib.Core.Path.{refl, sym}
-use native.Mathlib.Omega.{arith}
 use Rattle.spec.specs.Tables.{tables}
 use Rattle.old_store.proofs.Carrying.{some_words, store_no, store_yes, both, by_1, by_4, by_5, by_none}
 use Rattle.old_store.proofs.refusal.Goals as goal
@@ -35,9 +34,6 @@ pub bounds-kept-0-2 : goal.bounds-kept-0-2
 bounds-kept-0-2 c = let T = tables c.args.statements.now c.args.facts.now c.args.kept.now c.args.supports.now in
     let store = store_yes T c.is_old_store.ensures c.if-not-is_old_store.false in
     (some_words T store).2
-
-pub overflow_cast-kept : goal.overflow_cast-kept
-overflow_cast-kept c = omega (arith, c.type_inv.kept 0)
 
 pub returns-then-not-has_room-kept : goal.returns-then-not-has_room-kept
 returns-then-not-has_room-kept c = let T = tables c.args.statements.now c.args.facts.now c.args.kept.now c.args.supports.now in

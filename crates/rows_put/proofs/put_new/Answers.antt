@@ -1,16 +1,9 @@
 -- `put_new` keeps what is collected, one row more: it is added, or put once the rows are settled.
 use Prim.Native.Nat.{◌+◌}
-use native.Mathlib.Nat.{le-mul_of_pos_right, le-div_iff_mul-le}
 use native.Mathlib.Omega.{arith}
 use lib.ListN.{length}
 use Rattle.rows_distinct.proofs.Collecting.{room_for_one}
 use Rattle.rows_put.proofs.put_new.Goals as goal
-
-pub overflow_add-c : goal.overflow_add-c
-overflow_add-c c = omega (arith, le-mul_of_pos_right (c.args.c.sorted + c.args.c.added) c.requires.m_nonzero.0)
-
-pub overflow_sub-room : goal.overflow_sub-room
-overflow_sub-room c = (le-div_iff_mul-le c.requires.m_nonzero.0).1 c.requires.m_nonzero.2
 
 pub add-requires : goal.add-requires
 add-requires c = let spare = c.is_spare.ensures c.if-is_spare.true in
