@@ -14,8 +14,7 @@ use Rattle.spec.specs.inside.Comparison.{Less, compare_triples}
 use Rattle.spec.proofs.Order.{less_ne, by_order_elim}
 use Rattle.spec.proofs.Tests.{order-less, order_same, order_more, same_yes, same_no}
 use Rattle.spec.proofs.Ascending.{insert_asc, insert_cases, remove_asc, remove_sub, remove-length}
-use Rattle.table_find.specs.declared.Found.{Found}
-use Rattle.table_find.specs.declared.Found.TheVariants.{At, Gap}
+use Rattle.std.specs.Prelude.{Result, Ok, Err}
 use Rattle.spec.specs.Tables.{capacity, rows, layout}
 use Rattle.spec.specs.Lists.{all}
 use Rattle.table_find.specs.inside.Search.{next, place}
@@ -26,14 +25,14 @@ use Rattle.spec.proofs.TableFormed.{capacity_fits, capacity_most, well_formed_of
 use Rattle.table_find.proofs.Place.{missing_at}
 
 -- What insertion does at a place.
-abbrev Inserted : Triple → List Triple → Found → Type 0
-Inserted x us (At i) = insert x us ≡ us
-Inserted x us (Gap i) = insert_at i x us ≡ insert x us
+abbrev Inserted : Triple → List Triple → Result ℕ ℕ → Type 0
+Inserted x us (Ok i) = insert x us ≡ us
+Inserted x us (Err i) = insert_at i x us ≡ insert x us
 
-inserted-next : (x u : Triple) (us : List Triple) → Less u x → (f : Found) → Inserted x us f → Inserted x (u ∷ us) (next f)
+inserted-next : (x u : Triple) (us : List Triple) → Less u x → (f : Result ℕ ℕ) → Inserted x us f → Inserted x (u ∷ us) (next f)
 unfolding insert insert_at
-inserted-next x u us l (At i) p = rw (order_more x u (x ∷ u ∷ us) (u ∷ us) (u ∷ insert x us) l) (ap (λ (r : List Triple). u ∷ r) p)
-inserted-next x u us l (Gap i) p = rw (order_more x u (x ∷ u ∷ us) (u ∷ us) (u ∷ insert x us) l) (ap (λ (r : List Triple). u ∷ r) p)
+inserted-next x u us l (Ok i) p = rw (order_more x u (x ∷ u ∷ us) (u ∷ us) (u ∷ insert x us) l) (ap (λ (r : List Triple). u ∷ r) p)
+inserted-next x u us l (Err i) p = rw (order_more x u (x ∷ u ∷ us) (u ∷ us) (u ∷ insert x us) l) (ap (λ (r : List Triple). u ∷ r) p)
 
 inserted : (x : Triple) (us : List Triple) → Inserted x us (place x us)
 unfolding place insert insert_at
@@ -44,22 +43,22 @@ inserted x (u ∷ us) =
     (λ l. sym (order-less x u (x ∷ u ∷ us) (u ∷ us) (u ∷ insert x us) l))
 
 -- Insertion at the gap is insertion into the set; what is there stays.
-pub insert_at_gap : (x : Triple) (us : List Triple) (i : ℕ) → place x us ≡ Gap i → insert_at i x us ≡ insert x us
+pub insert_at_gap : (x : Triple) (us : List Triple) (i : ℕ) → place x us ≡ Err i → insert_at i x us ≡ insert x us
 insert_at_gap x us i e = rw e at (inserted x us)
 
-pub insert-at : (x : Triple) (us : List Triple) (i : ℕ) → place x us ≡ At i → insert x us ≡ us
+pub insert-at : (x : Triple) (us : List Triple) (i : ℕ) → place x us ≡ Ok i → insert x us ≡ us
 insert-at x us i e = rw e at (inserted x us)
 
 -- What removal does at a place.
-abbrev Removed : Triple → List Triple → Found → Type 0
-Removed x us (At i) = remove_at i us ≡ remove x us
-Removed x us (Gap i) = Unit {0}
+abbrev Removed : Triple → List Triple → Result ℕ ℕ → Type 0
+Removed x us (Ok i) = remove_at i us ≡ remove x us
+Removed x us (Err i) = Unit {0}
 
-removed-next : (x u : Triple) (us : List Triple) → Less u x → (f : Found) → Removed x us f → Removed x (u ∷ us) (next f)
+removed-next : (x u : Triple) (us : List Triple) → Less u x → (f : Result ℕ ℕ) → Removed x us f → Removed x (u ∷ us) (next f)
 unfolding remove remove_at
-removed-next x u us l (At i) p =
+removed-next x u us l (Ok i) p =
     rw (suc-add, same_no x u us (u ∷ remove x us) (λ e. less_ne l (sym e))) (ap (λ (r : List Triple). u ∷ r) p)
-removed-next x u us l (Gap i) p = tt
+removed-next x u us l (Err i) p = tt
 
 removed : (x : Triple) (us : List Triple) → Removed x us (place x us)
 unfolding place remove remove_at
@@ -69,7 +68,7 @@ removed x (u ∷ us) =
     (λ e. sym (same_yes x u us (u ∷ remove x us) (sym e))) (λ _. tt)
 
 -- Removal of the row found is removal from the set; what is absent leaves it as it is.
-pub remove_at-at : (x : Triple) (us : List Triple) (i : ℕ) → place x us ≡ At i → remove_at i us ≡ remove x us
+pub remove_at-at : (x : Triple) (us : List Triple) (i : ℕ) → place x us ≡ Ok i → remove_at i us ≡ remove x us
 remove_at-at x us i e = rw e at (removed x us)
 
 pub remove_absent : (x : Triple) (us : List Triple) → ¬ Memᴰ x us → remove x us ≡ us
@@ -98,7 +97,7 @@ all_remove test x us a = member-all test (remove x us) (λ u m. all-member test 
 
 -- A well-formed table below capacity stays well formed with one allowed row more.
 pub well_formed-insert : {allowed : Triple → Bool} {most : ℕ} {ws : List ℕ} (vs : List ℕ) (i : ℕ) (x : Triple) → WellFormed allowed most ws → allowed x ≡ true → length (rows ws) < capacity most ws
-    → place x (rows ws) ≡ Gap i → vs ≡ layout (length ws) (insert_at i x (rows ws)) → WellFormed allowed most vs
+    → place x (rows ws) ≡ Err i → vs ≡ layout (length ws) (insert_at i x (rows ws)) → WellFormed allowed most vs
 well_formed-insert {allowed} {most} {ws} vs i x W a h p e =
     let q : insert_at i x (rows ws) ≡ insert x (rows ws) = insert_at_gap x (rows ws) i p in
     let n : length (insert_at i x (rows ws)) ≡ length (rows ws) + 1 = length-insert_at i x (rows ws) (missing_at x (rows ws) i p).within in
@@ -108,7 +107,7 @@ well_formed-insert {allowed} {most} {ws} vs i x W a h p e =
     (all_insert allowed x (rows ws) a W.each_allowed)
 
 -- And with one row less.
-pub well_formed-remove : {allowed : Triple → Bool} {most : ℕ} {ws : List ℕ} (vs : List ℕ) (i : ℕ) (x : Triple) → WellFormed allowed most ws → place x (rows ws) ≡ At i
+pub well_formed-remove : {allowed : Triple → Bool} {most : ℕ} {ws : List ℕ} (vs : List ℕ) (i : ℕ) (x : Triple) → WellFormed allowed most ws → place x (rows ws) ≡ Ok i
     → vs ≡ layout (length ws) (remove_at i (rows ws)) → WellFormed allowed most vs
 well_formed-remove {allowed} {most} {ws} vs i x W p e =
     let q : remove_at i (rows ws) ≡ remove x (rows ws) = remove_at-at x (rows ws) i p in

@@ -5,7 +5,8 @@ use mathlib.Core.List.{List, [], ◌∷◌, ◌++◌, append_assoc}
 use native.Mathlib.Numerals.{add-one}
 use native.Mathlib.Omega.{arith}
 use lib.ListN.{length, get_or, take, drop, set, replicate, length-append, length-drop}
-use lib.Seq.{take_at, drop-append-le, drop-append-add, length-take-le, set_at, split_at}
+use borrow.Rule.Slice.PartMut.{put_mid}
+use lib.Seq.{take_at, drop_at, drop-append-le, drop-append-add, length-take-le, split_at}
 use Rattle.spec.specs.declared.Triple.{Triple}
 use Rattle.spec.specs.Terms.{triple}
 use Rattle.spec.specs.Tables.{count, rows, flatten, layout}
@@ -13,7 +14,6 @@ use Rattle.table_change.specs.inside.Words.{remove_at}
 use Rattle.table_change.specs.inside.Words.{moved_down}
 use Rattle.spec.specs.inside.Laid.{Laid}
 use Rattle.spec.proofs.TableRows.{length-flatten, flatten-append, length-rows}
-use Rattle.table_change.proofs.Insert.{set_past}
 
 exactly_three : (l : List ℕ) → length l ≡ 3 → (u : ℕ) × (v : ℕ) × (w : ℕ) × (l ≡ u ∷ v ∷ w ∷ [])
 exactly_three [] h = absurd (omega arith)
@@ -38,12 +38,16 @@ closed P Q Z x y z k e h f =
     (drop-append-add P ((x ∷ y ∷ z ∷ Q) ++ Z) (length Q) ∙ drop-append-le (length Q) (x ∷ y ∷ z ∷ Q) Z (omega arith) ∙ ap (λ (l : List ℕ). l ++ Z) T.3) in
     (T.0, T.1, T.2, rw (take_at P ((x ∷ y ∷ z ∷ Q) ++ Z) k h, t₁, t₂, t₃) (sym (append_assoc P Q (T.0 ∷ T.1 ∷ T.2 ∷ Z))))
 
-drop_split : (len : ℕ) (a b : List Triple) (x : Triple) (k e m : ℕ) → length a * 3 + 1 ≡ k → length (a ++ b) * 3 + 1 ≡ e → m ≡ length (a ++ b)
+-- The three words behind A are filled with zeros.
+filled : (A Z : List ℕ) (u v w e n : ℕ) → length A ≡ e → n ≡ 3
+    → put_mid e n (A ++ (u ∷ v ∷ w ∷ Z)) (replicate (length (take n (drop e (A ++ (u ∷ v ∷ w ∷ Z))))) 0) ≡ A ++ (0 ∷ 0 ∷ 0 ∷ Z)
+filled A Z u v w e n h q = rw (q, take_at A (u ∷ v ∷ w ∷ Z) e h, drop_at A (u ∷ v ∷ w ∷ Z) e h)
+
+drop_split : (len : ℕ) (a b : List Triple) (x : Triple) (k e n m : ℕ) → length a * 3 + 1 ≡ k → length (a ++ b) * 3 + 1 ≡ e → n ≡ 3 → m ≡ length (a ++ b)
     → length (a ++ b) * 3 + 3 < len
-    → set (set (set (set (moved_down k e (layout len (a ++ (x ∷ b)))) e 0) (e + 1) 0) (e + 2) 0) 0 m
-    ≡ layout len (a ++ b)
+    → (let v = moved_down k e (layout len (a ++ (x ∷ b))) in set (put_mid e n v (replicate (length (take n (drop e v))) 0)) 0 m) ≡ layout len (a ++ b)
 unfolding layout flatten
-drop_split len a b x k e m i j l h =
+drop_split len a b x k e three m i j o l h =
     let n : ℕ = length (a ++ (x ∷ b)) in
     let P : List ℕ = n ∷ flatten a in
     let Q : List ℕ = flatten b in
@@ -55,18 +59,15 @@ drop_split len a b x k e m i j l h =
     let s₀ : moved_down k e (layout len (a ++ (x ∷ b))) ≡ (P ++ Q) ++ (C.0 ∷ C.1 ∷ C.2 ∷ Z) =
     rw (flatten-append a (x ∷ b), append_assoc (flatten a) (x.subject ∷ x.property ∷ x.object ∷ Q) Z) C.3 in
     let both : length (P ++ Q) ≡ e = rw (length-append P Q) (omega arith) in
-    let s₁ : set ((P ++ Q) ++ (C.0 ∷ C.1 ∷ C.2 ∷ Z)) e 0 ≡ (P ++ Q) ++ (0 ∷ C.1 ∷ C.2 ∷ Z) = set_at (P ++ Q) _ _ 0 e both in
-    let s₂ : set ((P ++ Q) ++ (0 ∷ C.1 ∷ C.2 ∷ Z)) (e + 1) 0 ≡ (P ++ Q) ++ (0 ∷ 0 ∷ C.2 ∷ Z) = set_past (P ++ Q) _ e 1 0 both in
-    let s₃ : set ((P ++ Q) ++ (0 ∷ 0 ∷ C.2 ∷ Z)) (e + 2) 0 ≡ (P ++ Q) ++ (0 ∷ 0 ∷ 0 ∷ Z) = set_past (P ++ Q) _ e 2 0 both in
     let z : len - (length (a ++ b) * 3 + 1) ≡ suc (suc (suc (len - (n * 3 + 1)))) = omega arith in
-    rw (s₀, s₁, s₂, s₃, l, z, flatten-append)
+    rw (s₀, filled (P ++ Q) Z C.0 C.1 C.2 e three both o, l, z, flatten-append)
 
--- The words as `remove_at` leaves them: v is what `move_down` left of ws.
-pub drop-row : (ws v : List ℕ) (at : ℕ) → Laid ws → at < length (rows ws) → v ≡ moved_down (at * 3 + 1) (count ws * 3 - 2) ws
-    → set (set (set (set v (count ws * 3 - 2) 0) (count ws * 3 - 2 + 1) 0) (count ws * 3 - 2 + 2) 0) 0 (count ws - 1)
-    ≡ layout (length ws) (remove_at at (rows ws))
+-- The words as `remove_at` leaves them: v is what `copy_within` left of ws, and zs the n zeros that `fill` wrote.
+pub drop-row : (ws v zs : List ℕ) (at n : ℕ) → Laid ws → at < length (rows ws) → n ≡ 3 → v ≡ moved_down (at * 3 + 1) (count ws * 3 - 2) ws
+    → zs ≡ replicate (length (take n (drop (count ws * 3 - 2) v))) 0
+    → set (put_mid (count ws * 3 - 2) n v zs) 0 (count ws - 1) ≡ layout (length ws) (remove_at at (rows ws))
 unfolding remove_at
-drop-row ws v at L h e =
+drop-row ws v zs at three L h o e f =
     let rs : List Triple = rows ws in
     let a : List Triple = take at rs in
     let b : List Triple = drop (suc at) rs in
@@ -76,5 +77,5 @@ drop-row ws v at L h e =
     let n : length rs ≡ length (a ++ b) + 1 = omega (arith, simp length-append at (ap length is), length-append a b) in
     let cnt : length rs ≡ count ws = length-rows ws in
     let room : length rs * 3 < length ws = L.fits in
-    let step = drop_split (length ws) a b x (at * 3 + 1) (count ws * 3 - 2) (count ws - 1) (rw la) (omega arith) (omega arith) (omega arith) in
-    rw (e, add-one at) (rw (← is, ← L.is_layout) at step)
+    let step = drop_split (length ws) a b x (at * 3 + 1) (count ws * 3 - 2) three (count ws - 1) (rw la) (omega arith) o (omega arith) (omega arith) in
+    rw (f, e, add-one at) (rw (← is, ← L.is_layout) at step)

@@ -14,7 +14,7 @@ use Rattle.spec.proofs.Order.{of_subject, of_property, of_object}
 use Rattle.spec.proofs.Ascending.{and_left, and_right}
 use Rattle.spec.specs.Tables.{row_at, first_rows}
 use Rattle.spec.proofs.TableRows.{length-first_rows, get_or-row_at}
-use Rattle.table_find.specs.declared.Found.TheVariants.{At, Gap}
+use Rattle.std.specs.Prelude.{Ok, Err}
 use Rattle.table_find.specs.inside.Search.{place}
 use Rattle.table.specs.inside.Bounds.{Tells, Below}
 use Rattle.table_find.proofs.Place.{place_at_lem, place_gap}
@@ -32,12 +32,12 @@ no_triple : Triple
 no_triple = triple 0 0 0
 
 module _ (t : List ℕ) (n : ℕ) (x : Triple) where
-  pub found_at : {i : ℕ} → Below t n x i → i < n → row_at t i ≡ x → place x (first_rows n (drop 1 t)) ≡ At i
+  pub found_at : {i : ℕ} → Below t n x i → i < n → row_at t i ≡ x → place x (first_rows n (drop 1 t)) ≡ Ok i
   found_at {i} B h e =
       place_at_lem x (first_rows n (drop 1 t)) no_triple i (rw length-first_rows h)
       (λ k q. rw (get_or-row_at t n k no_triple (omega arith)) (B.less k q)) (rw (get_or-row_at t n i no_triple h) e)
 
-  pub found_gap : {i : ℕ} → Below t n x i → (i < n → ¬ (row_at t i ≡ x)) → place x (first_rows n (drop 1 t)) ≡ Gap i
+  pub found_gap : {i : ℕ} → Below t n x i → (i < n → ¬ (row_at t i ≡ x)) → place x (first_rows n (drop 1 t)) ≡ Err i
   found_gap {i} B e =
       place_gap x (first_rows n (drop 1 t)) no_triple i (rw length-first_rows B.within)
       (λ k q. rw (get_or-row_at t n k no_triple (omega (arith, B.within))) (B.less k q))

@@ -5,38 +5,11 @@ ghost use Rattle.std.specs.Prelude.{◌≡◌, true, ◌+◌, ◌*◌, ◌<◌, 
 ghost use Rattle.spec.specs.Order.{is_ascending};
 ghost use Rattle.spec.specs.Tables.{row_at, first_rows};
 ghost use Rattle.table.specs.inside.Bounds.{Tells};
-ghost use Rattle.table_find.specs.inside.Search.{Says, ordering, place};
+ghost use Rattle.table_find.specs.inside.Search.{ordering, place};
 
 use spec::Triple;
+use std::cmp::Ordering;
 use table::lower_bound;
-
-// How one row stands to another.
-#[derive(Clone, Copy)]
-pub enum Ordering {
-    Lower,
-    Equal,
-    Higher,
-}
-
-// Where a row stands, or the gap where it would stand.
-#[derive(Clone, Copy)]
-pub enum Found {
-    At(usize),
-    Gap(usize),
-}
-
-// How one word stands to another.
-pub fn compare(a: u32, b: u32) -> Ordering
-    ensures { Says result a b }
-{
-    if a < b {
-        Ordering::Lower
-    } else if b < a {
-        Ordering::Higher
-    } else {
-        Ordering::Equal
-    }
-}
 
 // How row i stands to x: the first words that differ decide.
 pub fn compare_at(t: &[u32], i: usize, x: Triple) -> Ordering
@@ -44,14 +17,12 @@ pub fn compare_at(t: &[u32], i: usize, x: Triple) -> Ordering
     ensures { result ≡ ordering (row_at t.now i) x }
 {
     let at = i * 3 + 1;
-    match compare(t[at], x.subject) {
-        Ordering::Lower => Ordering::Lower,
-        Ordering::Higher => Ordering::Higher,
-        Ordering::Equal => match compare(t[at + 1], x.property) {
-            Ordering::Lower => Ordering::Lower,
-            Ordering::Higher => Ordering::Higher,
-            Ordering::Equal => compare(t[at + 2], x.object),
+    match t[at].cmp(&x.subject) {
+        Ordering::Equal => match t[at + 1].cmp(&x.property) {
+            Ordering::Equal => t[at + 2].cmp(&x.object),
+            decided => decided,
         },
+        decided => decided,
     }
 }
 
@@ -64,17 +35,15 @@ fn is_row(t: &[u32], i: usize, x: Triple) -> bool
     (t[at] == x.subject) & (t[at + 1] == x.property) & (t[at + 2] == x.object)
 }
 
-// Where x stands among the first n rows, which ascend, or would stand.
-pub fn find(t: &[u32], n: usize, x: Triple) -> Found
+// Where x stands among the first n rows, which ascend, or else the gap where it would stand.
+pub fn find(t: &[u32], n: usize, x: Triple) -> Result<usize, usize>
     requires n_in_bounds { n * 3 < length t.now }
     requires t_value { is_ascending (first_rows n (drop 1 t.now)) ≡ true }
     ensures { result ≡ place x (first_rows n (drop 1 t.now)) }
 {
     let i = lower_bound(t, n, 0, n, x);
-    if i < n {
-        if is_row(t, i, x) {
-            return Found::At(i);
-        }
+    if i < n && is_row(t, i, x) {
+        return Ok(i);
     }
-    Found::Gap(i)
+    Err(i)
 }

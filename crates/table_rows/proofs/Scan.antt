@@ -1,9 +1,8 @@
 -- The scan of a table's rows, row by row. Assumes nothing.
-use Prim.Native.Nat.{ℕ, zero, suc, ◌+◌, ◌-◌, ◌*◌, ◌≤◌, ◌<◌}
+use Prim.Native.Nat.{ℕ, zero, suc, ◌+◌, ◌-◌, ◌≤◌, ◌<◌}
 use mathlib.Core.Path.{◌≡◌, refl, sym, ◌∙◌}
 use mathlib.Core.Bool.{Bool, true, false, ◌&&◌, ◌||◌}
 use mathlib.Core.List.{List, [], ◌∷◌}
-use native.Mathlib.Nat.{add-zero}
 use native.Mathlib.Omega.{arith}
 use lib.ListN.{length, get_or, drop}
 use lib.Dec.{ltb, eqb}
@@ -11,10 +10,9 @@ use borrow.Author.Tests.{lt-ltb, le-ltb, eq-eqb, ne_eqb}
 use Rattle.spec.specs.declared.Triple.{Triple}
 use Rattle.spec.specs.Terms.{triple}
 use Rattle.spec.specs.Order.{is_less, is_ascending}
-use Rattle.spec.specs.inside.Comparison.{Less, by_subject, by_property, by_object, triple_eq, less_irrefl, Trichotomy, less, same, more, compare_triples}
-use Rattle.spec.proofs.Order.{less_asym}
-use Rattle.spec.proofs.Tests.{less-is_less, more-is_less, same-is_less, is_less_false}
-use Rattle.spec.specs.Tables.{triple_from, row_at, first_rows}
+use Rattle.spec.specs.inside.Comparison.{Less, by_subject, by_property, by_object, Trichotomy, less, same, more, compare_triples}
+use Rattle.spec.proofs.Tests.{less-is_less, more-is_less, same-is_less}
+use Rattle.spec.specs.Tables.{row_at, first_rows}
 use Rattle.spec.specs.Lists.{all}
 use Rattle.spec.proofs.TableRows.{length-first_rows, get_or-row_at}
 use Rattle.spec.proofs.TableAll.{and_false, and_assoc, all-next, all_end}
@@ -83,11 +81,11 @@ module _ (test : Triple → Bool) (ws : List ℕ) (n : ℕ) where
       let a : i - 1 ≡ i + 1 - 1 = omega arith in
       rw (pass-next i h, e, a)
 
-  pub ascended : (i : ℕ) → 0 < i → i < n → test (row_at ws i) ≡ true → Less (row_at ws (i - 1)) (row_at ws i) → are_rows_from test ws n i ≡ are_rows_from test ws n (i + 1)
-  ascended i p h e l = rw (next_row i p h, e, less-is_less l)
+  pub ascended : (i : ℕ) → 0 < i → i < n → test (row_at ws i) ≡ true → is_less (row_at ws (i - 1)) (row_at ws i) ≡ true → are_rows_from test ws n i ≡ are_rows_from test ws n (i + 1)
+  ascended i p h e l = rw (next_row i p h, e, l)
 
-  pub not_ascended : (i : ℕ) → 0 < i → i < n → ¬ Less (row_at ws (i - 1)) (row_at ws i) → are_rows_from test ws n i ≡ false
-  not_ascended i p h l = rw (next_row i p h, is_less_false (row_at ws (i - 1)) (row_at ws i) l, and_false (test (row_at ws i)))
+  pub not_ascended : (i : ℕ) → 0 < i → i < n → is_less (row_at ws (i - 1)) (row_at ws i) ≡ false → are_rows_from test ws n i ≡ false
+  not_ascended i p h l = rw (next_row i p h, l, and_false (test (row_at ws i)))
 
 -- The rows from a on, in two parts: those up to b, k in number, and those from b on.
 in_parts : (test : Triple → Bool) (ws : List ℕ) (k a b n : ℕ) → 0 < a → a + k ≡ b → b ≤ n → are_rows_from test ws n a ≡ (are_rows_from test ws b a && are_rows_from test ws n b)
@@ -108,40 +106,7 @@ pub row_fold : (ok : Bool) (test : Triple → Bool) (ws : List ℕ) (n i : ℕ) 
 row_fold ok test ws n i a b c d p h =
     rw (b, d, a, c, next_row test ws n i p h) (and_assoc ok (test (row_at ws i) && is_less (row_at ws (i - 1)) (row_at ws i)) (are_rows_from test ws n (i + 1)))
 
--- ---- two rows, word by word
-
--- The words at p and at q are equal up to the k-th.
-abbrev pub Same : List ℕ → ℕ → ℕ → ℕ → Type 0
-Same ws p q k = (j : ℕ) → j < k → get_or ws (p + j) 0 ≡ get_or ws (q + j) 0
-
-less-words : (ws : List ℕ) (p q k : ℕ) → k < 3 → Same ws p q k → get_or ws (p + k) 0 < get_or ws (q + k) 0 → Less (triple_from ws p) (triple_from ws q)
-less-words ws p q zero h s l = by_subject (rw (add-zero p, add-zero q) at l)
-less-words ws p q (suc zero) h s l = by_property (rw (add-zero p, add-zero q) at (s 0 (omega arith))) l
-less-words ws p q (suc (suc zero)) h s l = by_object (rw (add-zero p, add-zero q) at (s 0 (omega arith))) (s 1 (omega arith)) l
-less-words ws p q (suc (suc (suc k))) h s l = absurd (omega arith)
-
-same-words : (ws : List ℕ) (p q : ℕ) → Same ws p q 3 → triple_from ws p ≡ triple_from ws q
-same-words ws p q s = triple_eq _ _ (rw (add-zero p, add-zero q) at (s 0 (omega arith))) (s 1 (omega arith)) (s 2 (omega arith))
-
--- The row before row i.
-row_before : (ws : List ℕ) (i : ℕ) → 0 < i → row_at ws (i - 1) ≡ triple_from ws (i * 3 + 1 - 3)
-unfolding row_at
-row_before ws i h = let e : (i - 1) * 3 + 1 ≡ i * 3 + 1 - 3 = omega arith in rw e
-
-module _ (ws : List ℕ) (i : ℕ) (h : 0 < i) (k : ℕ) (s : Same ws (i * 3 + 1 - 3) (i * 3 + 1) k) where
-  pub less_before : k < 3 → get_or ws (i * 3 + 1 - 3 + k) 0 < get_or ws (i * 3 + 1 + k) 0 → Less (row_at ws (i - 1)) (row_at ws i)
-  unfolding row_at
-  less_before q l = rw (row_before ws i h) (less-words ws _ _ k q s l)
-
-  pub more_before : k < 3 → get_or ws (i * 3 + 1 + k) 0 < get_or ws (i * 3 + 1 - 3 + k) 0 → ¬ Less (row_at ws (i - 1)) (row_at ws i)
-  unfolding row_at
-  more_before q l = rw (row_before ws i h) (λ m. less_asym m (less-words ws _ _ k q (λ j w. sym (s j w)) l))
-
-  pub same_before : 3 ≤ k → ¬ Less (row_at ws (i - 1)) (row_at ws i)
-  unfolding row_at
-  same_before q = rw (row_before ws i h, same-words ws (i * 3 + 1 - 3) (i * 3 + 1) (λ j w. s j (omega arith))) less_irrefl
-
--- ---- two rows, all words at once
+-- ---- two rows
 
 abbrev tested : Triple → Triple → Bool
 tested x y = ltb x.subject y.subject || (eqb x.subject y.subject && (ltb x.property y.property || (eqb x.property y.property && ltb x.object y.object)))

@@ -13,40 +13,6 @@ use terms::{is_allowed_fact, is_allowed_statement};
 // How many rows of facts are tested before the answer is looked at.
 const BLOCK: usize = 64;
 
-// Whether the first n rows are statements and ascend. Two rows are compared up to the first words that differ.
-pub fn are_statement_rows(t: &[u32], n: usize) -> bool
-    requires { n * 3 < length t.now }
-    ensures { result ≡ are_rows_from is_allowed_statement t.now n 0 }
-{
-    let mut i = 0;
-    'rows: while i < n {
-        let row = i;
-        i += 1;
-        if !is_allowed_statement(row_at(t, row)) {
-            return false;
-        }
-        if row == 0 {
-            continue 'rows;
-        }
-        let at = row * 3 + 1;
-        let before = at - 3;
-        let mut k = 0;
-        'words: while k < 3 {
-            let a = t[before + k];
-            let b = t[at + k];
-            if a < b {
-                continue 'rows;
-            }
-            if b < a {
-                return false;
-            }
-            k += 1;
-        }
-        return false;
-    }
-    true
-}
-
 // Whether a row is less than another. No branch.
 fn is_less(x: Triple, y: Triple) -> bool
     ensures { result ≡ is_less x y }
@@ -56,6 +22,23 @@ fn is_less(x: Triple, y: Triple) -> bool
             & ((x.property < y.property) | ((x.property == y.property) & (x.object < y.object))))
 }
 
+// Whether the first n rows are statements and ascend.
+pub fn are_statement_rows(t: &[u32], n: usize) -> bool
+    requires { n * 3 < length t.now }
+    ensures { result ≡ are_rows_from is_allowed_statement t.now n 0 }
+{
+    for i in 0..n {
+        let row = row_at(t, i);
+        if !is_allowed_statement(row) {
+            return false;
+        }
+        if 0 < i && !is_less(row_at(t, i - 1), row) {
+            return false;
+        }
+    }
+    true
+}
+
 // Whether the rows from row a up to row b are facts and each is above the row before it. The loop has no exit, so that the compiler can
 // test several rows at once.
 fn are_facts_between(t: &[u32], a: usize, b: usize) -> bool
@@ -63,16 +46,15 @@ fn are_facts_between(t: &[u32], a: usize, b: usize) -> bool
     ensures { result ≡ are_rows_from is_allowed_fact t.now b a }
 {
     let mut ok = true;
-    let mut i = a;
-    while i < b {
+    for i in a..b {
         let x = row_at(t, i);
         ok = ok & (is_allowed_fact(x) & is_less(row_at(t, i - 1), x));
-        i += 1;
     }
     ok
 }
 
-// Whether the first n rows are facts and ascend: the first row, then block by block.
+// Whether the first n rows are facts and ascend: the first row, then block by block. Counted by hand: i goes a block on at a time, and
+// the rows behind the last whole block come after the loop.
 pub fn are_fact_rows(t: &[u32], n: usize) -> bool
     requires { n * 3 < length t.now }
     ensures { result ≡ are_rows_from is_allowed_fact t.now n 0 }

@@ -11,11 +11,7 @@ use table_zeros::are_supports_zero;
 fn highest_support(facts: usize) -> u16
     ensures { (u : ℕ) → u < 2 ^ 16 → leb u result ≡ leb u facts }
 {
-    if facts < u16::MAX as usize {
-        facts as u16
-    } else {
-        u16::MAX
-    }
+    u16::try_from(facts).unwrap_or(u16::MAX)
 }
 
 // Whether the first n supports lie between 1 and the number of facts. The loop has no exit, so that the compiler can test several at once.
@@ -25,10 +21,8 @@ fn are_supports(u: &[u16], facts: usize, n: usize) -> bool
 {
     let highest = highest_support(facts);
     let mut ok = true;
-    let mut i = 0;
-    while i < n {
-        ok = ok & ((1 <= u[i]) & (u[i] <= highest));
-        i += 1;
+    for support in &u[..n] {
+        ok = ok & ((1 <= *support) & (*support <= highest));
     }
     ok
 }
@@ -40,9 +34,5 @@ pub fn is_support_table(u: &[u16], facts: usize, n: usize) -> bool
     if u.len() < n {
         return false;
     }
-    if are_supports(u, facts, n) {
-        are_supports_zero(u, n)
-    } else {
-        false
-    }
+    are_supports(u, facts, n) && are_supports_zero(u, n)
 }

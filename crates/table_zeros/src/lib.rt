@@ -2,30 +2,30 @@
 #![tactic(auto)]
 
 ghost use Rattle.std.specs.Prelude.{◌≡◌, drop};
+ghost use Rattle.spec.specs.Lists.{all};
 ghost use Rattle.spec.specs.Tables.{are_zero};
 
-// Whether the words from an index on are all zero. The loop has no exit, so that the compiler can test several at once.
-pub fn are_words_zero(t: &[u32], from: usize) -> bool
-    ensures { result ≡ are_zero (drop from t.now) }
+// Whether the elements from an index on are all x. The loop has no exit, so that the compiler can test several at once.
+fn are_all<T: Copy + PartialEq>(t: &[T], from: usize, x: T) -> bool
+    ensures { result ≡ all (λ w. T.eq w x) (drop from t.now) }
 {
     let mut ok = true;
-    let mut i = from;
-    while i < t.len() {
-        ok = ok & (t[i] == 0);
-        i += 1;
+    for i in from..t.len() {
+        ok = ok & (t[i] == x);
     }
     ok
 }
 
-// Whether the supports from an index on are all zero. The loop has no exit, as above.
+// Whether the words from an index on are all zero.
+pub fn are_words_zero(t: &[u32], from: usize) -> bool
+    ensures { result ≡ are_zero (drop from t.now) }
+{
+    are_all(t, from, 0)
+}
+
+// Whether the supports from an index on are all zero.
 pub fn are_supports_zero(u: &[u16], from: usize) -> bool
     ensures { result ≡ are_zero (drop from u.now) }
 {
-    let mut ok = true;
-    let mut i = from;
-    while i < u.len() {
-        ok = ok & (u[i] == 0);
-        i += 1;
-    }
-    ok
+    are_all(u, from, 0)
 }

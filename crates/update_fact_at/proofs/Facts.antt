@@ -11,7 +11,7 @@ use Rattle.spec.specs.Terms.{is_triple, is_statement, is_allowed_fact}
 use Rattle.spec.specs.Order.{is_ascending}
 use Rattle.spec.specs.inside.Comparison.{Ascending}
 use Rattle.spec.proofs.Ascending.{and_left, and_right}
-use Rattle.table_find.specs.declared.Found.TheVariants.{At, Gap}
+use Rattle.std.specs.Prelude.{Ok, Err}
 use Rattle.spec.specs.Tables.{capacity, most_statements, most_facts, most_kept, count, first_rows, rows, flatten, layout, tables, capacities_of, contents_of, kept_of, put}
 use Rattle.table_find.specs.inside.Search.{place}
 use Rattle.table_change.specs.inside.Words.{insert_at, remove_at}
@@ -62,39 +62,39 @@ module _ {S F K U : List ℕ} (W : FormedStore S F K U) (t : Triple) (a : is_all
   passes = record { formed = formed_is_store W; is_triple = and_left _ _ a; sides = rw no_statement refl }
 
   -- Whether it is there, by what a search found.
-  present : {i : ℕ} → place t (rows F) ≡ At i → is_member t (contents_of (tables S F K U)).explicit ≡ true
+  present : {i : ℕ} → place t (rows F) ≡ Ok i → is_member t (contents_of (tables S F K U)).explicit ≡ true
   unfolding contents_of
   present {i} e = member_yes t (contents_of (tables S F K U)).explicit (rw no_statement (at_member t (rows F) i e))
 
-  missing : {i : ℕ} → place t (rows F) ≡ Gap i → is_member t (contents_of (tables S F K U)).explicit ≡ false
+  missing : {i : ℕ} → place t (rows F) ≡ Err i → is_member t (contents_of (tables S F K U)).explicit ≡ false
   unfolding contents_of
   missing {i} e = member_no t (contents_of (tables S F K U)).explicit (rw no_statement (gap_absent t (rows F) i W.facts.ascends e))
 
   -- A fact that is there is not added again, and one that is absent is not withdrawn.
-  pub fact_there : {i : ℕ} {d : Change} → d ≡ Addition → place t (rows F) ≡ At i → outcome Idle (tables S F K U) ≡ update d (tables S F K U) t
+  pub fact_there : {i : ℕ} {d : Change} → d ≡ Addition → place t (rows F) ≡ Ok i → outcome Idle (tables S F K U) ≡ update d (tables S F K U) t
   unfolding is_change
   fact_there q e = rw q (sym (update_idle Addition passes (rw (present e) refl)))
 
-  pub fact_absent : {i : ℕ} {d : Change} → d ≡ Withdrawal → place t (rows F) ≡ Gap i → outcome Idle (tables S F K U) ≡ update d (tables S F K U) t
+  pub fact_absent : {i : ℕ} {d : Change} → d ≡ Withdrawal → place t (rows F) ≡ Err i → outcome Idle (tables S F K U) ≡ update d (tables S F K U) t
   unfolding is_change
   fact_absent q e = rw q (sym (update_idle Withdrawal passes (missing e)))
 
   -- A fact that is not there changes the facts by entering, and one that is there by leaving.
-  enters : {i : ℕ} → place t (rows F) ≡ Gap i → is_change Addition t (contents_of (tables S F K U)).explicit ≡ true
+  enters : {i : ℕ} → place t (rows F) ≡ Err i → is_change Addition t (contents_of (tables S F K U)).explicit ≡ true
   unfolding is_change
   enters e = rw (missing e) refl
 
-  leaves : {i : ℕ} → place t (rows F) ≡ At i → is_change Withdrawal t (contents_of (tables S F K U)).explicit ≡ true
+  leaves : {i : ℕ} → place t (rows F) ≡ Ok i → is_change Withdrawal t (contents_of (tables S F K U)).explicit ≡ true
   unfolding is_change
   leaves e = present e
 
   -- The facts are full.
-  pub facts_full : {i : ℕ} → place t (rows F) ≡ Gap i → capacity most_facts F ≤ length (rows F) → outcome (Refused 4) (tables S F K U) ≡ add (tables S F K U) t
+  pub facts_full : {i : ℕ} → place t (rows F) ≡ Err i → capacity most_facts F ≤ length (rows F) → outcome (Refused 4) (tables S F K U) ≡ add (tables S F K U) t
   unfolding is_admitted contents_of
   facts_full e h = sym (update_full Addition passes (rw (missing e, no_statement) (le-ltb (length (rows F)) (capacity most_facts F) h)))
 
   -- They are not full.
-  below : {i : ℕ} → place t (rows F) ≡ Gap i → length (rows F) < capacity most_facts F → is_admitted (capacities_of (tables S F K U)) Addition t (contents_of (tables S F K U)).explicit ≡ true
+  below : {i : ℕ} → place t (rows F) ≡ Err i → length (rows F) < capacity most_facts F → is_admitted (capacities_of (tables S F K U)) Addition t (contents_of (tables S F K U)).explicit ≡ true
   unfolding is_admitted contents_of
   below e h = rw (missing e, no_statement) (lt-ltb (length (rows F)) (capacity most_facts F) h)
 
@@ -132,7 +132,7 @@ module _ {S F K U : List ℕ} (W : FormedStore S F K U) (t : Triple) (a : is_all
           omega (arith, raise_all-length (first_rows c rs) (kept_of K U), length_kept_of W, length-first_rows c rs, carried-bound (rows S) t, W.statements.within, capacity_most most_statements S)
 
       -- The kept facts do not fit.
-      pub kept-unfit : {i : ℕ} → place t (rows F) ≡ Gap i → length (rows F) < capacity most_facts F → min (capacity most_kept K) (length U) < length (rows K) + m → outcome (Refused 5) (tables S F K U) ≡ add (tables S F K U) t
+      pub kept-unfit : {i : ℕ} → place t (rows F) ≡ Err i → length (rows F) < capacity most_facts F → min (capacity most_kept K) (length U) < length (rows K) + m → outcome (Refused 5) (tables S F K U) ≡ add (tables S F K U) t
       unfolding is_kept_fitting contents_after kept_after contents_of
       kept-unfit p h l =
           sym (update-unfit Addition passes (enters p) (below p h)
@@ -152,7 +152,7 @@ module _ {S F K U : List ℕ} (W : FormedStore S F K U) (t : Triple) (a : is_all
       }
 
       -- The fact enters.
-      pub fact-added : {i : ℕ} {F' K' U' : List ℕ} → place t (rows F) ≡ Gap i → length (rows F) < capacity most_facts F → length (rows K) + m ≤ min (capacity most_kept K) (length U)
+      pub fact-added : {i : ℕ} {F' K' U' : List ℕ} → place t (rows F) ≡ Err i → length (rows F) < capacity most_facts F → length (rows K) + m ≤ min (capacity most_kept K) (length U)
           → F' ≡ layout (length F) (insert_at i t (rows F)) → Holding (raise_all (first_rows c rs) (kept_of K U)) K U K' U'
           → outcome Applied (tables S F' K' U') ≡ add (tables S F K U) t
       unfolding is_kept_fitting contents_after kept_after applying changed contents_of put
@@ -162,7 +162,7 @@ module _ {S F K U : List ℕ} (W : FormedStore S F K U) (t : Triple) (a : is_all
           ∙ rw (no_statement, ← listed, ← insert_at_gap t (rows F) i p, ← f, ← H.row_words, ← H.support_places, ← W.statements.laid.is_layout) refl)
 
     -- The fact goes.
-    pub fact_withdrawn : {i : ℕ} {F' K' U' : List ℕ} → place t (rows F) ≡ At i
+    pub fact_withdrawn : {i : ℕ} {F' K' U' : List ℕ} → place t (rows F) ≡ Ok i
         → F' ≡ layout (length F) (remove_at i (rows F)) → Holding (lower_all (first_rows c rs) (kept_of K U)) K U K' U'
         → outcome Applied (tables S F' K' U') ≡ withdraw (tables S F K U) t
     unfolding is_kept_fitting contents_after kept_after applying changed contents_of put

@@ -3,7 +3,6 @@
 
 ghost use Rattle.std.specs.Prelude.{◌≡◌, true};
 ghost use Rattle.spec.specs.Terms.{is_allowed_fact};
-ghost use Rattle.table_find.specs.declared.Found.TheVariants.{At, Gap};
 ghost use Rattle.spec.specs.Tables.{rows, tables};
 ghost use Rattle.table_find.specs.inside.Search.{place};
 ghost use Rattle.spec.specs.inside.Laid.{FormedStore};
@@ -27,7 +26,7 @@ pub fn add_new_fact(
 ) -> Answer
     requires formed_store { FormedStore statements.now facts.old kept.old supports.old }
     requires fact_value { is_allowed_fact fact ≡ true }
-    requires facts_value { place fact (rows facts.old) ≡ Gap at }
+    requires facts_value { place fact (rows facts.old) ≡ Err at }
     ensures { outcome result (tables statements.now facts.new kept.new supports.new) ≡ add (tables statements.now facts.old kept.old supports.old) fact }
 {
     let n = facts[0] as usize;
@@ -56,7 +55,7 @@ pub fn withdraw_old_fact(
 )
     requires formed_store { FormedStore statements.now facts.old kept.old supports.old }
     requires fact_value { is_allowed_fact fact ≡ true }
-    requires facts_value { place fact (rows facts.old) ≡ At at }
+    requires facts_value { place fact (rows facts.old) ≡ Ok at }
     ensures { outcome Applied (tables statements.now facts.new kept.new supports.new) ≡ withdraw (tables statements.now facts.old kept.old supports.old) fact }
 {
     let mut list = rdfs_carry::no_rows();

@@ -9,7 +9,6 @@ ghost use Rattle.spec.specs.Updates.{update};
 ghost use Rattle.spec.specs.inside.Pairs.{outcome};
 
 use spec::{Answer, Change, Triple};
-use table_find::Found;
 use update_fact_at::{add_new_fact, withdraw_old_fact};
 
 // Adds or withdraws a fact, once questions 1 to 3 are passed. Adding what is there is idle, whatever the capacities, and so is
@@ -28,14 +27,14 @@ pub fn update_fact(
 {
     let n = facts[0] as usize;
     match table_find::find(facts, n, fact) {
-        Found::At(at) => match change {
+        Ok(at) => match change {
             Change::Addition => Answer::Idle,
             Change::Withdrawal => {
                 withdraw_old_fact(statements, facts, kept, supports, fact, at);
                 Answer::Applied
             }
         },
-        Found::Gap(at) => match change {
+        Err(at) => match change {
             Change::Addition => add_new_fact(statements, facts, kept, supports, fact, at),
             Change::Withdrawal => Answer::Idle,
         },

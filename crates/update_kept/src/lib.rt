@@ -9,9 +9,5 @@ pub fn kept_capacity(kept: &[u32], supports: &[u16]) -> usize
     ensures { result ≡ min (capacity most_kept kept.now) (length supports.now) }
 {
     let rows = table::capacity(kept.len(), table::MOST_KEPT);
-    if rows < supports.len() {
-        rows
-    } else {
-        supports.len()
-    }
+    rows.min(supports.len())
 }

@@ -8,9 +8,9 @@ ghost use Rattle.update_kept.specs.inside.Entries.{entries, Room, Sought, Holdin
 ghost use Rattle.update_lower.specs.inside.Lowering.{Lowerable, Passed, Gapped, Cleared};
 
 use rows_zero::{zero_supports, zero_words};
+use std::cmp::Ordering;
 use table::row_from;
 use table_change::put_entry;
-use table_find::Ordering;
 
 // Where lowering stands: the rows before place write are done, and those from place read on stand as they did.
 #[derive(Clone, Copy)]
@@ -32,7 +32,8 @@ fn start_place(kept: &[u32], list: &[u32], c: usize) -> usize
 }
 
 // Lowers the support of each of c ascending rows that is kept by 1, from place from on; a row at 0 goes. What is left before place
-// write is done, and the rows from place read on stay as they are, once no row is left to lower.
+// write is done, and the rows from place read on stay as they are, once no row is left to lower. No `for`: how the
+// rows compare says which of the two lists goes on.
 fn lower_rows(kept: &mut [u32], supports: &mut [u16], list: &[u32], c: usize, from: usize) -> Moved
     requires lowerable { Lowerable kept.old supports.old list.now c }
     requires passed { Passed from kept.old list.now }
@@ -48,14 +49,14 @@ fn lower_rows(kept: &mut [u32], supports: &mut [u16], list: &[u32], c: usize, fr
         }
         let x = row_from(list, j);
         match table_find::compare_at(kept, i, x) {
-            Ordering::Lower => {
+            Ordering::Less => {
                 let row = table::row_at(kept, i);
                 let support = supports[i];
                 put_entry(kept, supports, k, row, support);
                 i += 1;
                 k += 1;
             }
-            Ordering::Higher => {
+            Ordering::Greater => {
                 j += 1;
             }
             Ordering::Equal => {
@@ -81,13 +82,11 @@ fn move_rest(kept: &mut [u32], supports: &mut [u16], from: usize, to: usize, n: 
     requires to_le_from { (to ≤ from) × (from ≤ n) }
     ensures { Gapped (take to (entries n kept.old supports.old) ++ drop from (entries n kept.old supports.old)) n n result kept.old supports.old kept.new supports.new }
 {
-    let mut i = from;
     let mut k = to;
-    while i < n {
+    for i in from..n {
         let row = table::row_at(kept, i);
         let support = supports[i];
         put_entry(kept, supports, k, row, support);
-        i += 1;
         k += 1;
     }
     k

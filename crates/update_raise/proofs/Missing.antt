@@ -12,8 +12,7 @@ use Rattle.spec.specs.Terms.{triple}
 use Rattle.spec.specs.Order.{is_less, is_same, insert}
 use Rattle.spec.specs.inside.Comparison.{less_irrefl, Above, Ascending}
 use Rattle.spec.proofs.Ascending.{above-member, insert_asc, insert_old, insert_cases}
-use Rattle.table_find.specs.declared.Found.{Found}
-use Rattle.table_find.specs.declared.Found.TheVariants.{At, Gap}
+use Rattle.std.specs.Prelude.{Result, Ok, Err}
 use Rattle.spec.specs.Tables.{count, triple_from, first_rows, rows}
 use Rattle.table_find.specs.inside.Search.{place}
 use Rattle.table_change.specs.inside.Words.{insert_at}
@@ -74,12 +73,12 @@ raise_absent : (t : Triple) (k : Kept) → ¬ Memᴰ t (kept_rows k) → length 
 raise_absent t k n = sym (length-kept_rows (raise t k)) ∙ ap length (raise-rows t k) ∙ insert_new-length t (kept_rows k) n ∙ ap suc (length-kept_rows k)
 
 -- The rows that raising adds, one by one.
-raise_all_more : (t : Triple) (ts : List Triple) (k : Kept) (f : Found) → Ascending (kept_rows k) → Above t ts → place t (kept_rows k) ≡ f → length (raise_all (t ∷ ts) k) ≡ absence f + length (raise_all ts k)
+raise_all_more : (t : Triple) (ts : List Triple) (k : Kept) (f : Result ℕ ℕ) → Ascending (kept_rows k) → Above t ts → place t (kept_rows k) ≡ f → length (raise_all (t ∷ ts) k) ≡ absence f + length (raise_all ts k)
 unfolding raise_all absence
-raise_all_more t ts k (At i) a b e =
+raise_all_more t ts k (Ok i) a b e =
     let q = raise-present t (raise_all ts k) (raise_all_asc ts k a) (raise_all_old ts k (at_member t (kept_rows k) i e)) in
     omega arith
-raise_all_more t ts k (Gap i) a b e =
+raise_all_more t ts k (Err i) a b e =
     let q = raise_absent t (raise_all ts k) (λ m. ⊎_elim (λ j. less_irrefl (above-member ts b t j)) (gap_absent t (kept_rows k) i a e) (raise_all_cases ts k m)) in
     omega arith
 
@@ -94,12 +93,12 @@ pub record Counting (ws rs : List ℕ) (c missing j : ℕ) : Type 0 where
 pub counting_start : (ws rs : List ℕ) (c : ℕ) → Counting ws rs c 0 0
 counting_start ws rs c = record { j_le = omega arith; few = omega arith; counted = λ k e. omega arith }
 
-absence_few : (f : Found) → absence f ≤ 1
+absence_few : (f : Result ℕ ℕ) → absence f ≤ 1
 unfolding absence
-absence_few (At i) = omega arith
-absence_few (Gap i) = omega arith
+absence_few (Ok i) = omega arith
+absence_few (Err i) = omega arith
 
-pub absence-bound : (r : ℕ) (f : Found) → r ≡ absence f → r ≤ 1
+pub absence-bound : (r : ℕ) (f : Result ℕ ℕ) → r ≡ absence f → r ≤ 1
 absence-bound r f e = omega (arith, absence_few f)
 
 pub counting_step : {ws rs : List ℕ} {c missing j : ℕ} → Sought ws rs c → Counting ws rs c missing j → (r : ℕ) (x : Triple) → j < c → x ≡ triple_from rs (j * 3) → r ≡ absence (place x (first_rows (count ws) (drop 1 ws)))

@@ -11,8 +11,8 @@ use Rattle.spec.specs.Order.{is_less, is_same}
 use Rattle.spec.proofs.Order.{less_trans}
 use Rattle.spec.proofs.Tests.{order-less, order_same, order_more}
 use Rattle.spec.proofs.Ascending.{above_asc}
-use Rattle.table_find.specs.declared.Ordering.{Ordering}
-use Rattle.table_find.specs.declared.Ordering.TheVariants.{Lower, Equal, Higher}
+use Rattle.std.specs.declared.cmp.Ordering.{Ordering}
+use Rattle.std.specs.declared.cmp.Ordering.TheVariants.{Equal, Greater}
 use Rattle.spec.specs.Tables.{row_at}
 use Rattle.table_find.specs.inside.Search.{ordering}
 use Rattle.table_find.proofs.Place.{ordering_says}
@@ -142,7 +142,7 @@ rising_end R = R.whole
 
 -- ---- how the last row stands to another
 
-pub last_none : (i : ℕ) (ws : List ℕ) (x : Triple) → i ≡ 0 → Lower ≡ last_ordering i ws x
+pub last_none : (i : ℕ) (ws : List ℕ) (x : Triple) → i ≡ 0 → Ordering.Less ≡ last_ordering i ws x
 unfolding last_ordering
 last_none zero ws x e = refl
 last_none (suc i) ws x e = absurd (omega arith)
@@ -154,15 +154,15 @@ last_some (suc i) ws x r n e = let q : suc i - 1 ≡ i = omega arith in rw q at 
 
 -- What an ordering says of the last row and x.
 abbrev pub LastSays : Ordering → ℕ → List ℕ → Triple → Type 0
-LastSays Higher i ws x = (0 < i) × Less x (row_at ws (i - 1))
+LastSays Greater i ws x = (0 < i) × Less x (row_at ws (i - 1))
 LastSays Equal i ws x = (0 < i) × (row_at ws (i - 1) ≡ x)
-LastSays Lower i ws x = 0 < i → Less (row_at ws (i - 1)) x
+LastSays Ordering.Less i ws x = 0 < i → Less (row_at ws (i - 1)) x
 
 pub last_says : (o : Ordering) (i : ℕ) (ws : List ℕ) (x : Triple) → o ≡ last_ordering i ws x → LastSays o i ws x
 unfolding last_ordering
-last_says Higher zero ws x e = absurd (let z : ◌≡◌ {A = ℕ} 0 1 = cc in omega arith)
+last_says Greater zero ws x e = absurd (let z : ◌≡◌ {A = ℕ} 0 1 = cc in omega arith)
 last_says Equal zero ws x e = absurd (let z : ◌≡◌ {A = ℕ} 0 1 = cc in omega arith)
-last_says Lower zero ws x e = λ h. absurd (omega arith)
-last_says Higher (suc i) ws x e = let q : suc i - 1 ≡ i = omega arith in (omega arith, rw q (ordering_says (row_at ws i) x Higher e))
+last_says Ordering.Less zero ws x e = λ h. absurd (omega arith)
+last_says Greater (suc i) ws x e = let q : suc i - 1 ≡ i = omega arith in (omega arith, rw q (ordering_says (row_at ws i) x Greater e))
 last_says Equal (suc i) ws x e = let q : suc i - 1 ≡ i = omega arith in (omega arith, rw q (ordering_says (row_at ws i) x Equal e))
-last_says Lower (suc i) ws x e = let q : suc i - 1 ≡ i = omega arith in λ h. rw q (ordering_says (row_at ws i) x Lower e)
+last_says Ordering.Less (suc i) ws x e = let q : suc i - 1 ≡ i = omega arith in λ h. rw q (ordering_says (row_at ws i) x Ordering.Less e)

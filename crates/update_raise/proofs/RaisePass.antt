@@ -9,7 +9,8 @@ use lib.Seq.{take-suc, split_at, take_all, take-take, get_or-take, drop_at, leng
 use Rattle.spec.specs.declared.Triple.{Triple}
 use Rattle.spec.specs.Terms.{triple}
 use Rattle.spec.specs.inside.Comparison.{Less, Ascending}
-use Rattle.table_find.specs.declared.Ordering.TheVariants.{Lower, Equal, Higher}
+use Rattle.std.specs.declared.cmp.Ordering.{Ordering}
+use Rattle.std.specs.declared.cmp.Ordering.TheVariants.{Equal, Greater}
 use Rattle.spec.specs.Tables.{count, triple_from, row_at, first_rows, rows, kept_of}
 use Rattle.spec.proofs.TableRows.{length-first_rows, get_or-first_rows, first_rows-snoc, length-rows}
 use Rattle.spec.specs.Saturation.{Kept, raise_all, kept_rows}
@@ -154,7 +155,7 @@ module _ (ws₀ us₀ rs : List ℕ) (c missing : ℕ) where
           }
 
     -- The last kept fact is higher than the last row.
-    pub pass-higher : {ws us ws' us' : List ℕ} (i j k : ℕ) (P : Pass ws us i j k) → 0 < j → LastSays Higher i ws (triple_from rs ((j - 1) * 3))
+    pub pass-higher : {ws us ws' us' : List ℕ} (i j k : ℕ) (P : Pass ws us i j k) → 0 < j → LastSays Greater i ws (triple_from rs ((j - 1) * 3))
         → Entered (k - 1) (row_at ws (i - 1)) (get_or us (i - 1) 0) ws us ws' us' → Pass ws' us' (i - 1) j (k - 1)
     pass-higher zero j k P h l N = absurd (omega (arith, l.0))
     pass-higher (suc i) zero k P h l N = absurd (omega arith)
@@ -190,13 +191,13 @@ module _ (ws₀ us₀ rs : List ℕ) (c missing : ℕ) where
         (rising_equal (first_rows j rs) x (take i K) n (rw (t, first_rows-snoc j rs) at P.rising) below (first_rows-less j c rs jc A.raised_ascend)) (rw (q, r, one) at N))
 
     -- The last row enters before what is done,
-    rising-enters : {ws us : List ℕ} (i j k : ℕ) (P : Pass ws us i (suc j) k) → LastSays Lower i ws (triple_from rs (j * 3)) → Rising M (first_rows j rs) (take i K) ((triple_from rs (j * 3), 1) ∷ drop k (entries m ws us))
+    rising-enters : {ws us : List ℕ} (i j k : ℕ) (P : Pass ws us i (suc j) k) → LastSays Ordering.Less i ws (triple_from rs (j * 3)) → Rising M (first_rows j rs) (take i K) ((triple_from rs (j * 3), 1) ∷ drop k (entries m ws us))
     rising-enters {ws} i j k P l =
         let x : Triple = triple_from rs (j * 3) in
         let jc : j < c = let a = P.j_le in omega arith in
         rising-lower (first_rows j rs) x (take i K) (rw (first_rows-snoc j rs) at P.rising) (below i P l) (first_rows-less j c rs jc A.raised_ascend)
       where
-        below : {ws us : List ℕ} {j k : ℕ} {x : Triple} (i : ℕ) (P : Pass ws us i j k) → LastSays Lower i ws x → AllLess (kept_rows (take i K)) x
+        below : {ws us : List ℕ} {j k : ℕ} {x : Triple} (i : ℕ) (P : Pass ws us i j k) → LastSays Ordering.Less i ws x → AllLess (kept_rows (take i K)) x
         below zero P l = tt
         below {ws} {us} {x = x} (suc i) P l =
             let q : suc i - 1 ≡ i = omega arith in
@@ -205,13 +206,13 @@ module _ (ws₀ us₀ rs : List ℕ) (c missing : ℕ) where
             rw (t, kept_rows-append) (all-less-snoc (kept_rows (take i K)) (row_at ws i) (all-less_weaken (kept_rows (take i K)) lt (before-less-kept P i (omega arith))) lt)
 
     -- for which there is room, where every kept fact left is lower.
-    pub pass-lower-room : {ws us : List ℕ} (i j k : ℕ) (P : Pass ws us i j k) → 0 < j → LastSays Lower i ws (triple_from rs ((j - 1) * 3)) → i < k
+    pub pass-lower-room : {ws us : List ℕ} (i j k : ℕ) (P : Pass ws us i j k) → 0 < j → LastSays Ordering.Less i ws (triple_from rs ((j - 1) * 3)) → i < k
     pass-lower-room i zero k P h l = absurd (omega arith)
     pass-lower-room i (suc j) k P h l =
         let r : suc j - 1 ≡ j = omega arith in
         turn_room P i (first_rows j rs) (triple_from rs (j * 3), 1) (omega arith) (rising-enters i j k P (rw r at l))
 
-    pub pass-lower : {ws us ws' us' : List ℕ} (i j k : ℕ) (P : Pass ws us i j k) → 0 < j → LastSays Lower i ws (triple_from rs ((j - 1) * 3))
+    pub pass-lower : {ws us ws' us' : List ℕ} (i j k : ℕ) (P : Pass ws us i j k) → 0 < j → LastSays Ordering.Less i ws (triple_from rs ((j - 1) * 3))
         → Entered (k - 1) (triple_from rs ((j - 1) * 3)) 1 ws us ws' us' → Pass ws' us' i (j - 1) (k - 1)
     pass-lower i zero k P h l N = absurd (omega arith)
     pass-lower i (suc j) k P h l N =
@@ -238,7 +239,7 @@ module _ (ws₀ us₀ rs : List ℕ) (c missing : ℕ) where
     pub code-start : Pass ws₀ us₀ (count ws₀) c (count ws₀ + missing)
     code-start = rw A.tables.laid.counted pass-start
 
-    pub code-higher : {ws us ws' us' : List ℕ} {i j k : ℕ} {x row : Triple} (P : Pass ws us i j k) → 0 < j → x ≡ triple_from rs ((j - 1) * 3) → LastSays Higher i ws x → row ≡ row_at ws (i - 1)
+    pub code-higher : {ws us ws' us' : List ℕ} {i j k : ℕ} {x row : Triple} (P : Pass ws us i j k) → 0 < j → x ≡ triple_from rs ((j - 1) * 3) → LastSays Greater i ws x → row ≡ row_at ws (i - 1)
         → Entered (k - 1) row (get_or us (i - 1) 0) ws us ws' us' → Pass ws' us' (i - 1) j (k - 1)
     code-higher {i = i} {j} {k} P h e l r N = pass-higher i j k P h (rw e at l) (rw r at N)
 
@@ -246,10 +247,10 @@ module _ (ws₀ us₀ rs : List ℕ) (c missing : ℕ) where
         → Entered (k - 1) x (get_or us (i - 1) 0 + 1) ws us ws' us' → Pass ws' us' (i - 1) (j - 1) (k - 1)
     code-equal {i = i} {j} {k} P h e l N = pass-equal i j k P h (rw e at l) (rw e at N)
 
-    pub code-room : {ws us : List ℕ} {i j k : ℕ} {x : Triple} (P : Pass ws us i j k) → 0 < j → x ≡ triple_from rs ((j - 1) * 3) → LastSays Lower i ws x → i < k
+    pub code-room : {ws us : List ℕ} {i j k : ℕ} {x : Triple} (P : Pass ws us i j k) → 0 < j → x ≡ triple_from rs ((j - 1) * 3) → LastSays Ordering.Less i ws x → i < k
     code-room {i = i} {j} {k} P h e l = pass-lower-room i j k P h (rw e at l)
 
-    pub code-lower : {ws us ws' us' : List ℕ} {i j k : ℕ} {x : Triple} (P : Pass ws us i j k) → 0 < j → x ≡ triple_from rs ((j - 1) * 3) → LastSays Lower i ws x
+    pub code-lower : {ws us ws' us' : List ℕ} {i j k : ℕ} {x : Triple} (P : Pass ws us i j k) → 0 < j → x ≡ triple_from rs ((j - 1) * 3) → LastSays Ordering.Less i ws x
         → Entered (k - 1) x 1 ws us ws' us' → Pass ws' us' i (j - 1) (k - 1)
     code-lower {i = i} {j} {k} P h e l N = pass-lower i j k P h (rw e at l) (rw e at N)
 

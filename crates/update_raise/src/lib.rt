@@ -10,9 +10,9 @@ ghost use Rattle.update_kept.specs.inside.Entries.{Sought, Holding};
 ghost use Rattle.update_raise.specs.inside.Raising.{absence, last_ordering, Raisable};
 
 use spec::Triple;
+use std::cmp::Ordering;
 use table::row_from;
 use table_change::put_entry;
-use table_find::{Found, Ordering};
 
 // 1 where x is not among the first n rows, else 0.
 fn absent(t: &[u32], n: usize, x: Triple) -> usize
@@ -21,8 +21,8 @@ fn absent(t: &[u32], n: usize, x: Triple) -> usize
     ensures { result ≡ absence (place x (first_rows n (drop 1 t.now))) }
 {
     match table_find::find(t, n, x) {
-        Found::At(_) => 0,
-        Found::Gap(_) => 1,
+        Ok(_) => 0,
+        Err(_) => 1,
     }
 }
 
@@ -33,27 +33,25 @@ pub fn count_missing(kept: &[u32], list: &[u32], c: usize) -> usize
 {
     let n = kept[0] as usize;
     let mut missing = 0;
-    let mut j = 0;
-    while j < c {
+    for j in 0..c {
         missing += absent(kept, n, row_from(list, j));
-        j += 1;
     }
     missing
 }
 
-// How the row before place i stands to x. Where there is none, it is lower.
+// How the row before place i stands to x. Where there is none, it is less.
 fn compare_last(t: &[u32], i: usize, x: Triple) -> Ordering
     requires { i * 3 < length t.now }
     ensures { result ≡ last_ordering i t.now x }
 {
     if i == 0 {
-        return Ordering::Lower;
+        return Ordering::Less;
     }
     table_find::compare_at(t, i - 1, x)
 }
 
 // Raises the support of each of c ascending rows by 1; those missing, of which there are so many, enter with 1. One pass from the
-// last row to the first: what is moved goes up, so that nothing is overwritten before it is read.
+// last row to the first: what is moved goes up, so that nothing is overwritten before it is read. No `for`: how the rows compare says which of the two lists goes on.
 pub fn raise_all(kept: &mut [u32], supports: &mut [u16], list: &[u32], c: usize, missing: usize)
     requires { Raisable kept.old supports.old list.now c missing }
     ensures { Holding (raise_all (first_rows c list.now) (kept_of kept.old supports.old)) kept.old supports.old kept.new supports.new }
@@ -66,7 +64,7 @@ pub fn raise_all(kept: &mut [u32], supports: &mut [u16], list: &[u32], c: usize,
     while 0 < j {
         let x = row_from(list, j - 1);
         match compare_last(kept, i, x) {
-            Ordering::Higher => {
+            Ordering::Greater => {
                 i -= 1;
                 k -= 1;
                 let row = table::row_at(kept, i);
@@ -80,7 +78,7 @@ pub fn raise_all(kept: &mut [u32], supports: &mut [u16], list: &[u32], c: usize,
                 let support = supports[i] + 1;
                 put_entry(kept, supports, k, x, support);
             }
-            Ordering::Lower => {
+            Ordering::Less => {
                 j -= 1;
                 k -= 1;
                 put_entry(kept, supports, k, x, 1);

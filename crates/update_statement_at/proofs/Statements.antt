@@ -14,7 +14,7 @@ use Rattle.spec.specs.Terms.{is_triple, is_statement, are_sides_allowed, is_allo
 use Rattle.spec.specs.Order.{is_ascending, insert, remove}
 use Rattle.spec.proofs.Ascending.{and_left, and_right}
 use Rattle.spec.specs.Saturation.{kept_rows, kept_supports}
-use Rattle.table_find.specs.declared.Found.TheVariants.{At, Gap}
+use Rattle.std.specs.Prelude.{Ok, Err}
 use Rattle.spec.specs.Tables.{capacity, most_statements, most_kept, count, rows, first_rows, layout, is_statement_table, tables, capacities_of, contents_of, put}
 use Rattle.table_find.specs.inside.Search.{place}
 use Rattle.table_change.specs.inside.Words.{insert_at, remove_at}
@@ -73,7 +73,7 @@ inserted_removed i t us h =
     let e : drop (i + 1) (take i us ++ (t ∷ drop i us)) ≡ drop i us = ap (λ (k : ℕ). drop (k + 1) (take i us ++ (t ∷ drop i us))) (sym l) ∙ drop-append-add (take i us) (t ∷ drop i us) 1 in
     rw (take_at (take i us) (t ∷ drop i us) i l, e) (take-append-drop i us)
 
-pub removed_inserted : (i : ℕ) (t : Triple) (us : List Triple) → place t us ≡ At i → insert_at i t (remove_at i us) ≡ us
+pub removed_inserted : (i : ℕ) (t : Triple) (us : List Triple) → place t us ≡ Ok i → insert_at i t (remove_at i us) ≡ us
 unfolding insert_at remove_at
 removed_inserted i t us h =
     let l : length (take i us) ≡ i = length-take-le i us (omega (arith, (stands_at t us i h).within)) in
@@ -89,20 +89,20 @@ module _ {S F K U : List ℕ} (W : FormedStore S F K U) (t : Triple) (a : is_all
   unfolding is_allowed_statement
   passes = record { formed = formed_is_store W; is_triple = and_left _ _ a; sides = rw is_statement_lem (and_right (is_statement t) (are_sides_allowed t) (and_right (is_triple t) _ a)) }
 
-  present : {i : ℕ} → place t (rows S) ≡ At i → is_member t (contents_of (tables S F K U)).explicit ≡ true
+  present : {i : ℕ} → place t (rows S) ≡ Ok i → is_member t (contents_of (tables S F K U)).explicit ≡ true
   unfolding contents_of
   present {i} e = member_yes t (contents_of (tables S F K U)).explicit (rw is_statement_lem (at_member t (rows S) i e))
 
-  missing : {i : ℕ} → place t (rows S) ≡ Gap i → is_member t (contents_of (tables S F K U)).explicit ≡ false
+  missing : {i : ℕ} → place t (rows S) ≡ Err i → is_member t (contents_of (tables S F K U)).explicit ≡ false
   unfolding contents_of
   missing {i} e = member_no t (contents_of (tables S F K U)).explicit (rw is_statement_lem (gap_absent t (rows S) i W.statements.ascends e))
 
   -- A statement that is not there changes the statements by entering, and one that is there by leaving.
-  enters : {i : ℕ} → place t (rows S) ≡ Gap i → is_change Addition t (contents_of (tables S F K U)).explicit ≡ true
+  enters : {i : ℕ} → place t (rows S) ≡ Err i → is_change Addition t (contents_of (tables S F K U)).explicit ≡ true
   unfolding is_change
   enters e = rw (missing e) refl
 
-  leaves : {i : ℕ} → place t (rows S) ≡ At i → is_change Withdrawal t (contents_of (tables S F K U)).explicit ≡ true
+  leaves : {i : ℕ} → place t (rows S) ≡ Ok i → is_change Withdrawal t (contents_of (tables S F K U)).explicit ≡ true
   unfolding is_change
   leaves e = present e
 
@@ -111,21 +111,21 @@ module _ {S F K U : List ℕ} (W : FormedStore S F K U) (t : Triple) (a : is_all
   statements_ready = ready W.statements (count S) (length-rows S)
 
   -- A statement that is there is not added again, and one that is absent is not withdrawn.
-  pub statement_there : {i : ℕ} {d : Change} → d ≡ Addition → place t (rows S) ≡ At i → outcome Idle (tables S F K U) ≡ update d (tables S F K U) t
+  pub statement_there : {i : ℕ} {d : Change} → d ≡ Addition → place t (rows S) ≡ Ok i → outcome Idle (tables S F K U) ≡ update d (tables S F K U) t
   unfolding is_change
   statement_there q e = rw q (sym (update_idle Addition passes (rw (present e) refl)))
 
-  pub statement_absent : {i : ℕ} {d : Change} → d ≡ Withdrawal → place t (rows S) ≡ Gap i → outcome Idle (tables S F K U) ≡ update d (tables S F K U) t
+  pub statement_absent : {i : ℕ} {d : Change} → d ≡ Withdrawal → place t (rows S) ≡ Err i → outcome Idle (tables S F K U) ≡ update d (tables S F K U) t
   unfolding is_change
   statement_absent q e = rw q (sym (update_idle Withdrawal passes (missing e)))
 
   -- The statements are full.
-  pub statements_full : {i : ℕ} → place t (rows S) ≡ Gap i → capacity most_statements S ≤ length (rows S) → outcome (Refused 4) (tables S F K U) ≡ add (tables S F K U) t
+  pub statements_full : {i : ℕ} → place t (rows S) ≡ Err i → capacity most_statements S ≤ length (rows S) → outcome (Refused 4) (tables S F K U) ≡ add (tables S F K U) t
   unfolding is_admitted contents_of
   statements_full e h = sym (update_full Addition passes (rw (missing e, is_statement_lem) (le-ltb (length (rows S)) (capacity most_statements S) h)))
 
   -- They are not full.
-  below : {i : ℕ} → place t (rows S) ≡ Gap i → length (rows S) < capacity most_statements S → is_admitted (capacities_of (tables S F K U)) Addition t (contents_of (tables S F K U)).explicit ≡ true
+  below : {i : ℕ} → place t (rows S) ≡ Err i → length (rows S) < capacity most_statements S → is_admitted (capacities_of (tables S F K U)) Addition t (contents_of (tables S F K U)).explicit ≡ true
   unfolding is_admitted contents_of
   below e h = rw (missing e, is_statement_lem) (lt-ltb (length (rows S)) (capacity most_statements S) h)
 
@@ -140,7 +140,7 @@ module _ {S F K U : List ℕ} (W : FormedStore S F K U) (t : Triple) (a : is_all
 
   -- ---- a statement that enters
 
-  module _ {i : ℕ} (p : place t (rows S) ≡ Gap i) (h : length (rows S) < capacity most_statements S) {S' : List ℕ} (e : S' ≡ layout (length S) (insert_at i t (rows S))) where
+  module _ {i : ℕ} (p : place t (rows S) ≡ Err i) (h : length (rows S) < capacity most_statements S) {S' : List ℕ} (e : S' ≡ layout (length S) (insert_at i t (rows S))) where
     with-formed : WellFormed is_allowed_statement most_statements S'
     with-formed = well_formed-insert S' i t W.statements a h p e
 
@@ -184,10 +184,10 @@ module _ {S F K U : List ℕ} (W : FormedStore S F K U) (t : Triple) (a : is_all
   -- ---- a statement that goes
 
   -- What `remove_at` asks of the statements.
-  pub statement_laid : {i : ℕ} → place t (rows S) ≡ At i → Laid S × (i < length (rows S))
+  pub statement_laid : {i : ℕ} → place t (rows S) ≡ Ok i → Laid S × (i < length (rows S))
   statement_laid {i} p = (W.statements.laid, (stands_at t (rows S) i p).within)
 
-  module _ {i : ℕ} (p : place t (rows S) ≡ At i) {S' : List ℕ} (e : S' ≡ layout (length S) (remove_at i (rows S))) where
+  module _ {i : ℕ} (p : place t (rows S) ≡ Ok i) {S' : List ℕ} (e : S' ≡ layout (length S) (remove_at i (rows S))) where
     without-formed : WellFormed is_allowed_statement most_statements S'
     without-formed = well_formed-remove S' i t W.statements p e
 

@@ -3,7 +3,6 @@
 
 ghost use Rattle.std.specs.Prelude.{◌≡◌, true};
 ghost use Rattle.spec.specs.Terms.{is_allowed_statement};
-ghost use Rattle.table_find.specs.declared.Found.TheVariants.{At, Gap};
 ghost use Rattle.spec.specs.Tables.{rows, tables};
 ghost use Rattle.table_find.specs.inside.Search.{place};
 ghost use Rattle.spec.specs.inside.Laid.{FormedStore};
@@ -25,7 +24,7 @@ pub fn add_new_statement(
 ) -> Answer
     requires formed_store { FormedStore statements.old facts.now kept.old supports.old }
     requires statement_value { is_allowed_statement statement ≡ true }
-    requires statements_value { place statement (rows statements.old) ≡ Gap at }
+    requires statements_value { place statement (rows statements.old) ≡ Err at }
     ensures { outcome result (tables statements.new facts.now kept.new supports.new) ≡ add (tables statements.old facts.now kept.old supports.old) statement }
 {
     let n = statements[0] as usize;
@@ -52,7 +51,7 @@ pub fn withdraw_old_statement(
 ) -> Answer
     requires formed_store { FormedStore statements.old facts.now kept.old supports.old }
     requires statement_value { is_allowed_statement statement ≡ true }
-    requires statements_value { place statement (rows statements.old) ≡ At at }
+    requires statements_value { place statement (rows statements.old) ≡ Ok at }
     ensures { outcome result (tables statements.new facts.now kept.new supports.new) ≡ withdraw (tables statements.old facts.now kept.old supports.old) statement }
 {
     let room = kept_capacity(kept, supports);

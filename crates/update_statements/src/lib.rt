@@ -9,7 +9,6 @@ ghost use Rattle.spec.specs.Updates.{update};
 ghost use Rattle.spec.specs.inside.Pairs.{outcome};
 
 use spec::{Answer, Change, Triple};
-use table_find::Found;
 use update_statement_at::{add_new_statement, withdraw_old_statement};
 
 // Adds or withdraws a statement, once questions 1 to 3 are passed. Adding what is there is idle, whatever the capacities, and so is
@@ -28,13 +27,13 @@ pub fn update_statement(
 {
     let n = statements[0] as usize;
     match table_find::find(statements, n, statement) {
-        Found::At(at) => match change {
+        Ok(at) => match change {
             Change::Addition => Answer::Idle,
             Change::Withdrawal => withdraw_old_statement(
                 statements, facts, kept, supports, statement, at,
             ),
         },
-        Found::Gap(at) => match change {
+        Err(at) => match change {
             Change::Addition => add_new_statement(statements, facts, kept, supports, statement, at),
             Change::Withdrawal => Answer::Idle,
         },

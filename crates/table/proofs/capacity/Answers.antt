@@ -1,13 +1,8 @@
--- By the three cases of the definition.
-use Rattle.spec.proofs.TableFormed.{capacity_none, capacity_room, capacity_limit}
+-- The lesser of the rows that fit the words and the most, whatever the order.
 use native.Mathlib.Omega.{arith}
+use Rattle.spec.specs.Tables.{capacity}
 use Rattle.table.proofs.capacity.Goals as goal
 
-pub returns-then-words-eq0 : goal.returns-then-words-eq0
-returns-then-words-eq0 c = λ ws e. capacity_none c.args.most ws (omega arith)
-
-pub returns-then-room-most : goal.returns-then-room-most
-returns-then-room-most c = λ ws e. rw (← e) (capacity_room c.args.most ws (rw e c.if-room-most.true))
-
-pub returns-else-room-most : goal.returns-else-room-most
-returns-else-room-most c = λ ws e. capacity_limit c.args.most ws (rw e c.if-room-most.false)
+pub returns : goal.returns
+unfolding capacity
+returns c = λ ws e. omega arith

@@ -1,39 +1,31 @@
 use Prim.Native.Nat.{◌-◌}
-use mathlib.Core.Path.{refl, sym, ◌∙◌}
+use mathlib.Core.Path.{◌≡◌, sym, ◌∙◌}
+use mathlib.Core.Bool.{true, false}
 use native.Mathlib.Omega.{arith}
-use borrow.Author.Count.{below_more}
 use Rattle.spec.specs.Terms.{is_allowed_statement}
+use Rattle.spec.specs.Order.{is_less}
+use Rattle.spec.specs.Tables.{row_at}
 use Rattle.spec.proofs.TableAll.{answered}
-use Rattle.table_rows.proofs.Scan.{refused, passed, ascended, not_ascended, no_row, less_before, more_before, same_before}
-use borrow.Author.Rules.{rules}
+use Rattle.table_rows.proofs.Scan.{refused, passed, ascended, not_ascended, no_row}
 use Rattle.table_rows.proofs.are_statement_rows.Goals as goal
-
-pub rows-init : goal.rows-init
-rows-init c = (search rules, refl)
+use Rattle.table_rows.proofs.are_statement_rows.Goals.{else-i-gt0-via-then-i-gt0+else-not-is_less, else-i-gt0-via-else-i-gt0}
 
 pub returns-then-not-is_allowed_statement : goal.returns-then-not-is_allowed_statement
-returns-then-not-is_allowed_statement c = sym (c.rows.invariant.1 ∙ refused is_allowed_statement c.args.t.now c.args.n c.rows.i c.rows-test.true (answered is_allowed_statement c.row_at.ensures c.is_allowed_statement.ensures c.if-not-is_allowed_statement.true))
+returns-then-not-is_allowed_statement c = let wrong = answered is_allowed_statement c.row_at-row.ensures c.is_allowed_statement.ensures c.if-not-is_allowed_statement.true in
+    sym (c.loop-i.invariant ∙ refused is_allowed_statement c.args.t.now c.args.n c.loop-i.i c.loop-i-test.true wrong)
 
-pub rows-preserved-then-row-eq0 : goal.rows-preserved-then-row-eq0
-rows-preserved-then-row-eq0 c = (search rules, c.rows.invariant.1 ∙ passed is_allowed_statement c.args.t.now c.args.n c.rows.i c.if-row-eq0.true c.rows-test.true (answered is_allowed_statement c.row_at.ensures c.is_allowed_statement.ensures c.if-not-is_allowed_statement.false))
+pub returns-then-not-is_less : goal.returns-then-not-is_less
+returns-then-not-is_less c = let l : is_less (row_at c.args.t.now (c.loop-i.i - 1)) (row_at c.args.t.now c.loop-i.i) ≡ false = cc in
+    sym (c.loop-i.invariant ∙ not_ascended is_allowed_statement c.args.t.now c.args.n c.loop-i.i c.if-i-gt0.true c.loop-i-test.true l)
 
-pub words-init : goal.words-init
-words-init c = (search rules, λ j h. absurd (omega arith))
-
-pub rows-preserved : goal.rows-preserved
-rows-preserved c = let l = less_before c.args.t.now c.rows.i (omega (arith, c.if-row-eq0.false)) c.words.k c.words.invariant.1 c.words-test.true c.if-a-b.true in
-    (search rules, c.rows.invariant.1 ∙ ascended is_allowed_statement c.args.t.now c.args.n c.rows.i (omega (arith, c.if-row-eq0.false)) c.rows-test.true (answered is_allowed_statement c.row_at.ensures c.is_allowed_statement.ensures c.if-not-is_allowed_statement.false) l)
-
-pub returns-then-b-a : goal.returns-then-b-a
-returns-then-b-a c = let l = more_before c.args.t.now c.rows.i (omega (arith, c.if-row-eq0.false)) c.words.k c.words.invariant.1 c.words-test.true c.if-b-a.true in
-    sym (c.rows.invariant.1 ∙ not_ascended is_allowed_statement c.args.t.now c.args.n c.rows.i (omega (arith, c.if-row-eq0.false)) c.rows-test.true l)
-
-pub words-preserved : goal.words-preserved
-words-preserved c = (search rules, below_more _ _ c.words.invariant.1 (omega (arith, c.if-a-b.false, c.if-b-a.false)))
-
-pub returns-in-rows : goal.returns-in-rows
-returns-in-rows c = let l = same_before c.args.t.now c.rows.i (omega (arith, c.if-row-eq0.false)) c.words.k c.words.invariant.1 c.words-test.false in
-    sym (c.rows.invariant.1 ∙ not_ascended is_allowed_statement c.args.t.now c.args.n c.rows.i (omega (arith, c.if-row-eq0.false)) c.rows-test.true l)
+pub loop-i-preserved : goal.loop-i-preserved
+loop-i-preserved c = let right = answered is_allowed_statement c.row_at-row.ensures c.is_allowed_statement.ensures c.if-not-is_allowed_statement.false in
+    c.loop-i.invariant ∙ elim c.else-i-gt0.branch [
+      | else-i-gt0-via-then-i-gt0+else-not-is_less w ↦
+          let l : is_less (row_at c.args.t.now (c.loop-i.i - 1)) (row_at c.args.t.now c.loop-i.i) ≡ true = cc in
+          ascended is_allowed_statement c.args.t.now c.args.n c.loop-i.i w.if-i-gt0.true c.loop-i-test.true right l
+      | else-i-gt0-via-else-i-gt0 w ↦ passed is_allowed_statement c.args.t.now c.args.n c.loop-i.i (omega (arith, w.if-i-gt0.false)) c.loop-i-test.true right
+    ]
 
 pub returns : goal.returns
-returns c = sym (c.rows.invariant.1 ∙ no_row is_allowed_statement c.args.t.now c.args.n c.rows.i c.rows-test.false)
+returns c = sym (c.loop-i.invariant ∙ no_row is_allowed_statement c.args.t.now c.args.n c.loop-i.i c.loop-i-test.false)

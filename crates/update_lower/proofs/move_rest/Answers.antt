@@ -1,4 +1,3 @@
-use Prim.Native.Nat.{◌-◌}
 use native.Mathlib.Omega.{arith}
 use Rattle.update_lower.proofs.LowerPass.{gap_start, gap_move, gap_end}
 use Rattle.update_lower.proofs.move_rest.Goals as goal

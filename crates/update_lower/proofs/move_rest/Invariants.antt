@@ -1,5 +1,4 @@
 -- The invariant: what stands before the gap and behind it stays the same.
-use Prim.Native.Nat.{◌-◌}
 use mathlib.Core.List.{◌++◌}
 use lib.ListN.{take, drop}
 use Rattle.update_kept.specs.inside.Entries.{entries}
@@ -8,6 +7,3 @@ use Rattle.update_lower.proofs.move_rest.Given as goal
 
 abbrev pub invariant-loop-i : goal.invariant-loop-i
 invariant-loop-i l = Gapped (take l.to (entries l.n l.initial.kept l.initial.supports) ++ drop l.from (entries l.n l.initial.kept l.initial.supports)) l.n l.i l.k l.initial.kept l.initial.supports l.kept l.supports
-
-abbrev pub decreases-loop-i : goal.decreases-loop-i
-decreases-loop-i l = l.n - l.i

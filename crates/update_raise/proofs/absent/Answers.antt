@@ -1,12 +1,12 @@
 -- By what the search found.
-use mathlib.Core.Path.{sym, ap, ◌∙◌}
+use mathlib.Core.Path.{ap}
 use Rattle.update_raise.specs.inside.Raising.{absence}
 use Rattle.update_raise.proofs.absent.Goals as goal
 
-pub returns-in-At : goal.returns-in-At
+pub returns-in-Ok : goal.returns-in-Ok
 unfolding absence
-returns-in-At c = ap absence (sym c.in-At.is ∙ c.find.ensures)
+returns-in-Ok c = ap absence c.in-Ok.ensures
 
-pub returns-in-Gap : goal.returns-in-Gap
+pub returns-in-Err : goal.returns-in-Err
 unfolding absence
-returns-in-Gap c = ap absence (sym c.in-Gap.is ∙ c.find.ensures)
+returns-in-Err c = ap absence c.in-Err.ensures

@@ -1,4 +1,3 @@
-use Prim.Native.Nat.{◌-◌}
 use native.Mathlib.Omega.{arith}
 use Rattle.update_raise.proofs.Missing.{counting_start, counting_step, counting_end, absence-bound}
 use Rattle.update_kept.proofs.Entries.{sought_ready}

@@ -1,20 +1,18 @@
 -- What raising kept facts in the words of their tables asks for. Definitions only.
-use Rattle.std.specs.Prelude.{ℕ, zero, suc, ◌+◌, ◌*◌, ◌^◌, ◌≤◌, ◌<◌, ◌≡◌, List, length, get_or}
+use Rattle.std.specs.Prelude.{ℕ, zero, suc, ◌+◌, ◌*◌, ◌^◌, ◌≤◌, ◌<◌, ◌≡◌, List, length, get_or, Result, Ok, Err}
+use Rattle.std.specs.declared.cmp.Ordering.{Ordering}
+use Rattle.std.specs.declared.cmp.Ordering.TheVariants.{Less}
 use Rattle.spec.specs.declared.Triple.{Triple}
 use Rattle.spec.specs.inside.Comparison.{Ascending}
-use Rattle.table_find.specs.declared.Ordering.{Ordering}
-use Rattle.table_find.specs.declared.Ordering.TheVariants.{Lower}
-use Rattle.table_find.specs.declared.Found.{Found}
-use Rattle.table_find.specs.declared.Found.TheVariants.{At, Gap}
 use Rattle.spec.specs.Tables.{row_at, first_rows, rows, kept_of}
 use Rattle.table_find.specs.inside.Search.{ordering}
 use Rattle.spec.specs.Saturation.{raise_all}
 use Rattle.update_kept.specs.inside.Entries.{KeptTables}
 
 -- 1 where a row is missing, else 0.
-unfoldable pub absence : Found → ℕ
-absence (At i) = 0
-absence (Gap i) = 1
+unfoldable pub absence : Result ℕ ℕ → ℕ
+absence (Ok i) = 0
+absence (Err i) = 1
 
 -- The rows and supports that are to be raised: each support has a number above it, the c rows rs ascend, so many of them are
 -- missing, and there is room for those.
@@ -28,7 +26,7 @@ pub record Raisable (ws us rs : List ℕ) (c missing : ℕ) : Type 0 where
   pub places : length (rows ws) + missing ≤ length us
   pub countable : length (rows ws) + missing < 2 ^ 32
 
--- How the row before place i stands to x. Where there is none, it is lower.
+-- How the row before place i stands to x. Where there is none, it is less.
 unfoldable pub last_ordering : ℕ → List ℕ → Triple → Ordering
-last_ordering zero ws x = Lower
+last_ordering zero ws x = Less
 last_ordering (suc i) ws x = ordering (row_at ws i) x
