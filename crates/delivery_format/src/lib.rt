@@ -72,10 +72,8 @@ pub fn section_start(bytes: &[u8], k: usize) -> usize
     ensures upper_bound { result ≤ k * 786422 }
 {
     let mut at = 0;
-    let mut i = 0;
-    while i < k {
+    for _ in 0..k {
         at = section_end(bytes, at);
-        i += 1;
     }
     at
 }
@@ -105,14 +103,10 @@ fn are_entries_right(bytes: &[u8], at: usize, n: usize, statements: bool) -> boo
     requires { at + n * 12 ≤ length bytes.now }
     ensures { result ≡ all (is_right_in statements) (entries_from bytes.now at n) }
 {
-    let mut place = at;
-    let mut left = n;
-    while 0 < left {
-        if !is_right_in(statements, entry_at(bytes, place)) {
+    for i in 0..n {
+        if !is_right_in(statements, entry_at(bytes, at + i * ENTRY_BYTES)) {
             return false;
         }
-        place += ENTRY_BYTES;
-        left -= 1;
     }
     true
 }

@@ -37,20 +37,18 @@ fn from_number(bytes: &[u8], at: usize, n: usize) -> Fields
     ensures { FromNumber bytes.now at n result }
 {
     let mut place = at;
-    let mut left = n;
-    while 0 < left {
+    for i in 0..n {
         if short_at(bytes, place) == NUMBER_TAG {
             return Fields {
                 at: place,
-                count: left,
+                count: n - i,
             };
         }
         place = field_end(bytes, place);
-        left -= 1;
     }
     Fields {
         at: place,
-        count: left,
+        count: 0,
     }
 }
 

@@ -98,6 +98,13 @@ left-next {u} {test} {bs} {end} {T} {T'} {at} (suc n) {y} {y'} L h t q a e r =
       same = ap (λ (p : Answer × Tables). run_entries u (entries_from bs (at + 12) n) (progress p.1 (tallied p.0 y))) (e ∙ ap (u T) q) ∙ L.same;
     })
 
+-- The same by the index of an entry, of n from index at on: at first entry 0 is the next, and behind entry i comes entry i + 1.
+pub at-entry_first : {u : Tables → Triple → Answer × Tables} {test : Triple → Bool} {bs : List ℕ} {end : Tables × Tally} {T : Tables} {at n : ℕ} {y : Tally} → Left u test bs end T at n y → Left u test bs end T (at + 0 * 12) (n - 0) y
+at-entry_first {at = at} {n = n} L = let p : at + 0 * 12 ≡ at = omega arith in let q : n - 0 ≡ n = omega arith in rw (p, q) L
+
+pub at-entry-next : {u : Tables → Triple → Answer × Tables} {test : Triple → Bool} {bs : List ℕ} {end : Tables × Tally} {T : Tables} (at n i : ℕ) {y : Tally} → Left u test bs end T (at + i * 12 + 12) (n - i - 1) y → Left u test bs end T (at + (i + 1) * 12) (n - (i + 1)) y
+at-entry-next at n i L = let p : at + (i + 1) * 12 ≡ at + i * 12 + 12 = omega arith in let q : n - (i + 1) ≡ n - i - 1 = omega arith in rw (p, q) L
+
 -- None is left.
 pub left_none : {u : Tables → Triple → Answer × Tables} {test : Triple → Bool} {bs : List ℕ} {end : Tables × Tally} {T : Tables} {at : ℕ} (left : ℕ) {y : Tally} → Left u test bs end T at left y → left ≤ 0 → progress T y ≡ end
 unfolding entries_from run_entries

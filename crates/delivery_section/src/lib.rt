@@ -32,15 +32,12 @@ pub fn run_section(
     ensures formed_store_2 { FormedStore statements.new facts.new kept.new supports.new }
 {
     let start = delivery_format::section_start(bytes, k);
-    let mut at = start + 2;
-    let mut left = delivery_format::short_at(bytes, start);
+    let entries = delivery_format::short_at(bytes, start);
     let mut sum = counted;
-    while 0 < left {
-        let triple = delivery_format::entry_at(bytes, at);
+    for i in 0..entries {
+        let triple = delivery_format::entry_at(bytes, start + 2 + i * delivery_format::ENTRY_BYTES);
         let answer = store::update_formed(statements, facts, kept, supports, change, triple);
         sum = tallied(sum, answer);
-        at += delivery_format::ENTRY_BYTES;
-        left -= 1;
     }
     sum
 }

@@ -25,17 +25,11 @@ highest-within b [] h = refl
 highest-within b (u ∷ us) h = rw (le-leb u b (omega arith)) (highest-within b us (omega arith))
 
 -- The scan: the highest of what is left, with that of what is passed.
-module _ (n : ℕ) (us : List ℕ) (fits : n ≤ length us) (i h : ℕ) where
-  pub highest_more : i < n → max h (highest (drop i (take n us))) ≡ highest (take n us) → max (max h (get_or us i 0)) (highest (drop (i + 1) (take n us))) ≡ highest (take n us)
+module _ (us : List ℕ) (i h : ℕ) where
+  pub highest_more : i < length us → max h (highest (drop i us)) ≡ highest us → max (max h (get_or us i 0)) (highest (drop (i + 1) us)) ≡ highest us
   unfolding highest
-  highest_more k e =
-      let inside : i < length (take n us) = rw (length-take-le n us fits) k in
-      let f = rw (drop-cons (take n us) i 0 inside, get_or-take n us i 0 k) at e in
-      rw (add-one i) (omega (arith, f))
+  highest_more k e = let f = rw (drop-cons us i 0 k) at e in rw (add-one i) (omega (arith, f))
 
-  pub highest_end : n ≤ i → max h (highest (drop i (take n us))) ≡ highest (take n us) → h ≡ highest (take n us)
+  pub highest_end : length us ≤ i → max h (highest (drop i us)) ≡ highest us → h ≡ highest us
   unfolding highest
-  highest_end k e =
-      let past : length (take n us) ≤ i = rw (length-take-le n us fits) k in
-      let f = rw (drop_of_length-le (take n us) past) at e in
-      omega (arith, f)
+  highest_end k e = let f = rw (drop_of_length-le us k) at e in omega (arith, f)

@@ -1,26 +1,17 @@
 // The highest support of a store's kept facts.
 #![tactic(auto)]
 
-ghost use Rattle.std.specs.Prelude.{◌≡◌, ◌≤◌, ◌<◌, max, length, take};
+ghost use Rattle.std.specs.Prelude.{◌≡◌, ◌≤◌, ◌<◌, length, take};
 ghost use Rattle.delivery_supports.specs.inside.Highest.{highest};
-
-// The higher of two numbers.
-fn higher(a: usize, b: usize) -> usize
-    ensures { result ≡ max a b }
-{
-    if a < b { b } else { a }
-}
 
 // The highest of the first n supports, 0 where there is none. One pass.
 fn highest(supports: &[u16], n: usize) -> usize
     requires { n ≤ length supports.now }
     ensures { result ≡ highest (take n supports.now) }
 {
-    let mut most = 0;
-    let mut i = 0;
-    while i < n {
-        most = higher(most, supports[i] as usize);
-        i += 1;
+    let mut most: usize = 0;
+    for support in &supports[..n] {
+        most = most.max(usize::from(*support));
     }
     most
 }

@@ -26,18 +26,15 @@ fn raised(counted: Tally, answer: Answer) -> Tally
     match answer {
         Answer::Applied => Tally {
             applied: counted.applied + 1,
-            idle: counted.idle,
-            refused: counted.refused,
+            ..counted
         },
         Answer::Idle => Tally {
-            applied: counted.applied,
             idle: counted.idle + 1,
-            refused: counted.refused,
+            ..counted
         },
         Answer::Refused(_) => Tally {
-            applied: counted.applied,
-            idle: counted.idle,
             refused: counted.refused + 1,
+            ..counted
         },
     }
 }
@@ -66,8 +63,7 @@ pub fn refused(counted: Tally, entries: usize) -> Tally
     ensures { result ≡ tally counted.applied counted.idle (counted.refused + entries) }
 {
     Tally {
-        applied: counted.applied,
-        idle: counted.idle,
         refused: counted.refused + entries as u32,
+        ..counted
     }
 }

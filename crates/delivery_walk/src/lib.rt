@@ -17,10 +17,8 @@ fn fields_end(bytes: &[u8], at: usize, n: usize) -> usize
     ensures { result ≡ fields_end bytes.now at n }
 {
     let mut end = at;
-    let mut left = n;
-    while 0 < left {
+    for _ in 0..n {
         end = field_end(bytes, end);
-        left -= 1;
     }
     end
 }

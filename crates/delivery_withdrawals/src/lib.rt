@@ -52,7 +52,7 @@ fn withdraw_fact(
     let n = facts[0] as usize;
     let most = bound(supports, kept[0] as usize, n, known);
     WithdrawnFact {
-        answer: answer,
+        answer,
         bound: most,
         formed: most <= n,
     }
@@ -76,21 +76,18 @@ pub fn withdraw_facts(
     ensures formed_value { result.formed ≡ are_formed (tables statements.new facts.new kept.new supports.new) }
 {
     let start = delivery_format::section_start(bytes, k);
-    let mut at = start + 2;
-    let mut left = delivery_format::short_at(bytes, start);
+    let entries = delivery_format::short_at(bytes, start);
     let mut sum = counted;
     let mut most = facts[0] as usize;
-    while 0 < left {
-        let fact = delivery_format::entry_at(bytes, at);
+    for i in 0..entries {
+        let fact = delivery_format::entry_at(bytes, start + 2 + i * delivery_format::ENTRY_BYTES);
         let step = withdraw_fact(statements, facts, kept, supports, fact, most);
         let answer = step.answer;
         sum = tallied(sum, answer);
-        at += delivery_format::ENTRY_BYTES;
-        left -= 1;
         most = step.bound;
         if !step.formed {
             return Withdrawals {
-                counted: refused(sum, left),
+                counted: refused(sum, entries - i - 1),
                 formed: false,
             };
         }

@@ -1,7 +1,7 @@
 // One call, encoded in lent words, run over lent tables by the store's own entries (document 01, "The ledger").
 #![tactic(auto)]
 
-ghost use Rattle.std.specs.Prelude.{◌≡◌, min, take, drop};
+ghost use Rattle.std.specs.Prelude.{◌≡◌, take, drop};
 ghost use Rattle.spec.specs.Tables.{tables};
 ghost use Rattle.spec.specs.Deliveries.{deliver};
 ghost use Rattle.spec.specs.Ledger.{answered, resulted};
@@ -32,16 +32,6 @@ fn delivery_words(d: Delivered) -> [u32; 5]
     [d.refusal, d.number, d.applied, d.idle, d.refused]
 }
 
-// The lesser of two numbers.
-fn lesser(a: usize, b: usize) -> usize
-    ensures { result ≡ min a b }
-{
-    if a < b {
-        return a;
-    }
-    b
-}
-
 // Delivers the bytes from index from on, size of them or as many as there are.
 fn deliver_part(
     statements: &mut [u32],
@@ -54,9 +44,15 @@ fn deliver_part(
 ) -> Delivered
     ensures { (result, tables statements.new facts.new kept.new supports.new) ≡ deliver (tables statements.old facts.old kept.old supports.old) (take size (drop from bytes.now)) }
 {
-    let start = lesser(from as usize, bytes.len());
-    let end = start + lesser(size as usize, bytes.len() - start);
-    delivery_run::deliver(statements, facts, kept, supports, &bytes[start..end])
+    let start = (from as usize).min(bytes.len());
+    let len = (size as usize).min(bytes.len() - start);
+    delivery_run::deliver(
+        statements,
+        facts,
+        kept,
+        supports,
+        &bytes[start..start + len],
+    )
 }
 
 // The update that a kind of call asks for.

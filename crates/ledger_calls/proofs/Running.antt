@@ -92,6 +92,16 @@ module _ {words bytes replies₀ : List ℕ} {T₀ : Tables} where
   going_more zero G h e f = absurd (omega arith)
   going_more (suc m) G h e f = let p : suc m - 1 ≡ m = omega arith in rw (f, p) (turn G e)
 
+  -- counted by the calls that have been run, of n,
+  pub call-next : (n i : ℕ) {replies replies' reply : List ℕ} {T T' : Tables} → Going words bytes replies₀ T₀ (n - i) (i * 4) (i * 5) replies T → i < n
+      → (reply, T') ≡ worded_call T (call_of bytes (get_or words (i * 4) 0) (get_or words (i * 4 + 1) 0) (get_or words (i * 4 + 2) 0) (get_or words (i * 4 + 3) 0))
+      → replies' ≡ sets replies (i * 5) reply → Going words bytes replies₀ T₀ (n - (i + 1)) ((i + 1) * 4) ((i + 1) * 5) replies' T'
+  call-next n i G h e f =
+      let p : n - (i + 1) ≡ n - i - 1 = omega arith in
+      let q : (i + 1) * 4 ≡ i * 4 + 4 = omega arith in
+      let r : (i + 1) * 5 ≡ i * 5 + 5 = omega arith in
+      rw (p, q, r) (going_more (n - i) G (omega arith) e f)
+
   -- and at the end all calls have been run.
   pub going_end : (left : ℕ) {at to : ℕ} {replies : List ℕ} {T : Tables} → Going words bytes replies₀ T₀ left at to replies T → left ≤ 0
       → (T ≡ (calls store_entries (encoded words bytes) T₀).after) × (replies ≡ sets replies₀ 0 (reply_words (calls store_entries (encoded words bytes) T₀).given))

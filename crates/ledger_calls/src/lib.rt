@@ -36,10 +36,8 @@ pub fn run_calls(
     ensures supports_after { tables statements.new facts.new kept.new supports.new ≡ (calls store_entries (encoded words.now bytes.now) (tables statements.old facts.old kept.old supports.old)).after }
     ensures replies_after { replies.new ≡ sets replies.old 0 (reply_words (calls store_entries (encoded words.now bytes.now) (tables statements.old facts.old kept.old supports.old)).given) }
 {
-    let mut left = words.len() / 4;
-    let mut at = 0;
-    let mut to = 0;
-    while 0 < left {
+    for i in 0..words.len() / 4 {
+        let at = i * 4;
         let reply = run_call(
             statements,
             facts,
@@ -51,9 +49,6 @@ pub fn run_calls(
             words[at + 2],
             words[at + 3],
         );
-        write_reply(reply, to, replies);
-        left -= 1;
-        at += 4;
-        to += 5;
+        write_reply(reply, i * 5, replies);
     }
 }

@@ -1,17 +1,13 @@
-use Prim.Native.Nat.{◌-◌}
 use native.Mathlib.Omega.{arith}
+use lib.ListN.{take}
 use Rattle.delivery_supports.proofs.HighestLaws.{highest_more, highest_end}
-use borrow.Author.Rules.{rules}
 use Rattle.delivery_supports.proofs.highest.Goals as goal
 
-pub loop-i-init : goal.loop-i-init
-loop-i-init c = (search rules, omega arith)
+pub loop-support-init : goal.loop-support-init
+loop-support-init c = omega arith
 
-pub overflow_cast-supports : goal.overflow_cast-supports
-overflow_cast-supports c = omega (arith, c.type_inv.supports c.loop-i.i)
-
-pub loop-i-preserved : goal.loop-i-preserved
-loop-i-preserved c = (search rules, rw c.higher-most.ensures (highest_more c.args.n c.args.supports.now c.requires c.loop-i.i c.loop-i.most c.loop-i-test.true c.loop-i.invariant.1))
+pub loop-support-preserved : goal.loop-support-preserved
+loop-support-preserved c = rw (c.max-most.ensures, c.from.ensures) (highest_more (take c.args.n c.args.supports.now) c.loop-support.support-index c.loop-support.most c.loop-support-test.true c.loop-support.invariant)
 
 pub returns : goal.returns
-returns c = highest_end c.args.n c.args.supports.now c.requires c.loop-i.i c.loop-i.most c.loop-i-test.false c.loop-i.invariant.1
+returns c = highest_end (take c.args.n c.args.supports.now) c.loop-support.support-index c.loop-support.most c.loop-support-test.false c.loop-support.invariant

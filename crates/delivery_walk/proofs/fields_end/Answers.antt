@@ -1,13 +1,17 @@
-use mathlib.Core.Path.{refl, sym, ◌∙◌}
+use Prim.Native.Nat.{◌+◌, ◌-◌}
+use mathlib.Core.Path.{◌≡◌, sym, ◌∙◌}
+use native.Mathlib.Nat.{sub-zero}
+use native.Mathlib.Omega.{arith}
 use Rattle.delivery_format.proofs.Walk.{fields_end_more, fields_end_none}
-use borrow.Author.Rules.{rules}
 use Rattle.delivery_walk.proofs.fields_end.Goals as goal
 
-pub loop-left-init : goal.loop-left-init
-loop-left-init c = (search rules, (refl, search rules))
+pub loop-init : goal.loop-init
+loop-init c = (rw sub-zero, omega arith)
 
-pub loop-left-preserved : goal.loop-left-preserved
-loop-left-preserved c = (search rules, (fields_end_more c.args.bytes.now c.loop-left.end c.loop-left.left _ (search rules) c.field_end-end.ensures.value ∙ c.loop-left.invariant.1.0, search rules))
+pub loop-preserved : goal.loop-preserved
+loop-preserved c =
+    let left : c.args.n - (c.loop.counter + 1) ≡ c.args.n - c.loop.counter - 1 = omega arith in
+    (rw left (fields_end_more c.args.bytes.now c.loop.end (c.args.n - c.loop.counter) _ (omega arith) c.field_end-end.ensures.value ∙ c.loop.invariant.0), omega (arith, c.field_end-end.ensures.upper_bound))
 
 pub returns : goal.returns
-returns c = sym (fields_end_none c.args.bytes.now c.loop-left.end c.loop-left.left (search rules)) ∙ c.loop-left.invariant.1.0
+returns c = sym (fields_end_none c.args.bytes.now c.loop.end (c.args.n - c.loop.counter) (omega arith)) ∙ c.loop.invariant.0
