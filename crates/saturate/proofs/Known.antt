@@ -1,9 +1,11 @@
 -- What is known of well-formed tables and of the compiled statements, as the run over the subjects asks for it. Assumes nothing.
 use mathlib.Core.Path.{◌≡◌, sym, ap, ◌∙◌}
 use mathlib.Core.List.{List}
-use Prim.Native.Nat.{ℕ, ◌*◌, ◌^◌, ◌≤◌, ◌<◌}
+use Prim.Native.Nat.{ℕ, ◌+◌, ◌*◌, ◌^◌, ◌≤◌, ◌<◌}
 use native.Mathlib.Omega.{arith}
-use lib.ListN.{length, get_or}
+use lib.ListN.{length, get_or, replicate, length-replicate}
+use Rattle.saturate_counts.proofs.Zeros.{zero-words}
+use Rattle.saturate_schema.specs.inside.Squares.{at}
 use Rattle.spec.specs.Terms.{is_literal, triple, is_allowed_statement, is_allowed_fact}
 use Rattle.spec.specs.Tables.{count, rows, most_statements, most_facts}
 use Rattle.spec.specs.inside.Laid.{WellFormed}
@@ -22,6 +24,10 @@ use Rattle.saturate_counts.specs.inside.Prepared.{Prepared, Facts}
 use Rattle.saturate_counts.specs.inside.Supported.{Supported, Small}
 use Rattle.saturate_write.specs.inside.Written.{Exists}
 use Rattle.saturate.specs.inside.Saturated.{Domains, Ranges}
+
+-- A square of zeros has no bits.
+pub no_bits : (length (replicate {A = ℕ} 262144 0) ≡ 262144) × ((i c : ℕ) → at (replicate {A = ℕ} 262144 0) i c ≡ 0)
+no_bits = (length-replicate {A = ℕ} 262144 0, λ i c. zero-words 262144 (i * 512 + c))
 
 -- The facts of a well-formed table.
 pub facts_are : (f : List ℕ) → WellFormed is_allowed_fact most_facts f → Facts f (count f)

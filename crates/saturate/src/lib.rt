@@ -23,42 +23,6 @@ const SQUARE: usize = MOST_STATEMENTS * MOST_COLUMNS;
 // How many places of facts there are, and one more.
 const PLACES: usize = MOST_FACTS + 1;
 
-// A square of bits of 0. Large arrays come as zeros out of functions of their own and are lent to those that fill them: an array that is
-// computed and returned would be copied on the stack.
-fn no_bits() -> [u8; SQUARE]
-    ensures { (length result ≡ 262144) × ((i c : ℕ) → at result i c ≡ 0) }
-{
-    [0u8; SQUARE]
-}
-
-// Room for the places of the facts.
-fn no_places() -> [u32; PLACES]
-    ensures { length result ≡ 65536 }
-{
-    [0u32; PLACES]
-}
-
-// Room for the columns.
-fn no_columns() -> [u64; MOST_COLUMNS]
-    ensures { length result ≡ 512 }
-{
-    [0u64; MOST_COLUMNS]
-}
-
-// Room for the terms of the columns.
-fn no_keys() -> [u32; MOST_COLUMNS]
-    ensures { length result ≡ 512 }
-{
-    [0u32; MOST_COLUMNS]
-}
-
-// Room for what a row gains.
-fn no_gain() -> [u8; MOST_COLUMNS]
-    ensures { length result ≡ 512 }
-{
-    [0u8; MOST_COLUMNS]
-}
-
 // Fills a square of 0: what the statements lead to by subclasses, subproperties and via.
 fn fill_square(
     statements: &[u32],
@@ -73,7 +37,7 @@ fn fill_square(
     requires square_len { (length square.old ≡ 262144) × ((i c : ℕ) → at square.old i c ≡ 0) }
     ensures { Ranges statements.now m columns.now ns via square.new }
 {
-    let mut gain = no_gain();
+    let mut gain = [0; MOST_COLUMNS];
     saturate_squares::close(statements, m, columns, ns, via, square, &mut gain);
 }
 
@@ -98,6 +62,7 @@ fn fill_places(facts: &[u32], ix: &mut [u32])
 }
 
 // Works the kept facts and their supports out afresh. True: they are in kept and supports. False: they do not fit room, and no word has changed.
+// The arrays are lent to those that fill them: an array that is computed and returned would be copied on the stack.
 pub fn saturate(
     statements: &[u32],
     facts: &[u32],
@@ -111,16 +76,16 @@ pub fn saturate(
     ensures { result_of result kept.new supports.new ≡ saturated statements.now facts.now room kept.old supports.old }
 {
     let m = statements[0] as usize;
-    let mut columns = no_columns();
+    let mut columns = [0; MOST_COLUMNS];
     let ns = saturate_columns::columns(statements, m, &mut columns);
     let nc = saturate_columns::classes(&columns, ns);
-    let mut keys = no_keys();
+    let mut keys = [0; MOST_COLUMNS];
     saturate_columns::terms(&columns, ns, &mut keys);
-    let mut domains = no_bits();
+    let mut domains = [0; SQUARE];
     fill_domains(statements, m, &columns, ns, &mut domains);
-    let mut ranges = no_bits();
+    let mut ranges = [0; SQUARE];
     fill_square(statements, m, &columns, ns, Term::RANGE, &mut ranges);
-    let mut ix = no_places();
+    let mut ix = [0; PLACES];
     fill_places(facts, &mut ix);
     let sizes = Sizes {
         statements: m,

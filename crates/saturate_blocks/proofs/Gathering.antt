@@ -1,7 +1,7 @@
 -- Laws of the blocks of facts whose property leads to a column. Assumes nothing.
 use mathlib.Core.Path.{◌≡◌, refl, sym, ap, ◌∙◌}
 use mathlib.Core.Bool.{Bool, true, false, cond}
-use mathlib.Core.List.{List, [], ◌∷◌}
+use mathlib.Core.List.{List, ◌∷◌}
 use mathlib.Core.Logic.{by_cases}
 use Prim.Native.Nat.{ℕ, zero, suc, ◌+◌, ◌-◌, ◌*◌, ◌^◌, ◌≤◌, ◌<◌}
 use native.Mathlib.Omega.{arith}
@@ -20,6 +20,16 @@ use Rattle.saturate_blocks.specs.inside.Sums.{sum_from}
 use Rattle.saturate_blocks.specs.inside.Blocks.{led_at, OneSubject, Block, starts_below, Gathered}
 use Rattle.saturate_blocks.proofs.Ranges.{from_join, from_zero}
 use Rattle.saturate_counts.proofs.NodeBits.{node_starts}
+
+-- ---- the test of a bit
+
+-- It is true of 1,
+pub leads_yes : (b : ℕ) → eqb b 1 ≡ true → b ≡ 1
+leads_yes b e = by_cases (ℕ_discrete b 1) (λ q. q) (λ n. absurd (true-not_false (sym e ∙ ne_eqb b 1 n)))
+
+-- and false of 0 alone.
+pub leads_no : (b : ℕ) → b ≤ 1 → eqb b 1 ≡ false → b ≡ 0
+leads_no b l e = by_cases (ℕ_discrete b 1) (λ q. absurd (true-not_false (sym (eq-eqb b 1 q) ∙ e))) (λ n. omega arith)
 
 -- ---- statements that start below a node
 
@@ -83,7 +93,7 @@ module _ (st : List ℕ) (m : ℕ) (d : List ℕ) (c : ℕ) (f ends₀ ends : Li
   few_here : k ≤ k₀ + starts_below st m (property_node p)
   few_here = let here : property_at f y ≡ p = w.all y (omega arith) w.grows in rw (← here) (g.fewer (omega (arith, w.grows, w.ends)))
 
-  pub gather_room : node_bit st m d (property_node p) c ≡ 1 → k < k₀ + m
+  gather_room : node_bit st m d (property_node p) c ≡ 1 → k < k₀ + m
   gather_room h =
       let l = node_starts st m d (property_node p) c h in
       omega (arith, few_here, starts_strict st m (p + 2 ^ 32) (p + 2 ^ 32 + 1) l.number l.below l.node (omega arith), starts_few st m (p + 2 ^ 32 + 1))
@@ -119,6 +129,11 @@ module _ (st : List ℕ) (m : ℕ) (d : List ℕ) (c : ℕ) (f ends₀ ends : Li
         rising = g.rising;
         sums = λ o. omega (arith, g.sums o, sum_on o, block-not st m d f o c p y (z - y) (λ x h u. w.all x h (omega (arith, w.grows))) n);
       }
+
+-- Where the test of its bit is true, the streams have room for the block.
+pub gather_long : (st : List ℕ) (m : ℕ) (d : List ℕ) (c : ℕ) (f ends₀ ends : List ℕ) (k₀ k i y e z p : ℕ) {b : Bool} {r : ℕ} → Gathered st m d c f ends₀ ends k₀ k i y e → Block f y z e p → r ≡ p → b ≡ eqb (node_bit st m d (property_node r) c) 1 → b ≡ true → (k₀ + m) * 2 ≤ length ends₀ → k * 2 + 1 < length ends
+gather_long st m d c f ends₀ ends k₀ k i y e z p g w q t h le =
+    omega (arith, gather_room st m d c f ends₀ ends k₀ k i y e z p g w (leads_yes _ (rw q at (sym t ∙ h))), g.same_ends, le)
 
 pub gather_start : (st : List ℕ) (m : ℕ) (d : List ℕ) (c : ℕ) (f ends : List ℕ) (k i e : ℕ) → i ≤ e → AllRising (streams f ends k) → ((z : ℕ) → z < k → get_or ends (z * 2 + 1) 0 * 3 < length f) → Gathered st m d c f ends ends k k i i e
 unfolding sum_from
@@ -166,13 +181,3 @@ block_here f a z e g s lt n =
 
 pub block_last : (f : List ℕ) (a z e : ℕ) → SameProperty f a z → z ≡ e → Block f a z e (property_at f a)
 block_last f a z e s q = record { grows = s.grows; ends = omega arith; all = s.all; next = λ h. absurd (omega arith) }
-
--- ---- the test of a bit
-
--- It is true of 1,
-pub leads_yes : (b : ℕ) → eqb b 1 ≡ true → b ≡ 1
-leads_yes b e = by_cases (ℕ_discrete b 1) (λ q. q) (λ n. absurd (true-not_false (sym e ∙ ne_eqb b 1 n)))
-
--- and false of 0 alone.
-pub leads_no : (b : ℕ) → b ≤ 1 → eqb b 1 ≡ false → b ≡ 0
-leads_no b l e = by_cases (ℕ_discrete b 1) (λ q. absurd (true-not_false (sym (eq-eqb b 1 q) ∙ e))) (λ n. omega arith)

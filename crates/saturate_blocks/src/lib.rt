@@ -37,14 +37,12 @@ fn block_end(f: &[u32], a: usize, e: usize) -> usize
     ensures { Block f.now a result e (property_at f.now a) }
 {
     let p = property_at(f, a);
-    let mut z = a + 1;
-    while z < e {
+    for z in a + 1..e {
         if property_at(f, z) != p {
             return z;
         }
-        z += 1;
     }
-    z
+    e
 }
 
 // Adds to the first k0 streams the blocks of the facts i .. e, of one subject, whose property leads to column c; how many streams there are then.
@@ -87,14 +85,12 @@ pub fn first_from(f: &[u32], q: usize, e: usize, w: u64) -> usize
     requires one_subject { OneSubject f.now q e }
     ensures { Split f.now q result e w }
 {
-    let mut z = q;
-    while z < e {
+    for z in q..e {
         if w <= wide(property_at(f, z)) {
             return z;
         }
-        z += 1;
     }
-    z
+    e
 }
 
 // Puts the facts a .. b as they are, each with the support 1.
@@ -112,11 +108,9 @@ pub fn put_facts(
     ensures { output kept.new supports.new result ≡ put_all room (ones f.now a (b - a)) (output kept.old supports.old n0) }
 {
     let mut n = n0;
-    let mut y = a;
-    while y < b {
+    for y in a..b {
         let t = table::row_at(f, y);
         n = put(kept, supports, room, n, t.subject, t.property, t.object, 1);
-        y += 1;
     }
     n
 }

@@ -6,7 +6,7 @@ use mathlib.Core.Logic.{by_cases}
 use Prim.Native.Nat.{ℕ, suc, ◌+◌, ◌-◌, ◌*◌, ◌^◌, ◌≤◌, ◌<◌}
 use native.Mathlib.Omega.{arith}
 use native.Mathlib.Decide.{dec_lt}
-use lib.ListN.{length, get_or}
+use lib.ListN.{get_or}
 use lib.Dec.{eqb}
 use borrow.Author.Tests.{lt-ltb, le-ltb, eq-eqb, ne_eqb}
 use Rattle.spec.specs.Terms.{triple}
@@ -65,8 +65,6 @@ pub record Counting (x p room : ℕ) (l₀ : List ℕ) (ws₀ : Counted) (out₀
   pub rising : Rising l
   pub keys_rising : KeysRising ws
   pub small : (o : ℕ) → total l ws o < 2 ^ 16
-  pub same-words : length out.words ≡ length out₀.words
-  pub same_supports : length out.supports ≡ length out₀.supports
   pub rows : (K : Kept) → Counts K → Totalled K x p l₀ ws₀ → Listing K x p room out₀ out (total l ws) (least l ws)
 
 total_below : (l : List ℕ) (ws : Counted) (o : ℕ) → Rising l → KeysRising ws → o < least l ws → total l ws o ≡ 0
@@ -78,7 +76,7 @@ unfolding total
 total_above l ws o r rw' le = omega (arith, often_above o 0 l r le, count_of_above o ws rw' le)
 
 pub counting_start : (x p room : ℕ) (l : List ℕ) (ws : Counted) (out : Output) → Rising l → KeysRising ws → ((o : ℕ) → total l ws o < 2 ^ 16) → Counting x p room l ws out out l ws
-counting_start x p room l ws out r rw' s = record { rising = r; keys_rising = rw'; small = s; same-words = refl; same_supports = refl; rows = λ K a t. listing_start K x p room out (total l ws) (least l ws) a t (λ o lt. total_below l ws o r rw' lt) }
+counting_start x p room l ws out r rw' s = record { rising = r; keys_rising = rw'; small = s; rows = λ K a t. listing_start K x p room out (total l ws) (least l ws) a t (λ o lt. total_below l ws o r rw' lt) }
 
 left_here : (b : ℕ) (l : List ℕ) (ws : Counted) → Rising (b ∷ l) → KeysRising ws → b < first_key ws → total (b ∷ l) ws b ≡ 1
 unfolding total often
@@ -109,31 +107,27 @@ unfolding total often count_of
 both_here b w l ws r s e = rw (eq-eqb b b refl, eq-eqb w.0 b (sym e)) (omega (arith, over_absent b b l r.1 (omega arith), keys_over_absent b w.0 ws s.1 (omega arith)))
 
 -- only an explicit object
-pub counting_left : (x p room : ℕ) (l₀ : List ℕ) (ws₀ : Counted) (out₀ out out' : Output) (b : ℕ) (l : List ℕ) (ws : Counted) → Counting x p room l₀ ws₀ out₀ out (b ∷ l) ws → b < first_key ws → out' ≡ put_one room (triple x p b, 1) out → length out'.words ≡ length out.words → length out'.supports ≡ length out.supports → Counting x p room l₀ ws₀ out₀ out' l ws
+pub counting_left : (x p room : ℕ) (l₀ : List ℕ) (ws₀ : Counted) (out₀ out out' : Output) (b : ℕ) (l : List ℕ) (ws : Counted) → Counting x p room l₀ ws₀ out₀ out (b ∷ l) ws → b < first_key ws → out' ≡ put_one room (triple x p b, 1) out → Counting x p room l₀ ws₀ out₀ out' l ws
 unfolding front_of
-counting_left x p room l₀ ws₀ out₀ out out' b l ws g lt e lw ls =
+counting_left x p room l₀ ws₀ out₀ out out' b l ws g lt e =
     record {
       rising = over_rising b l g.rising.1;
       keys_rising = g.keys_rising;
       small = λ o. omega (arith, g.small o, left_less b l ws o);
-      same-words = lw ∙ g.same-words;
-      same_supports = ls ∙ g.same_supports;
       rows = λ K a t. rw e (listing-put K x p room out₀ out (total (b ∷ l) ws) (total l ws) b (least l ws) 1 a (rw (lt-ltb b (first_key ws) lt) at (g.rows K a t)) (left_here b l ws g.rising g.keys_rising lt) (omega arith)
           (lesser_lt b (front_of l) (first_key ws) (over_front b l g.rising.0 g.rising.1) lt) (left_same b l ws)
           (λ o _ h. total_below l ws o (over_rising b l g.rising.1) g.keys_rising h));
     }
 
 -- only a keys, which was counted
-pub counting_right : (x p room : ℕ) (l₀ : List ℕ) (ws₀ : Counted) (out₀ out out' : Output) (l : List ℕ) (w : ℕ × ℕ) (ws : Counted) → Counting x p room l₀ ws₀ out₀ out l (w ∷ ws) → w.0 < front_of l → 0 < w.1 → out' ≡ put_one room (triple x p w.0, w.1) out → length out'.words ≡ length out.words → length out'.supports ≡ length out.supports → Counting x p room l₀ ws₀ out₀ out' l ws
+pub counting_right : (x p room : ℕ) (l₀ : List ℕ) (ws₀ : Counted) (out₀ out out' : Output) (l : List ℕ) (w : ℕ × ℕ) (ws : Counted) → Counting x p room l₀ ws₀ out₀ out l (w ∷ ws) → w.0 < front_of l → 0 < w.1 → out' ≡ put_one room (triple x p w.0, w.1) out → Counting x p room l₀ ws₀ out₀ out' l ws
 unfolding first_key
-counting_right x p room l₀ ws₀ out₀ out out' l w ws g lt pos e lw ls =
+counting_right x p room l₀ ws₀ out₀ out out' l w ws g lt pos e =
     let k : w.0 ≤ front_of l = omega arith in
     record {
       rising = g.rising;
       keys_rising = keys_over_rising w.0 ws g.keys_rising.1;
       small = λ o. omega (arith, g.small o, right-less w l ws o);
-      same-words = lw ∙ g.same-words;
-      same_supports = ls ∙ g.same_supports;
       rows = λ K a t. rw e (listing-put K x p room out₀ out (total l (w ∷ ws)) (total l ws) w.0 (least l ws) w.1 a (rw (le-ltb (front_of l) w.0 k) at (g.rows K a t)) (right_here w l ws g.rising g.keys_rising lt) pos
           (lesser_lt w.0 (front_of l) (first_key ws) lt (keys_over_front w.0 ws g.keys_rising.0 g.keys_rising.1)) (right_same w l ws)
           (λ o _ h. total_below l ws o g.rising (keys_over_rising w.0 ws g.keys_rising.1) h));
@@ -148,24 +142,20 @@ counting_pass x p room l₀ ws₀ out₀ out l w ws g lt none =
       rising = g.rising;
       keys_rising = keys_over_rising w.0 ws g.keys_rising.1;
       small = λ o. omega (arith, g.small o, right-less w l ws o);
-      same-words = g.same-words;
-      same_supports = g.same_supports;
       rows = λ K a t. listing-skip K x p room out₀ out (total l (w ∷ ws)) (total l ws) w.0 (least l ws) a (rw (le-ltb (front_of l) w.0 k) at (g.rows K a t)) (right_here w l ws g.rising g.keys_rising lt ∙ none)
           (lesser_lt w.0 (front_of l) (first_key ws) lt (keys_over_front w.0 ws g.keys_rising.0 g.keys_rising.1)) (right_same w l ws)
           (λ o _ h. total_below l ws o g.rising (keys_over_rising w.0 ws g.keys_rising.1) h);
     }
 
 -- an explicit object that is a keys
-pub counting_both : (x p room : ℕ) (l₀ : List ℕ) (ws₀ : Counted) (out₀ out out' : Output) (b : ℕ) (l : List ℕ) (w : ℕ × ℕ) (ws : Counted) → Counting x p room l₀ ws₀ out₀ out (b ∷ l) (w ∷ ws) → b ≡ w.0 → out' ≡ put_one room (triple x p b, w.1 + 1) out → length out'.words ≡ length out.words → length out'.supports ≡ length out.supports → Counting x p room l₀ ws₀ out₀ out' l ws
+pub counting_both : (x p room : ℕ) (l₀ : List ℕ) (ws₀ : Counted) (out₀ out out' : Output) (b : ℕ) (l : List ℕ) (w : ℕ × ℕ) (ws : Counted) → Counting x p room l₀ ws₀ out₀ out (b ∷ l) (w ∷ ws) → b ≡ w.0 → out' ≡ put_one room (triple x p b, w.1 + 1) out → Counting x p room l₀ ws₀ out₀ out' l ws
 unfolding first_key front_of
-counting_both x p room l₀ ws₀ out₀ out out' b l w ws g q e lw ls =
+counting_both x p room l₀ ws₀ out₀ out out' b l w ws g q e =
     let k : w.0 ≤ b = omega arith in
     record {
       rising = over_rising b l g.rising.1;
       keys_rising = keys_over_rising w.0 ws g.keys_rising.1;
       small = λ o. omega (arith, g.small o, right-less w l ws o, left_less b l (w ∷ ws) o);
-      same-words = lw ∙ g.same-words;
-      same_supports = ls ∙ g.same_supports;
       rows = λ K a t. rw (e, q) (listing-put K x p room out₀ out (total (b ∷ l) (w ∷ ws)) (total l ws) w.0 (least l ws) (w.1 + 1) a (rw (le-ltb b w.0 k) at (g.rows K a t)) (ap (total (b ∷ l) (w ∷ ws)) (sym q) ∙ both_here b w l ws g.rising g.keys_rising q) (omega arith)
           (lesser_lt w.0 (front_of l) (first_key ws) (rw q at (over_front b l g.rising.0 g.rising.1)) (keys_over_front w.0 ws g.keys_rising.0 g.keys_rising.1))
           (λ o h. right_same w l ws o h ∙ left_same b l (w ∷ ws) o (omega arith))
@@ -196,27 +186,31 @@ pub key_at-at : (keys : List ℕ) (r end : ℕ) → r < end → key_at keys r en
 unfolding key_at
 key_at-at keys r end h = rw (lt-ltb r end h)
 
+-- A key that is not past an object is none from the end on.
+pub key_low : (keys : List ℕ) (r end o k : ℕ) → k ≡ key_at keys r end → k ≤ o → o < 2 ^ 32 → r < end
+key_low keys r end o k e le lt = key_at_low keys r end (omega arith)
+
 -- ==== the code's places
 
 module _ (x p room : ℕ) (f keys counts : List ℕ) (e end : ℕ) (l₀ : List ℕ) (ws₀ : Counted) (out₀ : Output) where
   abbrev pub At : Output → ℕ → ℕ → Type 0
   At out q r = Counting x p room l₀ ws₀ out₀ out (objects f q (e - q)) (counted keys counts r end)
 
-  pub at_left : (out out' : Output) (q r b : ℕ) → At out q r → q < e → b ≡ get_or f (q * 3 + 3) 0 → b < key_at keys r end → out' ≡ put_one room (triple x p b, 1) out → length out'.words ≡ length out.words → length out'.supports ≡ length out.supports → At out' (q + 1) r
-  at_left out out' q r b g lt eb h es lw ls =
-      counting_left x p room l₀ ws₀ out₀ out out' b (objects f (q + 1) (e - (q + 1))) (counted keys counts r end) (rw eb (rw (objects-some f q e lt) at g)) (rw (key_at_is keys counts r end) at h) es lw ls
+  pub at_left : (out out' : Output) (q r b : ℕ) → At out q r → q < e → b ≡ get_or f (q * 3 + 3) 0 → b < key_at keys r end → out' ≡ put_one room (triple x p b, 1) out → At out' (q + 1) r
+  at_left out out' q r b g lt eb h es =
+      counting_left x p room l₀ ws₀ out₀ out out' b (objects f (q + 1) (e - (q + 1))) (counted keys counts r end) (rw eb (rw (objects-some f q e lt) at g)) (rw (key_at_is keys counts r end) at h) es
 
-  pub at_right : (out out' : Output) (q r b : ℕ) → At out q r → r < end → b ≡ get_or keys r 0 → b < front_of (objects f q (e - q)) → 0 < get_or counts r 0 → out' ≡ put_one room (triple x p b, get_or counts r 0) out → length out'.words ≡ length out.words → length out'.supports ≡ length out.supports → At out' q (r + 1)
-  at_right out out' q r b g lt eb h pos es lw ls =
-      counting_right x p room l₀ ws₀ out₀ out out' (objects f q (e - q)) (b, get_or counts r 0) (counted keys counts (r + 1) end) (rw eb (rw (counted-some keys counts r end lt) at g)) h pos es lw ls
+  pub at_right : (out out' : Output) (q r b : ℕ) → At out q r → r < end → b ≡ get_or keys r 0 → b < front_of (objects f q (e - q)) → 0 < get_or counts r 0 → out' ≡ put_one room (triple x p b, get_or counts r 0) out → At out' q (r + 1)
+  at_right out out' q r b g lt eb h pos es =
+      counting_right x p room l₀ ws₀ out₀ out out' (objects f q (e - q)) (b, get_or counts r 0) (counted keys counts (r + 1) end) (rw eb (rw (counted-some keys counts r end lt) at g)) h pos es
 
   pub at_pass : (out : Output) (q r b : ℕ) → At out q r → r < end → b ≡ get_or keys r 0 → b < front_of (objects f q (e - q)) → get_or counts r 0 ≡ 0 → At out q (r + 1)
   at_pass out q r b g lt eb h none =
       counting_pass x p room l₀ ws₀ out₀ out (objects f q (e - q)) (b, get_or counts r 0) (counted keys counts (r + 1) end) (rw eb (rw (counted-some keys counts r end lt) at g)) h none
 
-  pub at_both : (out out' : Output) (q r b : ℕ) → At out q r → q < e → r < end → b ≡ get_or f (q * 3 + 3) 0 → b ≡ get_or keys r 0 → out' ≡ put_one room (triple x p b, get_or counts r 0 + 1) out → length out'.words ≡ length out.words → length out'.supports ≡ length out.supports → At out' (q + 1) (r + 1)
-  at_both out out' q r b g lt lt' eb ek es lw ls =
-      counting_both x p room l₀ ws₀ out₀ out out' b (objects f (q + 1) (e - (q + 1))) (get_or keys r 0, get_or counts r 0) (counted keys counts (r + 1) end) (rw eb (rw (objects-some f q e lt, counted-some keys counts r end lt') at g)) ek es lw ls
+  pub at_both : (out out' : Output) (q r b : ℕ) → At out q r → q < e → r < end → b ≡ get_or f (q * 3 + 3) 0 → b ≡ get_or keys r 0 → out' ≡ put_one room (triple x p b, get_or counts r 0 + 1) out → At out' (q + 1) (r + 1)
+  at_both out out' q r b g lt lt' eb ek es =
+      counting_both x p room l₀ ws₀ out₀ out out' b (objects f (q + 1) (e - (q + 1))) (get_or keys r 0, get_or counts r 0) (counted keys counts (r + 1) end) (rw eb (rw (objects-some f q e lt, counted-some keys counts r end lt') at g)) ek es
 
   pub at_small : (out : Output) (q r : ℕ) → At out q r → r < end → get_or counts r 0 < 2 ^ 16
   at_small out q r g lt = small_right x p room l₀ ws₀ out₀ out (objects f q (e - q)) (get_or keys r 0, get_or counts r 0) (counted keys counts (r + 1) end) (rw (counted-some keys counts r end lt) at g)

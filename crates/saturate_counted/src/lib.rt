@@ -23,7 +23,7 @@ pub struct Own {
     pub to: usize,
 }
 
-// Key r, 2^32 from end on.
+// Key r; 2^32 from end on, so that all objects that are left come before it.
 fn key_at(keys: &[u32; MOST_STATEMENTS], r: usize, end: usize) -> u64
     requires { end ≤ 512 }
     ensures { result ≡ key_at keys.now r end }
@@ -32,7 +32,7 @@ fn key_at(keys: &[u32; MOST_STATEMENTS], r: usize, end: usize) -> u64
 }
 
 // Puts x rdf:type o, x being the subject, for each object o of some rows and each key o below end that was counted, ascending; the support
-// of a key is its count, and one more where it is an object too.
+// of a key is its count, and one more where it is an object too. No `for` while both last: the lesser says which of the two goes on.
 pub fn merge_counted(
     f: &[u32],
     own: Own,
@@ -76,12 +76,10 @@ pub fn merge_counted(
             }
         }
     }
-    while r < end {
-        let c = counts[r];
-        let k = keys[r];
-        r += 1;
+    for i in r..end {
+        let c = counts[i];
         if 0 < c {
-            n = put(kept, supports, room, n, x, Term::TYPE, k, c as u16);
+            n = put(kept, supports, room, n, x, Term::TYPE, keys[i], c as u16);
         }
     }
     n

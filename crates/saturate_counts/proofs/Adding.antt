@@ -6,7 +6,8 @@ use mathlib.Core.Logic.{by_cases}
 use Prim.Native.Nat.{ℕ, ◌+◌, ◌-◌, ◌≤◌, ◌<◌, zero, suc}
 use native.Mathlib.Omega.{arith}
 use native.Mathlib.Decide.{ℕ_discrete, dec_lt}
-use lib.ListN.{length, get_or, set, length-set}
+use lib.ListN.{length, get_or, set, take, drop, length-set}
+use Rattle.std.proofs.lemmas.List.{get_or-take, get_or-drop, length-take-le, length-drop}
 use lib.Seq.{get_or-set_same, get_or-set_other}
 use lib.Dec.{ltb}
 use borrow.Author.Tests.{lt-ltb, le-ltb, eq-eqb, ne_eqb}
@@ -138,6 +139,14 @@ sum_few h a (suc b) le g =
     by_cases (dec_lt a (suc b))
     (λ l. omega (arith, sum_few h a b (omega arith) (λ y k u. g y k (omega arith)), g b (omega arith) (omega arith)))
     (λ n. let e : a ≡ suc b = omega arith in rw e (omega arith))
+
+-- What stands in the places a .. b of the index.
+module _ (ix : List ℕ) (a b : ℕ) (le : a ≤ b) (fit : b ≤ length ix) where
+  pub part-length : length (take (b - a) (drop a ix)) ≡ b - a
+  part-length = length-take-le (b - a) (drop a ix) (omega (arith, length-drop a ix))
+
+  pub part_at : (i : ℕ) → i < length (take (b - a) (drop a ix)) → get_or (take (b - a) (drop a ix)) i 0 ≡ get_or ix (a + i) 0
+  part_at i l = get_or-take (b - a) (drop a ix) i 0 (omega (arith, part-length)) ∙ get_or-drop a ix i 0
 
 pub summed_none : (counts : List ℕ) (h : ℕ → ℕ → ℕ) (end a : ℕ) → Summed counts counts h end a a
 summed_none counts h end a = record { same = refl; below = λ c l. refl; above = λ c l. refl }

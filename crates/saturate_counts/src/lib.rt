@@ -26,13 +26,6 @@ pub struct Subject {
     pub to: usize,
 }
 
-// A bit as a wider number.
-fn wide(bit: u8) -> u32
-    ensures { result ≡ bit }
-{
-    bit as u32
-}
-
 // The bit a, or else b where the column is a class.
 fn either_bit(a: u8, b: u8, class: bool) -> u8
     ensures { result ≡ cond class (either a b) a }
@@ -46,10 +39,8 @@ fn add_row(counts: &mut [u32], square: &[u8], g: usize, end: usize)
     requires by_index { (c : ℕ) → c < end → get_or counts.old c 0 + at square.now g c < 2 ^ 32 }
     ensures { Added counts.old counts.new (λ c. at square.now g c) end }
 {
-    let mut c = 0;
-    while c < end {
-        counts[c] = counts[c] + wide(square[g * MOST_COLUMNS + c]);
-        c += 1;
+    for c in 0..end {
+        counts[c] += u32::from(square[g * MOST_COLUMNS + c]);
     }
 }
 
@@ -60,15 +51,12 @@ fn add_either(counts: &mut [u32], domains: &[u8], ranges: &[u8], g: usize, nc: u
     requires by_index { (c : ℕ) → c < end → get_or counts.old c 0 + either_at domains.now ranges.now nc g c < 2 ^ 32 }
     ensures { Added counts.old counts.new (either_at domains.now ranges.now nc g) end }
 {
-    let mut c = 0;
-    while c < end {
-        counts[c] = counts[c]
-            + wide(either_bit(
-                domains[g * MOST_COLUMNS + c],
-                ranges[g * MOST_COLUMNS + c],
-                c < nc,
-            ));
-        c += 1;
+    for c in 0..end {
+        counts[c] += u32::from(either_bit(
+            domains[g * MOST_COLUMNS + c],
+            ranges[g * MOST_COLUMNS + c],
+            c < nc,
+        ));
     }
 }
 
@@ -129,12 +117,8 @@ fn count_subject(
     requires by_index { (c : ℕ) → c < sizes.columns → get_or counts.old c 0 + (own.end - own.first) < 2 ^ 32 }
     ensures { Summed counts.old counts.new (λ c y. own_bit statements.now sizes.statements sizes.classes domains.now ranges.now f.now own.term c y) sizes.columns own.first own.end }
 {
-    let x = own.term;
-    let e = own.end;
-    let mut y = own.first;
-    while y < e {
-        count_fact(statements, sizes, f, y, x, domains, ranges, counts);
-        y += 1;
+    for y in own.first..own.end {
+        count_fact(statements, sizes, f, y, own.term, domains, ranges, counts);
     }
 }
 
@@ -181,20 +165,9 @@ fn count_object(
     requires by_index_2 { (c : ℕ) → c < sizes.classes → get_or counts.old c 0 + (own.to - own.from) < 2 ^ 32 }
     ensures { Summed counts.old counts.new (λ c a. other_bit statements.now sizes.statements ranges.now f.now own.term c (get_or ix.now a 0)) sizes.classes own.from own.to }
 {
-    let x = own.term;
-    let h = own.to;
-    let mut a = own.from;
-    while a < h {
-        count_other(statements, sizes, f, ix[a] as usize, x, ranges, counts);
-        a += 1;
+    for y in &ix[own.from..own.to] {
+        count_other(statements, sizes, f, *y as usize, own.term, ranges, counts);
     }
-}
-
-// Counts of 0.
-fn no_counts() -> [u32; MOST_COLUMNS]
-    ensures { (length result ≡ 512) × ((c : ℕ) → get_or result c 0 ≡ 0) }
-{
-    [0u32; MOST_COLUMNS]
 }
 
 // The counts of the columns for a thing, from its facts.
@@ -218,7 +191,7 @@ pub fn counts_of(
     requires range_2 { Range (object_of f.now ix.now) (count f.now) own.term own.from own.to }
     ensures { CountsOf statements.now sizes.statements domains.now ranges.now sizes.classes sizes.columns f.now (count f.now) own.term result }
 {
-    let mut counts = no_counts();
+    let mut counts = [0; MOST_COLUMNS];
     count_subject(statements, sizes, f, own, domains, ranges, &mut counts);
     count_object(statements, sizes, f, ix, own, ranges, &mut counts);
     counts

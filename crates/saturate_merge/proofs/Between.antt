@@ -2,7 +2,7 @@
 use mathlib.Core.Path.{◌≡◌, refl, sym, ap, ◌∙◌}
 use mathlib.Core.List.{[], ◌∷◌, ◌++◌}
 use mathlib.Core.Logic.{by_cases}
-use Prim.Native.Nat.{ℕ, ◌+◌, ◌<◌}
+use Prim.Native.Nat.{ℕ, ◌<◌}
 use Rattle.spec.specs.declared.Triple.{Triple}
 use Rattle.spec.specs.inside.Comparison.{Less, less_irrefl, less, same, more, compare_triples, equal_triples}
 use Rattle.spec.proofs.Order.{less_ne, less_trans, choose_yes, choose_elim}

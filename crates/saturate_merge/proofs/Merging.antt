@@ -1,5 +1,5 @@
 -- Streams merged into rows of one subject and property. Assumes nothing.
-use mathlib.Core.Path.{◌≡◌, refl, ◌∙◌}
+use mathlib.Core.Path.{◌≡◌}
 use mathlib.Core.List.{List}
 use Prim.Native.Nat.{ℕ, ◌+◌, ◌*◌, ◌^◌, ◌≤◌, ◌<◌}
 use native.Mathlib.Omega.{arith}
@@ -30,35 +30,28 @@ merge_end : (K : Kept) (x q room : ℕ) (out₀ out : Output) (ls : List (List �
 merge_end K x q room out₀ out ls a r top g = listing_end K x q room out₀ out (λ o. tally o ls) (least_of ls) a g (λ o h. tally_above o ls r (omega arith))
 
 -- What holds at each turn of the loop.
-pub record Turn (f ends₀ ends : List ℕ) (k x q room : ℕ) (out₀ out : Output) (o : ℕ) : Type 0 where
+pub record Turn (f ends₀ ends : List ℕ) (k x q room : ℕ) (out₀ out : Output) : Type 0 where
   pub fits : Inside f ends k
   pub rising : AllRising (streams f ends k)
-  pub first : o ≡ least_of (streams f ends k)
-  pub same-words : length out.words ≡ length out₀.words
-  pub same_supports : length out.supports ≡ length out₀.supports
-  pub same_ends : length ends ≡ length ends₀
   pub rows : (K : Kept) → Counts K → Tallied K x q (streams f ends₀ k) → Merging K x q room out₀ out (streams f ends k)
 
-pub turn_start : (f ends : List ℕ) (k x q room : ℕ) (out : Output) (o : ℕ) → Inside f ends k → AllRising (streams f ends k) → o ≡ least_of (streams f ends k) → Turn f ends ends k x q room out out o
-turn_start f ends k x q room out o i r e = record { fits = i; rising = r; first = e; same-words = refl; same_supports = refl; same_ends = refl; rows = λ K a t. merge_start K x q room out (streams f ends k) a r t }
+pub turn_start : (f ends : List ℕ) (k x q room : ℕ) (out : Output) → Inside f ends k → AllRising (streams f ends k) → Turn f ends ends k x q room out out
+turn_start f ends k x q room out i r = record { fits = i; rising = r; rows = λ K a t. merge_start K x q room out (streams f ends k) a r t }
 
-pub turn_more : (f ends₀ ends ends' : List ℕ) (k x q room : ℕ) (out₀ out out' : Output) (o o' c : ℕ) → Turn f ends₀ ends k x q room out₀ out o → o < 2 ^ 32 → length ends' ≡ length ends → c ≡ hits o (streams f ends k) → streams f ends' k ≡ strips o (streams f ends k) → ((y : ℕ) → get_or ends' (y * 2 + 1) 0 ≡ get_or ends (y * 2 + 1) 0) → out' ≡ put_one room (triple x q o, c) out → length out'.words ≡ length out.words → length out'.supports ≡ length out.supports → o' ≡ least_of (streams f ends' k) → Turn f ends₀ ends' k x q room out₀ out' o'
-turn_more f ends₀ ends ends' k x q room out₀ out out' o o' c g lt l ec es same est lw ls e' =
-    record {
-      fits = (omega (arith, g.fits.0), λ y h. rw (same y) (g.fits.1 y h));
-      rising = rw es (rising-strips o (streams f ends k) g.rising);
-      first = e';
-      same-words = lw ∙ g.same-words;
-      same_supports = ls ∙ g.same_supports;
-      same_ends = l ∙ g.same_ends;
-      rows = λ K a t. rw (est, ec, es, g.first) (merge_turn K x q room out₀ out (streams f ends k) a g.rising (rw g.first at lt) (g.rows K a t));
-    }
+module _ (f ends₀ ends : List ℕ) (k x q room : ℕ) (out₀ out : Output) (o : ℕ) (g : Turn f ends₀ ends k x q room out₀ out) (first : o ≡ least_of (streams f ends k)) where
+  pub turn_more : (ends' : List ℕ) (out' : Output) (c : ℕ) → o < 2 ^ 32 → length ends' ≡ length ends → c ≡ hits o (streams f ends k) → streams f ends' k ≡ strips o (streams f ends k) → ((y : ℕ) → get_or ends' (y * 2 + 1) 0 ≡ get_or ends (y * 2 + 1) 0) → out' ≡ put_one room (triple x q o, c) out → Turn f ends₀ ends' k x q room out₀ out'
+  turn_more ends' out' c lt l ec es same est =
+      record {
+        fits = (omega (arith, g.fits.0), λ y h. rw (same y) (g.fits.1 y h));
+        rising = rw es (rising-strips o (streams f ends k) g.rising);
+        rows = λ K a t. rw (est, ec, es, first) (merge_turn K x q room out₀ out (streams f ends k) a g.rising (rw first at lt) (g.rows K a t));
+      }
 
-pub turn-less : (f ends₀ ends ends' : List ℕ) (k x q room : ℕ) (out₀ out : Output) (o : ℕ) → Turn f ends₀ ends k x q room out₀ out o → o < 2 ^ 32 → streams f ends' k ≡ strips o (streams f ends k) → remaining (streams f ends' k) < remaining (streams f ends k)
-turn-less f ends₀ ends ends' k x q room out₀ out o g lt es =
-    let h : 0 < hits o (streams f ends k) = rw g.first (hits_least (streams f ends k) (rw g.first at lt)) in
-    rw es (omega (arith, remaining-strips o (streams f ends k)))
+  pub turn-less : (ends' : List ℕ) → o < 2 ^ 32 → streams f ends' k ≡ strips o (streams f ends k) → remaining (streams f ends' k) < remaining (streams f ends k)
+  turn-less ends' lt es =
+      let h : 0 < hits o (streams f ends k) = rw first (hits_least (streams f ends k) (rw first at lt)) in
+      rw es (omega (arith, remaining-strips o (streams f ends k)))
 
-pub turn_end : (f ends₀ ends : List ℕ) (k x q room : ℕ) (out₀ out : Output) (o : ℕ) → Turn f ends₀ ends k x q room out₀ out o → 2 ^ 32 ≤ o → (K : Kept) → Counts K → Tallied K x q (streams f ends₀ k) → out ≡ put_all room (between (triple x q 0) (triple x (q + 1) 0) K) out₀
-turn_end f ends₀ ends k x q room out₀ out o g le K a t =
-    merge_end K x q room out₀ out (streams f ends k) a g.rising (omega (arith, g.first, least_small (streams f ends k))) (g.rows K a t)
+  pub turn_end : 2 ^ 32 ≤ o → (K : Kept) → Counts K → Tallied K x q (streams f ends₀ k) → out ≡ put_all room (between (triple x q 0) (triple x (q + 1) 0) K) out₀
+  turn_end le K a t =
+      merge_end K x q room out₀ out (streams f ends k) a g.rising (omega (arith, first, least_small (streams f ends k))) (g.rows K a t)

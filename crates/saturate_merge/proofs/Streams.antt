@@ -3,11 +3,11 @@ use mathlib.Core.Path.{◌≡◌, refl, sym, ap, ap₂, ◌∙◌}
 use mathlib.Core.Bool.{Bool, true, false, cond}
 use mathlib.Core.List.{List, [], ◌∷◌}
 use mathlib.Core.Logic.{by_cases}
-use Prim.Native.Nat.{ℕ, zero, suc, ◌+◌, ◌-◌, ◌*◌, ◌^◌, ◌≤◌, ◌<◌}
+use Prim.Native.Nat.{ℕ, zero, suc, ◌+◌, ◌-◌, ◌*◌, ◌^◌, ◌≤◌, ◌<◌, min}
 use native.Mathlib.Omega.{arith}
 use native.Mathlib.Decide.{ℕ_discrete, dec_lt}
 use native.Mathlib.Numerals.{add-one}
-use lib.ListN.{length, get_or, set, length-set}
+use lib.ListN.{length, get_or, set}
 use lib.Seq.{get_or-set_same, get_or-set_other}
 use lib.Dec.{eqb}
 use borrow.Author.Tests.{lt-ltb, le-ltb, eq-eqb, ne_eqb}
@@ -64,6 +64,10 @@ lesser_left a b = by_cases (dec_lt a b) (λ h. rw (lt-ltb a b h) (omega arith)) 
 
 pub lesser_right : (a b : ℕ) → lesser_of a b ≤ b
 lesser_right a b = by_cases (dec_lt a b) (λ h. rw (lt-ltb a b h) (omega arith)) (λ h. let k : b ≤ a = omega arith in rw (le-ltb a b k) (omega arith))
+
+-- what the code calls min
+pub lesser-min : (a b : ℕ) → min a b ≡ lesser_of a b
+lesser-min a b = by_cases (dec_lt a b) (λ h. rw (lt-ltb a b h) (omega arith)) (λ h. let k : b ≤ a = omega arith in rw (le-ltb a b k) (omega arith))
 
 pub least_small : (ls : List (List ℕ)) → least_of ls ≤ 2 ^ 32
 unfolding least_of
@@ -202,7 +206,6 @@ step_miss f a b o n =
 -- the loop over the streams: those below y are stepped
 pub record Stepping (f ends₀ ends : List ℕ) (o k c y : ℕ) : Type 0 where
   pub le : y ≤ k
-  pub same_length : length ends ≡ length ends₀
   pub ahead : (z : ℕ) → y ≤ z → get_or ends (z * 2) 0 ≡ get_or ends₀ (z * 2) 0
   pub same_ends : (z : ℕ) → get_or ends (z * 2 + 1) 0 ≡ get_or ends₀ (z * 2 + 1) 0
   pub stepped : streams f ends y ≡ strips o (streams f ends₀ y)
@@ -210,7 +213,7 @@ pub record Stepping (f ends₀ ends : List ℕ) (o k c y : ℕ) : Type 0 where
 
 pub stepping_start : (f ends : List ℕ) (o k : ℕ) → Stepping f ends ends o k 0 0
 unfolding streams strips hits
-stepping_start f ends o k = record { le = omega arith; same_length = refl; ahead = λ z h. refl; same_ends = λ z. refl; stepped = refl; counted = refl }
+stepping_start f ends o k = record { le = omega arith; ahead = λ z h. refl; same_ends = λ z. refl; stepped = refl; counted = refl }
 
 -- The stream at y is as it was.
 ahead_same : {f ends₀ ends : List ℕ} {o k c y : ℕ} → Stepping f ends₀ ends o k c y → stream f ends y ≡ stream f ends₀ y
@@ -223,7 +226,6 @@ stepping-hit f ends₀ ends o k c y g lt il ol e =
     let s = step-hit f a (get_or ends (y * 2 + 1) 0) o ol e in
     record {
       le = omega arith;
-      same_length = length-set ends (y * 2) (a + 1) ∙ g.same_length;
       ahead = λ z h. get_or-set_other ends (y * 2) (z * 2) (a + 1) 0 (λ w. omega arith) ∙ g.ahead z (omega arith);
       same_ends = λ z. get_or-set_other ends (y * 2) (z * 2 + 1) (a + 1) 0 (λ w. omega arith) ∙ g.same_ends z;
       stepped = rw (add-one y, get_or-set_same ends (y * 2) (a + 1) 0 il, get_or-set_other ends (y * 2) (y * 2 + 1) (a + 1) 0 (λ w. omega arith), streams-set f ends y (y * 2) (a + 1) (omega arith), s.1, g.stepped)
@@ -237,7 +239,6 @@ stepping_miss f ends₀ ends o k c y g lt n =
     let s = step_miss f (get_or ends (y * 2) 0) (get_or ends (y * 2 + 1) 0) o n in
     record {
       le = omega arith;
-      same_length = g.same_length;
       ahead = λ z h. g.ahead z (omega arith);
       same_ends = g.same_ends;
       stepped = rw (add-one y) (ap₂ ◌∷◌ (s.1 ∙ ap (strip o) (ahead_same g)) g.stepped);

@@ -7,7 +7,7 @@ ghost use Rattle.spec.specs.Terms.{triple};
 ghost use Rattle.spec.specs.Saturation.{Kept};
 ghost use Rattle.spec.specs.inside.Counts.{Counts};
 ghost use Rattle.saturate_merge.specs.inside.Output.{output, put_one, put_all};
-ghost use Rattle.saturate_merge.specs.inside.Streams.{front_of, lesser_of, objects, streams, least_of, hits, strips, Inside, AllRising, Tallied};
+ghost use Rattle.saturate_merge.specs.inside.Streams.{front_of, objects, streams, least_of, hits, strips, Inside, AllRising, Tallied};
 ghost use Rattle.saturate_merge.specs.inside.Between.{between};
 
 use spec::Triple;
@@ -45,19 +45,12 @@ pub fn put(
     n
 }
 
-// The object at the front of the rows a .. b, 2^32 where there are none.
+// The object at the front of the rows a .. b; 2^32 where there are none, so that a stream at its end comes last.
 fn front(f: &[u32], a: usize, b: usize) -> u64
     requires { b * 3 < length f.now }
     ensures { result ≡ front_of (objects f.now a (b - a)) }
 {
     if a < b { wide(object_at(f, a)) } else { WORDS }
-}
-
-// The lesser of two numbers.
-pub fn lesser(a: u64, b: u64) -> u64
-    ensures { result ≡ lesser_of a b }
-{
-    if a < b { a } else { b }
 }
 
 // The least object at the front of the first k streams, 2^32 where all are at their end.
@@ -66,10 +59,8 @@ fn least(f: &[u32], ends: &[usize], k: usize) -> u64
     ensures { result ≡ least_of (streams f.now ends.now k) }
 {
     let mut best = WORDS;
-    let mut y = 0;
-    while y < k {
-        best = lesser(front(f, ends[y * 2], ends[y * 2 + 1]), best);
-        y += 1;
+    for y in 0..k {
+        best = front(f, ends[y * 2], ends[y * 2 + 1]).min(best);
     }
     best
 }
@@ -83,12 +74,10 @@ fn step(f: &[u32], ends: &mut [usize], k: usize, o: u64) -> u16
     ensures k_after { streams f.now ends.new k ≡ strips o (streams f.now ends.old k) }
     ensures by_index { (y : ℕ) → get_or ends.new (y * 2 + 1) 0 ≡ get_or ends.old (y * 2 + 1) 0 }
 {
-    let mut c: u16 = 0;
-    let mut y = 0;
-    while y < k {
+    let mut c = 0;
+    for y in 0..k {
         let z = y * 2;
         let a = ends[z];
-        y += 1;
         if front(f, a, ends[z + 1]) == o {
             c += 1;
             ends[z] = a + 1;
@@ -116,11 +105,9 @@ pub fn merge_streams(
     ensures { (K : Kept) → Counts K → Tallied K x q (streams f.now ends.old k) → output kept.new supports.new result ≡ put_all room (between (triple x q 0) (triple x (q + 1) 0) K) (output kept.old supports.old n0) }
 {
     let mut n = n0;
-    let mut o = least(f, ends, k);
-    while o < WORDS {
-        let c = step(f, ends, k, o);
-        n = put(kept, supports, room, n, x, q, o as u32, c);
-        o = least(f, ends, k);
+    while let Ok(o) = u32::try_from(least(f, ends, k)) {
+        let c = step(f, ends, k, wide(o));
+        n = put(kept, supports, room, n, x, q, o, c);
     }
     n
 }

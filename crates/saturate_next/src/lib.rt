@@ -6,7 +6,6 @@ ghost use Rattle.saturate_schema.specs.inside.Compiled.{subject_at};
 ghost use Rattle.saturate_index.specs.inside.Index.{object_of, Index};
 ghost use Rattle.saturate_next.specs.inside.Run.{EndOf, subject_from, thing_from, next_subject};
 
-use saturate_merge::lesser;
 use table::{WORDS, object_at, subject_at, wide};
 
 // The end of the facts from i on, below n, whose subject is x.
@@ -14,14 +13,12 @@ pub fn subject_end(f: &[u32], n: usize, i: usize, x: u32) -> usize
     requires { (i ≤ n) × (n * 3 < length f.now) }
     ensures { EndOf (subject_at f.now) n x i result }
 {
-    let mut e = i;
-    while e < n {
+    for e in i..n {
         if subject_at(f, e) != x {
             return e;
         }
-        e += 1;
     }
-    e
+    n
 }
 
 // The object at place a of the index.
@@ -39,17 +36,15 @@ pub fn object_end(f: &[u32], ix: &[u32], n: usize, j: usize, x: u32) -> usize
     requires index { Index f.now ix.now n }
     ensures { EndOf (object_of f.now ix.now) n x j result }
 {
-    let mut h = j;
-    while h < n {
+    for h in j..n {
         if object_of(f, ix, h) != x {
             return h;
         }
-        h += 1;
     }
-    h
+    n
 }
 
-// The subject of fact i, 2^32 where there is none.
+// The subject of fact i; 2^32 where there is none, so that the lesser of it and a thing is the next subject.
 fn subject_from(f: &[u32], n: usize, i: usize) -> u64
     requires { n * 3 < length f.now }
     ensures { result ≡ subject_from f.now n i }
@@ -60,7 +55,7 @@ fn subject_from(f: &[u32], n: usize, i: usize) -> u64
 // The words from here on are literals or variables: 2^31.
 const LITERALS: u64 = 2147483648;
 
-// The object at place j of the index, 2^32 where there is none or it is a literal.
+// The object at place j of the index; 2^32 where there is none or it is a literal.
 fn thing_from(f: &[u32], ix: &[u32], n: usize, j: usize) -> u64
     requires { Index f.now ix.now n }
     ensures { result ≡ thing_from f.now ix.now n j }
@@ -74,10 +69,10 @@ fn thing_from(f: &[u32], ix: &[u32], n: usize, j: usize) -> u64
     WORDS
 }
 
-// The next subject of a row, 2^32 where there is none.
+// The next subject of a row; 2^32 where there is none.
 pub fn next_subject(f: &[u32], ix: &[u32], n: usize, i: usize, j: usize) -> u64
     requires { Index f.now ix.now n }
     ensures { result ≡ next_subject f.now ix.now n i j }
 {
-    lesser(subject_from(f, n, i), thing_from(f, ix, n, j))
+    subject_from(f, n, i).min(thing_from(f, ix, n, j))
 }

@@ -6,7 +6,7 @@ use mathlib.Core.Logic.{◌⊎◌, inl, inr, ⊎_elim, by_cases}
 use Prim.Native.Nat.{ℕ, ◌+◌, ◌-◌, ◌^◌, ◌≤◌, ◌<◌}
 use native.Mathlib.Omega.{arith}
 use native.Mathlib.Decide.{dec_lt, ℕ_discrete}
-use lib.ListN.{length, get_or}
+use lib.ListN.{get_or}
 use lib.Dec.{eqb}
 use borrow.Author.Tests.{lt-ltb, le-ltb, eq-eqb, ne_eqb}
 use Rattle.spec.specs.declared.Triple.{Triple}
@@ -42,16 +42,13 @@ pub data NextIs (f ix : List ℕ) (n i j v : ℕ) : Type 0 where
   a_subject : i < n → subject_at f i ≡ v → NextIs f ix n i j v
   an_object : j < n → object_of f ix j ≡ v → v < 2 ^ 31 → NextIs f ix n i j v
 
--- What holds at each turn: the rows of all subjects below v are put, and v is the next.
-pub record Running (f ix : List ℕ) (n : ℕ) (st : List ℕ) (m : ℕ) (d r keys : List ℕ) (nc ns room : ℕ) (out₀ out : Output) (i j v : ℕ) : Type 0 where
+-- What holds at each turn: the rows of all subjects below the next are put.
+pub record Running (f ix : List ℕ) (n : ℕ) (st : List ℕ) (m : ℕ) (d r keys : List ℕ) (nc ns room : ℕ) (out₀ out : Output) (i j : ℕ) : Type 0 where
   pub subjects : i ≤ n
   pub objects : j ≤ n
-  pub next : v ≡ next_subject f ix n i j
-  pub subject_before : (y : ℕ) → y < i → subject_at f y < v
-  pub object_before : (a : ℕ) → a < j → object_of f ix a < v
-  pub same-words : length out.words ≡ length out₀.words
-  pub same_supports : length out.supports ≡ length out₀.supports
-  pub rows : (K : Kept) → Counts K → Supported K st m d r keys nc ns f n → out ≡ put_all room (between (triple 0 0 0) (triple v 0 0) K) out₀
+  pub subject_before : (y : ℕ) → y < i → subject_at f y < next_subject f ix n i j
+  pub object_before : (a : ℕ) → a < j → object_of f ix a < next_subject f ix n i j
+  pub rows : (K : Kept) → Counts K → Supported K st m d r keys nc ns f n → out ≡ put_all room (between (triple 0 0 0) (triple (next_subject f ix n i j) 0 0) K) out₀
 
 module _ (f ix : List ℕ) (n : ℕ) (fw : Facts f n) (once : Once n ix) (sorted : Sorted f ix n) where
   subjects_climb : (y z : ℕ) → y ≤ z → z < n → subject_at f y ≤ subject_at f z
@@ -148,24 +145,21 @@ module _ (f ix : List ℕ) (n : ℕ) (fw : Facts f n) (once : Once n ix) (sorted
             (λ z. omega (arith, bo b z))
             (λ z. omega (arith, next-objects i j b (omega arith) h (thing-objects b h (below b h) (ap is_literal q ∙ t))))) y k)
 
-    pub run-start : (out : Output) (v : ℕ) → v ≡ next_subject f ix n 0 0 → Running f ix n st m d r keys nc ns room out out 0 0 v
+    pub run-start : (out : Output) → Running f ix n st m d r keys nc ns room out out 0 0
     unfolding put_all
-    run-start out v e =
+    run-start out =
         record {
           subjects = omega arith;
           objects = omega arith;
-          next = e;
           subject_before = λ y l. absurd (omega arith);
           object_before = λ y l. absurd (omega arith);
-          same-words = refl;
-          same_supports = refl;
-          rows = λ K a s. let q : between (triple 0 0 0) (triple v 0 0) K ≡ [] = gap K a s 0 0 0 v (omega arith) e (λ y l. absurd (omega arith)) (λ y l. absurd (omega arith)) ∙ between_none (triple 0 0 0) K in rw q;
+          rows = λ K a s. let q : between (triple 0 0 0) (triple (next_subject f ix n 0 0) 0 0) K ≡ [] = gap K a s 0 0 0 (next_subject f ix n 0 0) (omega arith) refl (λ y l. absurd (omega arith)) (λ y l. absurd (omega arith)) ∙ between_none (triple 0 0 0) K in rw q;
         }
 
-    module _ (out₀ out : Output) (i j v : ℕ) (g : Running f ix n st m d r keys nc ns room out₀ out i j v) (lv : v < 2 ^ 32) where
+    module _ (out₀ out : Output) (i j v : ℕ) (g : Running f ix n st m d r keys nc ns room out₀ out i j) (next : v ≡ next_subject f ix n i j) (lv : v < 2 ^ 32) where
       -- The subject is no literal.
       pub run-thing : is_literal v ≡ false
-      run-thing = go (next_is i j v g.next lv)
+      run-thing = go (next_is i j v next lv)
         where
           go : NextIs f ix n i j v → is_literal v ≡ false
           go (a_subject l e) = ap is_literal (sym e) ∙ fw.subjects i l
@@ -179,7 +173,7 @@ module _ (f ix : List ℕ) (n : ℕ) (fw : Facts f n) (once : Once n ix) (sorted
             high = w.high;
             all = w.all;
             before = λ y l q. omega (arith, g.subject_before y l);
-            after = λ y l u q. w.next (omega arith) (omega (arith, subjects_climb e y l u, next_subjects i j e w.low (omega arith), g.next));
+            after = λ y l u q. w.next (omega arith) (omega (arith, subjects_climb e y l u, next_subjects i j e w.low (omega arith), next));
           }
 
       -- and so are those of which it is the object.
@@ -193,12 +187,12 @@ module _ (f ix : List ℕ) (n : ℕ) (fw : Facts f n) (once : Once n ix) (sorted
             after = λ a l u q.
                 let t : object_of f ix a < 2 ^ 31 = thing-objects a u (below a u) (ap is_literal q ∙ run-thing) in
                 let c : object_of f ix h ≤ object_of f ix a = objects_climb h a l u in
-                w.next (omega arith) (omega (arith, next-objects i j h w.low (omega arith) (omega arith), g.next));
+                w.next (omega arith) (omega (arith, next-objects i j h w.low (omega arith) (omega arith), next));
           }
 
       -- One of the two goes on.
       pub run-less : (e h : ℕ) → EndOf (subject_at f) n v i e → EndOf (object_of f ix) n v j h → (n - e) + (n - h) < (n - i) + (n - j)
-      run-less e h w z = go (next_is i j v g.next lv)
+      run-less e h w z = go (next_is i j v next lv)
         where
           go : NextIs f ix n i j v → (n - e) + (n - h) < (n - i) + (n - j)
           go (a_subject l q) = by_cases (ℕ_discrete i e) (λ k. absurd (w.next (omega arith) (rw (← k) q))) (λ k. omega (arith, w.low, w.high, z.low, z.high))
@@ -208,30 +202,33 @@ module _ (f ix : List ℕ) (n : ℕ) (fw : Facts f n) (once : Once n ix) (sorted
       later e h v' w z q = by_cases (dec_lt v' (2 ^ 32)) (λ l. go (next_is e h v' q l)) (λ l. omega arith)
         where
           go : NextIs f ix n e h v' → v < v'
-          go (a_subject l k) = by_cases (ℕ_discrete (subject_at f e) v) (λ b. absurd (w.next l b)) (λ b. omega (arith, next_subjects i j e w.low l, g.next))
-          go (an_object l k t) = by_cases (ℕ_discrete (object_of f ix h) v) (λ b. absurd (z.next l b)) (λ b. omega (arith, next-objects i j h z.low l (omega arith), g.next))
+          go (a_subject l k) = by_cases (ℕ_discrete (subject_at f e) v) (λ b. absurd (w.next l b)) (λ b. omega (arith, next_subjects i j e w.low l, next))
+          go (an_object l k t) = by_cases (ℕ_discrete (object_of f ix h) v) (λ b. absurd (z.next l b)) (λ b. omega (arith, next-objects i j h z.low l (omega arith), next))
 
-      pub run_more : (e h v' : ℕ) (out' : Output) → EndOf (subject_at f) n v i e → EndOf (object_of f ix) n v j h → v' ≡ next_subject f ix n e h
+      pub run_more : (e h : ℕ) (out' : Output) → EndOf (subject_at f) n v i e → EndOf (object_of f ix) n v j h
           → ((K : Kept) → Counts K → Supported K st m d r keys nc ns f n → out' ≡ put_all room (between (triple v 0 0) (triple (v + 1) 0 0) K) out)
-          → length out'.words ≡ length out.words → length out'.supports ≡ length out.supports → Running f ix n st m d r keys nc ns room out₀ out' e h v'
-      run_more e h v' out' w z q rows' lw ls =
+          → Running f ix n st m d r keys nc ns room out₀ out' e h
+      run_more e h out' w z rows' =
           record {
             subjects = w.high;
             objects = z.high;
-            next = q;
-            subject_before = λ y l. omega (arith, up-subject y l, later e h v' w z q);
-            object_before = λ a l. omega (arith, up-object a l, later e h v' w z q);
-            same-words = lw ∙ g.same-words;
-            same_supports = ls ∙ g.same_supports;
+            subject_before = λ y l. omega (arith, up-subject y l, beyond);
+            object_before = λ a l. omega (arith, up-object a l, beyond);
             rows = λ K a s.
                 let j₁ : between (triple 0 0 0) (triple (v + 1) 0 0) K ≡ between (triple 0 0 0) (triple v 0 0) K ++ between (triple v 0 0) (triple (v + 1) 0 0) K =
                 between_join (triple 0 0 0) (triple v 0 0) (triple (v + 1) 0 0) K a (not_first (triple v 0 0)) (subject-order v (v + 1) (omega arith)) in
                 rows' K a s
-                ∙ ap (put_all room (between (triple v 0 0) (triple (v + 1) 0 0) K)) (g.rows K a s)
+                ∙ ap (put_all room (between (triple v 0 0) (triple (v + 1) 0 0) K)) (here K a s)
                 ∙ sym (put-append room (between (triple 0 0 0) (triple v 0 0) K) (between (triple v 0 0) (triple (v + 1) 0 0) K) out₀)
-                ∙ ap (λ (k : Kept). put_all room k out₀) (sym (gap K a s e h (v + 1) v' (omega (arith, later e h v' w z q)) q (λ y l. omega (arith, up-subject y l)) (λ y l. omega (arith, up-object y l)) ∙ j₁));
+                ∙ ap (λ (k : Kept). put_all room k out₀) (sym (gap K a s e h (v + 1) (next_subject f ix n e h) (omega (arith, beyond)) refl (λ y l. omega (arith, up-subject y l)) (λ y l. omega (arith, up-object y l)) ∙ j₁));
           }
         where
+          beyond : v < next_subject f ix n e h
+          beyond = later e h (next_subject f ix n e h) w z refl
+
+          here : (K : Kept) → Counts K → Supported K st m d r keys nc ns f n → out ≡ put_all room (between (triple 0 0 0) (triple v 0 0) K) out₀
+          here K a s = rw next (g.rows K a s)
+
           up-subject : (y : ℕ) → y < e → subject_at f y ≤ v
           up-subject y l = by_cases (dec_lt y i) (λ k. omega (arith, g.subject_before y k)) (λ k. omega (arith, w.all y (omega arith) l))
 
@@ -239,9 +236,9 @@ module _ (f ix : List ℕ) (n : ℕ) (fw : Facts f n) (once : Once n ix) (sorted
           up-object a l = by_cases (dec_lt a j) (λ k. omega (arith, g.object_before a k)) (λ k. omega (arith, z.all a (omega arith) l))
 
     -- At the end all rows are put.
-    pub run_end : (out₀ out : Output) (i j v : ℕ) → Running f ix n st m d r keys nc ns room out₀ out i j v → 2 ^ 32 ≤ v → (K : Kept) → Counts K → Supported K st m d r keys nc ns f n → out ≡ put_all room K out₀
-    run_end out₀ out i j v g l K a s =
-        let e : v ≡ 2 ^ 32 = omega (arith, g.next, next_top i j) in
+    pub run_end : (out₀ out : Output) (i j : ℕ) → Running f ix n st m d r keys nc ns room out₀ out i j → 2 ^ 32 ≤ next_subject f ix n i j → (K : Kept) → Counts K → Supported K st m d r keys nc ns f n → out ≡ put_all room K out₀
+    run_end out₀ out i j g l K a s =
+        let e : next_subject f ix n i j ≡ 2 ^ 32 = omega (arith, next_top i j) in
         g.rows K a s ∙ ap (λ (k : Kept). put_all room k out₀) (rw e (between-all (triple 0 0 0) (triple (2 ^ 32) 0 0) K a (λ u w. none u w)))
       where
         none : (u : Triple) → ¬ Within (triple 0 0 0) (triple (2 ^ 32) 0 0) u → lookup K u ≡ 0

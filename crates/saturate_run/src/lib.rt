@@ -14,17 +14,10 @@ use saturate_counts::Subject;
 use saturate_next::{next_subject, object_end, subject_end};
 use saturate_schema::{MOST_COLUMNS, Sizes};
 use saturate_subject::{Task, subject_rows};
-use table::{MOST_STATEMENTS, WORDS};
+use table::MOST_STATEMENTS;
 
 // How many ends the streams of a column have: two for a block of facts for each statement, and for one more.
 const ENDS: usize = (MOST_STATEMENTS + 1) * 2;
-
-// Room for these ends.
-fn no_ends() -> [usize; ENDS]
-    ensures { length result ≡ 1026 }
-{
-    [0usize; ENDS]
-}
 
 // Puts all rows: the whole list of kept facts that has these supports. How many there are, counted up to 2^32.
 pub fn put_rows(
@@ -49,13 +42,11 @@ pub fn put_rows(
     ensures { (K : Kept) → Counts K → Supported K statements.now sizes.statements domains.now ranges.now keys.now sizes.classes sizes.columns f.now (count f.now) → output kept.new supports.new result ≡ put_all room K (output kept.old supports.old 0) }
 {
     let n = f[0] as usize;
-    let mut ends = no_ends();
+    let mut ends = [0; ENDS];
     let mut out = 0;
     let mut i = 0;
     let mut j = 0;
-    let mut v = next_subject(f, ix, n, 0, 0);
-    while v < WORDS {
-        let x = v as u32;
+    while let Ok(x) = u32::try_from(next_subject(f, ix, n, i, j)) {
         let e = subject_end(f, n, i, x);
         let h = object_end(f, ix, n, j, x);
         let own = Subject {
@@ -66,9 +57,9 @@ pub fn put_rows(
             to: h,
         };
         let task = Task {
-            sizes: sizes,
-            own: own,
-            room: room,
+            sizes,
+            own,
+            room,
             rows: out,
         };
         out = subject_rows(
@@ -76,7 +67,6 @@ pub fn put_rows(
         );
         i = e;
         j = h;
-        v = next_subject(f, ix, n, i, j);
     }
     out
 }

@@ -128,10 +128,6 @@ leads_bit st bit s ss ns i r n lt t = record { if_true = λ e. inr (lt, t.if_tru
 pub leads-not : (st : List ℕ) (bit : ℕ → ℕ → ℕ) (s ss ns i : ℕ) → ¬ (subject_node st i ≡ s) → ns ≤ ss → Tells false (Leads st bit s ss ns i)
 leads-not st bit s ss ns i n le = tells_false (λ z. ⊎_elim n (λ w. omega (arith, w.0)) z)
 
--- One more place without x.
-pub absent_more : (f : ℕ → ℕ) (x i : ℕ) → ((k : ℕ) → k < i → ¬ (f k ≡ x)) → ¬ (f i ≡ x) → (k : ℕ) → k < i + 1 → ¬ (f k ≡ x)
-absent_more f x i g n k h = by_cases (ℕ_discrete k i) (λ e. rw e n) (λ z. g k (omega arith))
-
 -- A statement 2 starts at a class,
 pub subject_class_node : (st : List ℕ) (i : ℕ) → get_or st (i * 3 + 2) 0 ≡ 2 → subject_node st i ≡ get_or st (i * 3 + 1) 0
 unfolding subject_node

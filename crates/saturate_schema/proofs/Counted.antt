@@ -33,7 +33,7 @@ use Rattle.saturate_schema.proofs.Walks.{plus_ends, plus_starts}
 use Rattle.saturate_schema.proofs.Closing.{edges_of, subject_class_node, subject_property_node}
 use Rattle.saturate_schema.proofs.Meaning.{key, key-type, key_other, not_type, Carry, carry, by_class, by_property, by_object_lem}
 use Rattle.saturate_schema.proofs.Bits.{bit_is, Own, bit_own, bit_other, Led, bit_property}
-use Rattle.saturate_schema.proofs.Sums.{sum_ext, sum-add, sum_zero, sum_le, sum_first, sum-range}
+use Rattle.saturate_schema.proofs.Sums.{sum_ext, sum-add, sum_zero, sum_first}
 use Rattle.saturate_schema.proofs.Tables.{fact-words, row-subject, row_property, row-object, row-member, statements_are, statements_small, statements_plain, edges_are}
 
 -- ---- the bit of a node
@@ -234,35 +234,6 @@ module _ (st : List ℕ) (m : ℕ) (d f : List ℕ) (x o c y : ℕ) where
   unfolding property_adds
   property_adds-object n = cond_elim (λ (k : ℕ). k ≡ 0) (eqb (subject_at f y) x) (λ _. rw (ne_eqb (object_at f y) o n)) (λ _. refl)
 
--- ---- the sums over the facts of one subject, or of one object
-
--- The facts i .. e are those of the subject x, among n.
-pub record SubjectRange (f : List ℕ) (n x i e : ℕ) : Type 0 where
-  pub low : i ≤ e
-  pub high : e ≤ n
-  pub before : (y : ℕ) → y < i → ¬ (subject_at f y ≡ x)
-  pub within : (y : ℕ) → i ≤ y → y < e → subject_at f y ≡ x
-  pub after : (y : ℕ) → e ≤ y → y < n → ¬ (subject_at f y ≡ x)
-
-module _ (f : List ℕ) (n x i e : ℕ) (b : SubjectRange f n x i e) where
-  -- What the facts of the subject x add to column c is added by the facts i .. e.
-  pub subject-sum : (st : List ℕ) (m nc : ℕ) (d r : List ℕ) (c : ℕ) → sum_to (subject_adds st m nc d r f x c) n + sum_to (own_bit st m nc d r f x c) i ≡ sum_to (own_bit st m nc d r f x c) e
-  subject-sum st m nc d r c =
-      sum-range (subject_adds st m nc d r f x c) (own_bit st m nc d r f x c) i e n b.low b.high
-      (λ y l. subject_adds-not st m nc d r f x c y (b.before y l)) (λ y l h. subject_adds_lem st m nc d r f x c y (b.within y l h)) (λ y l h. subject_adds-not st m nc d r f x c y (b.after y l h))
-
-  -- Whether x p o is explicit is said by the facts i .. e: a function g that says it there says it for all.
-  pub explicit-sum : (p o : ℕ) (g : ℕ → ℕ) → ((y : ℕ) → i ≤ y → y < e → explicit_at f x p o y ≡ g y) → sum_to (explicit_at f x p o) n + sum_to g i ≡ sum_to g e
-  explicit-sum p o g h =
-      sum-range (explicit_at f x p o) g i e n b.low b.high
-      (λ y l. explicit_other f x p o y (b.before y l)) h (λ y l k. explicit_other f x p o y (b.after y l k))
-
-  -- So is what the facts x p o add whose property leads to column c.
-  pub property-sum : (st : List ℕ) (m : ℕ) (d : List ℕ) (o c : ℕ) (g : ℕ → ℕ) → ((y : ℕ) → i ≤ y → y < e → property_adds st m d f x o c y ≡ g y) → sum_to (property_adds st m d f x o c) n + sum_to g i ≡ sum_to g e
-  property-sum st m d o c g h =
-      sum-range (property_adds st m d f x o c) g i e n b.low b.high
-      (λ y l. property_adds-subject st m d f x o c y (b.before y l)) h (λ y l k. property_adds-subject st m d f x o c y (b.after y l k))
-
 -- One bit or another.
 either_iff : (a b : ℕ) → (either a b ≡ 1) ↔ ((a ≡ 1) ⊎ (b ≡ 1))
 either_iff a b = (
@@ -332,14 +303,7 @@ module _ (st col d r f : List ℕ) (ns nc : ℕ) (w : WellFormed is_allowed_stat
       (λ h. omega (arith, own_property st (count st) nc d r f x c y (omega arith), domain_le (start_node f y) c l)))
       (λ z. omega (arith, own_single st (count st) nc d r f x c y z, domain_le (start_node f y) c l)))
 
-  -- Each adds 0 or 1.
-  pub subject_adds_le : (x c y : ℕ) → c < ns → subject_adds st (count st) nc d r f x c y ≤ 1
-  subject_adds_le x c y l =
-      by_cases (ℕ_discrete (subject_at f y) x)
-      (λ e. omega (arith, subject_adds_lem st (count st) nc d r f x c y e, own_le x c y l))
-      (λ n. omega (arith, subject_adds-not st (count st) nc d r f x c y n))
-
-  -- The same for the object,
+  -- A fact of the object adds 0 or 1,
   pub object_adds_le : (x c y : ℕ) → c < ns → object_adds st (count st) r f x c y ≤ 1
   object_adds_le x c y l =
       by_cases (ℕ_discrete (subject_at f y) x)
@@ -354,24 +318,6 @@ module _ (st col d r f : List ℕ) (ns nc : ℕ) (w : WellFormed is_allowed_stat
       by_cases (ℕ_discrete (subject_at f y) x)
       (λ e. by_cases (ℕ_discrete (object_at f y) o)
       (λ q. omega (arith, property_adds_lem st (count st) d f x o c y e q, domain_le (property_node (property_at f y)) c l))
-      (λ n. omega (arith, property_adds-object st (count st) d f x o c y n)))
-      (λ n. omega (arith, property_adds-subject st (count st) d f x o c y n))
-
-  -- A fact adds to the column of a property wherever it adds to one of that property's rows.
-  pub property-within : (x o c y : ℕ) → nc ≤ c → c < ns → property_adds st (count st) d f x o c y ≤ subject_adds st (count st) nc d r f x c y
-  property-within x o c y h l =
-      by_cases (ℕ_discrete (subject_at f y) x)
-      (λ e. by_cases (ℕ_discrete (object_at f y) o)
-      (λ q. by_cases (ℕ_discrete (property_at f y) 1)
-      (λ p. let z : property_node (property_at f y) ≡ property_node 1 = ap property_node p in
-      omega (arith, property_adds_lem st (count st) d f x o c y e q, ap (λ (n : ℕ). node_bit st (count st) d n c) z, absent_node st d c (count st) (property_node 1) (no_type st w)))
-      (λ p. omega (
-        arith,
-        property_adds_lem st (count st) d f x o c y e q,
-        subject_adds_lem st (count st) nc d r f x c y e,
-        own_property st (count st) nc d r f x c y h,
-        ap (λ (n : ℕ). node_bit st (count st) d n c) (start_other f y p),
-      )))
       (λ n. omega (arith, property_adds-object st (count st) d f x o c y n)))
       (λ n. omega (arith, property_adds-subject st (count st) d f x o c y n))
 
@@ -588,16 +534,6 @@ module _ (st col d r f : List ℕ) (ns nc : ℕ) (w : WellFormed is_allowed_stat
   property-support_none x q o k1 n =
       support-sum (rows st) f (triple x q o)
       ∙ sum_ext (λ y. among (triple x q o) (carried (rows st) (row_at f y))) (explicit_at f x q o) (count f) (λ y l. property_bit_none x q o y k1 n l)
-
-  -- The same where it is a column to which no fact of the subject x adds.
-  pub property-support_zero : (x q o c : ℕ) → ¬ (q ≡ 1) → nc ≤ c → c < ns → get_or col c 0 ≡ property_node q → sum_to (subject_adds st (count st) nc d r f x c) (count f) ≡ 0
-      → support (rows st) (rows f) (triple x q o) ≡ sum_to (explicit_at f x q o) (count f)
-  property-support_zero x q o c k1 h l e z =
-      omega (
-        arith,
-        property-support x q o c k1 l e,
-        sum_le (property_adds st (count st) d f x o c) (subject_adds st (count st) nc d r f x c) (count f) (λ y b. property-within x o c y h l),
-      )
 
 -- ---- subjects without rows
 

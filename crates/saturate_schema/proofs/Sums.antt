@@ -50,12 +50,6 @@ sum-between h g i (suc e) le q =
     (λ z. rw z (omega arith))
     (λ k. omega (arith, q e (omega arith) (omega arith), sum-between h g i e (omega arith) (λ y a b. q y a (omega arith))))
 
--- Lesser terms, a lesser sum.
-pub sum_le : (h g : ℕ → ℕ) (n : ℕ) → ((y : ℕ) → y < n → h y ≤ g y) → sum_to h n ≤ sum_to g n
-unfolding sum_to
-sum_le h g zero e = omega arith
-sum_le h g (suc n) e = omega (arith, e n (omega arith), sum_le h g n (λ y l. e y (omega arith)))
-
 -- A sum of bits is at most the number of places.
 pub sum_bound : (h : ℕ → ℕ) (n : ℕ) → ((y : ℕ) → y < n → h y ≤ 1) → sum_to h n ≤ n
 unfolding sum_to

@@ -12,7 +12,7 @@ use lib.Dec.{leb}
 use borrow.Author.Tests.{eqb-true, leb-true, eq-eqb, ne_eqb}
 use Rattle.spec.specs.declared.Triple.{Triple}
 use Rattle.spec.specs.Terms.{is_uri, is_blank, is_literal, triple, is_resource, is_triple, is_statement, is_allowed_statement, is_allowed_fact}
-use Rattle.spec.specs.inside.Comparison.{triple_eq, Less, by_subject, by_property, by_object}
+use Rattle.spec.specs.inside.Comparison.{triple_eq, Less}
 use Rattle.spec.proofs.Order.{of_subject, of_property, of_object}
 use Rattle.spec.proofs.Lists.{or_cases, true-not_false}
 use Rattle.spec.proofs.Ascending.{and_left, and_right}
@@ -144,37 +144,6 @@ module _ (allowed : Triple → Bool) (most : ℕ) (ws : List ℕ) (w : WellForme
       let k : j < length (rows ws) = omega (arith, w.laid.counted) in
       let g : i < length (rows ws) = omega arith in
       rw (get_d_rows ws i (triple 0 0 0) g, get_d_rows ws j (triple 0 0 0) k) at (ascending-get_or (rows ws) (triple 0 0 0) w.ascends i j l k)
-
--- How the words of a lesser row stand.
-record Stands (t u : Triple) : Type 0 where
-  subjects : t.subject ≤ u.subject
-  properties : t.subject ≡ u.subject → t.property ≤ u.property
-  objects : t.subject ≡ u.subject → t.property ≡ u.property → t.object < u.object
-
--- A lesser row stands so.
-stands : {t u : Triple} → Less t u → Stands t u
-stands (by_subject h) = record { subjects = omega arith; properties = λ e. absurd (omega arith); objects = λ e q. absurd (omega arith) }
-stands (by_property e h) = record { subjects = omega arith; properties = λ _. omega arith; objects = λ _ q. absurd (omega arith) }
-stands (by_object e g h) = record { subjects = omega arith; properties = λ _. omega arith; objects = λ _ _. h }
-
-module _ (allowed : Triple → Bool) (most : ℕ) (ws : List ℕ) (w : WellFormed allowed most ws) (i j : ℕ) (l : i < j) (h : j < count ws) where
-  -- The subjects of later rows are no less,
-  pub subjects_climb : get_or ws (i * 3 + 1) 0 ≤ get_or ws (j * 3 + 1) 0
-  subjects_climb = omega (arith, row-subject ws i, row-subject ws j, (stands (rows-ascend allowed most ws w i j l h)).subjects)
-
-  -- those of one subject have no lesser property,
-  pub properties_climb : get_or ws (i * 3 + 1) 0 ≡ get_or ws (j * 3 + 1) 0 → get_or ws (i * 3 + 2) 0 ≤ get_or ws (j * 3 + 2) 0
-  properties_climb e = omega (arith, row_property ws i, row_property ws j, (stands (rows-ascend allowed most ws w i j l h)).properties (row-subject ws i ∙ e ∙ sym (row-subject ws j)))
-
-  -- and those of one subject and property a greater object.
-  pub objects_climb : get_or ws (i * 3 + 1) 0 ≡ get_or ws (j * 3 + 1) 0 → get_or ws (i * 3 + 2) 0 ≡ get_or ws (j * 3 + 2) 0 → get_or ws (i * 3 + 3) 0 < get_or ws (j * 3 + 3) 0
-  objects_climb e q =
-      omega (
-        arith,
-        row-object ws i,
-        row-object ws j,
-        (stands (rows-ascend allowed most ws w i j l h)).objects (row-subject ws i ∙ e ∙ sym (row-subject ws j)) (row_property ws i ∙ q ∙ sym (row_property ws j)),
-      )
 
 -- The words of a fact.
 pub fact-words : (f : List ℕ) → WellFormed is_allowed_fact most_facts f → (y : ℕ) → y < count f → Words (row_at f y)

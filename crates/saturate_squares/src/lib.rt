@@ -20,10 +20,8 @@ fn unite(square: &mut [u8], a: usize, gain: &[u8], ns: usize)
     requires { (a * 512 + 512 ≤ length square.old) × (ns ≤ 512) × (ns ≤ length gain.now) }
     ensures { United square.old square.new gain.now a ns }
 {
-    let mut c = 0;
-    while c < ns {
+    for c in 0..ns {
         square[a * MOST_COLUMNS + c] = joined(gain[c], square[a * MOST_COLUMNS + c]);
-        c += 1;
     }
 }
 
@@ -55,12 +53,9 @@ fn close_statement(
     ensures extended { Extended statements.now m (at square.old) (at square.new) (word gain.now) s ss ns }
     ensures bits { Bits square.old → Bits square.new }
 {
-    let mut i = 0;
-    while i < m {
-        let r = i;
-        i += 1;
-        if leads(statements, square, r, s, ss, ns) {
-            unite(square, r, gain, ns);
+    for i in 0..m {
+        if leads(statements, square, i, s, ss, ns) {
+            unite(square, i, gain, ns);
         }
     }
 }
@@ -84,10 +79,8 @@ fn gains(square: &[u8], gain: &mut [u8], go: usize, m: usize, so: usize, ns: usi
     requires { (m * 512 ≤ length square.now) × (ns ≤ 512) × (ns ≤ length gain.old) }
     ensures { Gained (at square.now) (word gain.new) go m so ns }
 {
-    let mut c = 0;
-    while c < ns {
+    for c in 0..ns {
         gain[c] = gain_bit(square, go, m, so, c);
-        c += 1;
     }
 }
 
@@ -107,10 +100,7 @@ pub fn close(
     ensures closed { Closed statements.now m columns.now ns (at square.new) (edges statements.now via m) }
     ensures bits { Bits square.new }
 {
-    let mut n = 0;
-    while n < m {
-        let j = n;
-        n += 1;
+    for j in 0..m {
         if applies(statements, j, via) {
             let s = subject_node(statements, j);
             let e = object_node(statements, j);
@@ -129,13 +119,10 @@ pub fn clear_own(statements: &[u32], m: usize, columns: &[u64], ns: usize, squar
     requires by_index { (a b : ℕ) → a < ns → b < ns → get_or columns.now a 0 ≡ get_or columns.now b 0 → a ≡ b }
     ensures { Cleared statements.now columns.now ns square.old square.new m }
 {
-    let mut i = 0;
-    while i < m {
-        let j = i;
-        i += 1;
-        let c = column(columns, ns, subject_node(statements, j));
+    for i in 0..m {
+        let c = column(columns, ns, subject_node(statements, i));
         if c < ns {
-            square[j * MOST_COLUMNS + c] = 0;
+            square[i * MOST_COLUMNS + c] = 0;
         }
     }
 }

@@ -5,7 +5,7 @@ use mathlib.Core.Logic.{◌⊎◌, inl, inr, ⊎_elim, by_cases}
 use Prim.Native.Nat.{ℕ, zero, suc, ◌+◌, ◌-◌, ◌^◌, ◌≤◌, ◌<◌}
 use native.Mathlib.Omega.{arith}
 use native.Mathlib.Decide.{dec_lt, ℕ_discrete}
-use lib.ListN.{length, get_or}
+use lib.ListN.{get_or}
 use borrow.Author.Tests.{eq-eqb}
 use Rattle.spec.specs.declared.Triple.{Triple}
 use Rattle.spec.specs.Terms.{triple}
@@ -76,8 +76,6 @@ pub record Passed (st : List ℕ) (m : ℕ) (d keys : List ℕ) (nc ns : ℕ) (c
   pub after : (y : ℕ) → q ≤ y → y < e → bound ≤ property_at f y
   pub uncounted : (c : ℕ) → nc ≤ c → c < r → bound ≤ get_or keys c 0 → get_or counts c 0 ≡ 0
   pub ahead : (c : ℕ) → r ≤ c → c < ns → bound ≤ get_or keys c 0
-  pub same-words : length out.words ≡ length out₀.words
-  pub same_supports : length out.supports ≡ length out₀.supports
   pub rows : (K : Kept) → Counts K → PropertyRows K st m d keys nc ns f x t e → out ≡ put_all room (between (triple x 2 0) (triple x bound 0) K) out₀
 
 module _ (st : List ℕ) (m : ℕ) (d keys : List ℕ) (nc ns : ℕ) (counts f : List ℕ) (n x t e room : ℕ) (out₀ : Output)
@@ -97,8 +95,6 @@ module _ (st : List ℕ) (m : ℕ) (d keys : List ℕ) (nc ns : ℕ) (counts f :
         after = typed;
         uncounted = λ c l u h. absurd (omega arith);
         ahead = λ c l u. kw.not_type c l u;
-        same-words = refl;
-        same_supports = refl;
         rows = λ K a p. rw (between_none (triple x 2 0) K);
       }
 
@@ -117,8 +113,6 @@ module _ (st : List ℕ) (m : ℕ) (d keys : List ℕ) (nc ns : ℕ) (counts f :
         after = g.after;
         uncounted = λ c a b h. by_cases (ℕ_discrete c r) (λ k. rw k z) (λ k. g.uncounted c a (omega arith) h);
         ahead = λ c a b. g.ahead c (omega arith) b;
-        same-words = g.same-words;
-        same_supports = g.same_supports;
         rows = g.rows;
       }
 
@@ -141,9 +135,8 @@ module _ (st : List ℕ) (m : ℕ) (d keys : List ℕ) (nc ns : ℕ) (counts f :
   pub passed_more : (out out₁ out₂ : Output) (q r z b w : ℕ) → Passed st m d keys nc ns counts f x t e room out₀ out q r → r < ns → w ≡ get_or keys r 0
       → Split f q z e w → Split f z b e (w + 1) → out₁ ≡ put_all room (ones f q (z - q)) out
       → ((K : Kept) → Counts K → ColumnRows K st m d r f x w z b t e → out₂ ≡ put_all room (between (triple x w 0) (triple x (w + 1) 0) K) out₁)
-      → length out₂.words ≡ length out.words → length out₂.supports ≡ length out.supports
       → Passed st m d keys nc ns counts f x t e room out₀ out₂ b (r + 1)
-  passed_more out out₁ out₂ q r z b w g l ew lo hi e₁ e₂ lw ls =
+  passed_more out out₁ out₂ q r z b w g l ew lo hi e₁ e₂ =
       record {
         bound = w + 1;
         from = omega (arith, g.from, g.ahead r (omega arith) l);
@@ -156,8 +149,6 @@ module _ (st : List ℕ) (m : ℕ) (d keys : List ℕ) (nc ns : ℕ) (counts f :
         after = λ y a u. hi.after y a u;
         uncounted = λ c a u h. absurd (by_cases (ℕ_discrete c r) (λ k. omega (arith, ap (λ (i : ℕ). get_or keys i 0) k)) (λ k. omega (arith, kw.property_keys c r a (omega arith) l)));
         ahead = λ c a u. omega (arith, kw.property_keys r c g.column_low (omega arith) u);
-        same-words = lw ∙ g.same-words;
-        same_supports = ls ∙ g.same_supports;
         rows = λ K a h. all K a h;
       }
     where

@@ -121,17 +121,13 @@ fn property_rows(
     ensures { (K : Kept) → Counts K → PropertyRows K statements.now task.sizes.statements domains.now keys.now task.sizes.classes task.sizes.columns f.now task.own.term t task.own.end → output kept.new supports.new result ≡ put_all task.room (between (triple task.own.term 2 0) (triple (task.own.term + 1) 0 0) K) (output kept.old supports.old task.rows) }
 {
     let sizes = task.sizes;
-    let ns = sizes.columns;
     let own = task.own;
     let x = own.term;
     let e = own.end;
     let room = task.room;
     let mut n = task.rows;
     let mut q = t;
-    let mut r = sizes.classes;
-    while r < ns {
-        let c = r;
-        r += 1;
+    for c in sizes.classes..sizes.columns {
         if 0 < counts[c] {
             let w = keys[c];
             let z = first_from(f, q, e, wide(w));
@@ -200,8 +196,8 @@ pub fn subject_rows(
         task.rows,
     );
     let rest = Task {
-        sizes: sizes,
-        own: own,
+        sizes,
+        own,
         room: task.room,
         rows: n,
     };

@@ -103,3 +103,7 @@ both_passes K room ws us ws₁ us₁ ws₂ us₂ k n l h u e₁ f e₂ =
     let c = first_pass K room ws us ws₁ us₁ k l e₁ in
     let z : length K ≤ room = c.fits f in
     (z, second_pass K room ws us ws₂ us₂ n l z h u (e₂ ∙ ap₂ (λ (x y : List ℕ). put_all room K (output x y 0)) c.same-words c.same_supports))
+
+-- So the rows that it put fit.
+pub rows_fit : (K : Kept) (room : ℕ) (ws us ws₁ us₁ ws₂ us₂ : List ℕ) (k n : ℕ) → room < 2 ^ 32 → room * 3 < length ws → room ≤ length us → output ws₁ us₁ k ≡ put_all 0 K (output ws us 0) → k ≤ room → output ws₂ us₂ n ≡ put_all room K (output ws₁ us₁ 0) → n ≤ room
+rows_fit K room ws us ws₁ us₁ ws₂ us₂ k n l h u e₁ f e₂ = let z = both_passes K room ws us ws₁ us₁ ws₂ us₂ k n l h u e₁ f e₂ in omega (arith, z.0, z.1.count)

@@ -1,7 +1,6 @@
 -- What `saturate` answers and leaves in the lent tables, and the squares that it fills. Definitions only.
 use Rattle.std.specs.Prelude.{◌≡◌, List, ℕ, length}
 use Rattle.spec.specs.Tables.{rows}
-use Rattle.spec.specs.Lists.{padded}
 use Rattle.spec.specs.computed.Saturated.{saturation}
 use Rattle.saturate_schema.specs.inside.Nodes.{edges}
 use Rattle.saturate_schema.specs.inside.Squares.{at, Bits, Closed, Cleared}

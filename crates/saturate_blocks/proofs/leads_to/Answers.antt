@@ -1,6 +1,6 @@
 -- The bit of the property is that of its group's row.
 use mathlib.Core.Path.{sym, ap}
-use Prim.Native.Nat.{ℕ, ◌-◌}
+use Prim.Native.Nat.{ℕ}
 use native.Mathlib.Omega.{arith}
 use lib.Dec.{eqb}
 use Rattle.saturate_schema.specs.inside.Nodes.{property_node}

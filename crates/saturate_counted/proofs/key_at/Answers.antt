@@ -1,6 +1,5 @@
 -- Past the end there is no key.
 use mathlib.Core.Path.{sym, ◌∙◌}
-use Prim.Native.Nat.{◌-◌}
 use borrow.Author.Tests.{le-ltb}
 use Rattle.saturate_counted.specs.inside.Counted.{key_at}
 use Rattle.saturate_counted.proofs.Counting.{key_at-at}

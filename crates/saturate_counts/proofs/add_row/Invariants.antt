@@ -1,11 +1,7 @@
 -- The columns below c have what the row adds.
-use Prim.Native.Nat.{◌≤◌, ◌-◌}
 use Rattle.saturate_schema.specs.inside.Squares.{at}
 use Rattle.saturate_counts.specs.inside.Counting.{Added}
 use Rattle.saturate_counts.proofs.add_row.Given as goal
 
 abbrev pub invariant-loop-c : goal.invariant-loop-c
-invariant-loop-c l = (l.c ≤ l.end) × Added l.initial.counts l.counts (λ k. at l.square l.g k) l.c
-
-abbrev pub decreases-loop-c : goal.decreases-loop-c
-decreases-loop-c l = l.end - l.c
+invariant-loop-c l = Added l.initial.counts l.counts (λ k. at l.square l.g k) l.c

@@ -1,8 +1,6 @@
 -- By the kind of the fact and whether its group has a statement.
 use mathlib.Core.Path.{sym, ◌∙◌}
-use Prim.Native.Nat.{◌-◌}
 use native.Mathlib.Omega.{arith}
-use Rattle.saturate_schema.specs.inside.Squares.{at}
 use Rattle.saturate_counts.proofs.Adding.{type_row, type_none, other_row, self_row, property_none, either-at_bit}
 use Rattle.saturate_counts.proofs.count_fact.Goals as goal
 

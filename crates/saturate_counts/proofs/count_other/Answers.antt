@@ -1,8 +1,6 @@
 -- By whether the subject is x, and whether the property has a statement.
 use mathlib.Core.Path.{sym, ◌∙◌}
-use Prim.Native.Nat.{◌-◌}
 use native.Mathlib.Omega.{arith}
-use Rattle.saturate_schema.specs.inside.Squares.{at}
 use Rattle.saturate_counts.proofs.Adding.{range-row, range_none, range_own}
 use Rattle.saturate_counts.proofs.count_other.Goals as goal
 

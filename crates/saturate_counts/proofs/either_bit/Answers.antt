@@ -1,5 +1,4 @@
 -- By the cases of the tests.
-use Prim.Native.Nat.{◌-◌}
 use borrow.Author.Tests.{eq-eqb, ne_eqb}
 use Rattle.saturate_counts.proofs.either_bit.Goals as goal
 

@@ -1,6 +1,5 @@
 -- Rows a .. b with nothing in them have no front.
 use mathlib.Core.Path.{sym, ◌∙◌}
-use Prim.Native.Nat.{◌-◌}
 use Rattle.saturate_merge.proofs.Streams.{front_none, front-some}
 use Rattle.saturate_merge.proofs.front.Goals as goal
 

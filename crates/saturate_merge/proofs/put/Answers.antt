@@ -1,5 +1,4 @@
 -- A row is put where there is room, else only counted.
-use Prim.Native.Nat.{◌-◌}
 use native.Mathlib.Omega.{arith}
 use Rattle.saturate_merge.proofs.Output.{put_here, put_past, put_full}
 use Rattle.saturate_merge.proofs.put.Goals as goal

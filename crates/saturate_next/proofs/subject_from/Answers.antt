@@ -1,6 +1,5 @@
 -- By whether there is a fact i.
 use mathlib.Core.Path.{sym, ◌∙◌}
-use Prim.Native.Nat.{◌-◌}
 use Rattle.saturate_next.proofs.NextLaws.{subject-some, subject_none}
 use Rattle.saturate_next.proofs.subject_from.Goals as goal
 

@@ -1,6 +1,5 @@
 -- By whether there is a place j, and whether its object is a literal.
 use mathlib.Core.Path.{sym, ◌∙◌}
-use Prim.Native.Nat.{◌-◌}
 use native.Mathlib.Omega.{arith}
 use Rattle.saturate_next.proofs.NextLaws.{thing-some, thing-literal, thing_none}
 use Rattle.saturate_next.proofs.thing_from.Goals as goal

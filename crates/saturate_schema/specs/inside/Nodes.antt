@@ -1,6 +1,6 @@
 -- The statements as edges between nodes, and the nodes that they end at as columns. A class is the node of its term, a
 -- property the node of its term and 2 ^ 32. st are the words of a table of statements, m is their number. Definitions only.
-use Rattle.std.specs.Prelude.{◌≡◌, Bool, true, false, cond, List, [], ◌∷◌, ℕ, zero, suc, ◌+◌, ◌*◌, ◌^◌, ◌≤◌, ◌<◌, get_or, eqb}
+use Rattle.std.specs.Prelude.{◌≡◌, Bool, true, cond, List, [], ◌∷◌, ℕ, zero, suc, ◌+◌, ◌*◌, ◌^◌, ◌≤◌, ◌<◌, get_or, eqb}
 use Rattle.saturate_schema.specs.inside.Walks.{Edge}
 
 -- The node of the property p.

@@ -1,13 +1,9 @@
 -- Rows of rdf:type from explicit types and counts, then those of the other properties.
-use Prim.Native.Nat.{◌-◌}
 use native.Mathlib.Omega.{arith}
 use Rattle.spec.specs.Tables.{count}
 use Rattle.saturate_subject.proofs.Subjects.{types_rising, keys-rising, types-small, uncounted, subject-rows-of}
 use Rattle.saturate_subject.proofs.Plain.{one_subject}
 use Rattle.saturate_subject.proofs.subject_rows.Goals as goal
-
-pub counts_of-counts-requires : goal.counts_of-counts-requires
-counts_of-counts-requires c = record { statements = c.requires.prepared.statements; square = c.requires.prepared.domains; square_2 = c.requires.prepared.ranges; classes_le_columns = (c.requires.prepared.keyed.classes, c.requires.prepared.keyed.columns); facts = c.requires.facts; index = c.requires.index; once = c.requires.once; range = c.requires.range; range_2 = c.requires.range_2 }
 
 pub first_from-t-requires : goal.first_from-t-requires
 first_from-t-requires c = record { q_le_e = omega (arith, c.requires.range.low, c.requires.range.high, c.requires.facts.fit); one_subject = one_subject c.args.f.now (count c.args.f.now) c.args.task.own.term _ _ c.requires.facts c.requires.range.high c.requires.range.all }
