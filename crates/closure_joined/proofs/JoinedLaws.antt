@@ -1,34 +1,16 @@
 -- The terms of a statement's bits are gathered. Assumes nothing.
-use mathlib.Core.Path.{◌≡◌, sym, ap, ◌∙◌}
+use mathlib.Core.Path.{◌≡◌, sym, ◌∙◌}
 use mathlib.Core.List.{List}
 use mathlib.Core.Logic.{by_cases}
-use Prim.Native.Nat.{ℕ, ◌+◌, ◌≤◌, ◌<◌, ◌*◌, ◌/◌, ◌%◌}
+use Prim.Native.Nat.{ℕ, ◌+◌, ◌≤◌, ◌<◌}
 use native.Mathlib.Omega.{arith}
 use native.Mathlib.Decide.{ℕ_discrete, dec_lt}
 use lib.ListN.{length, get_or, set}
 use lib.Seq.{get_or-set_same, get_or-set_other}
-use Rattle.query_keys.specs.inside.Bits.{bit_of}
-use Rattle.query_keys.proofs.BitLaws.{zero_bit}
 use Rattle.closure_words.specs.inside.Layout.{term_at, bit_at, first_column, end_column, Shaped}
 use Rattle.closure_words.specs.inside.Closure.{IsStated, IsClosure}
 use Rattle.closure_joined.specs.inside.Joined.{Among, Rising, NextColumn, AllJoined}
 use Rattle.closure_words.proofs.Lookup.{leads_of, bit_of_lem}
-
--- The word of the column has no bit,
-pub next_word : (ws : List ℕ) (i c : ℕ) → c < 512 → get_or ws (514 + i * 16 + c / 32) 0 ≡ 0 → NextColumn ws i c ((c / 32 + 1) * 32)
-next_word ws i c l e =
-    record {
-      above = omega arith;
-      within = omega arith;
-      none = λ d g h q.
-          let w : d / 32 ≡ c / 32 = omega arith in
-          let z : bit_at ws i d ≡ bit_of 0 (d % 32) = ap (λ (n : ℕ). bit_of (get_or ws (514 + i * 16 + n) 0) (d % 32)) w ∙ ap (λ (x : ℕ). bit_of x (d % 32)) e in
-          omega (arith, q, z, zero_bit (d % 32));
-    }
-
--- or may have one.
-pub next_one : (ws : List ℕ) (i c : ℕ) → c < 512 → NextColumn ws i c (c + 1)
-next_one ws i c l = record { above = omega arith; within = omega arith; none = λ d g h q. omega arith }
 
 -- The word x is the term of a column from first to before c, and before last, whose bit is 1.
 pub record Source (ws : List ℕ) (i first last c x : ℕ) : Type 0 where

@@ -32,10 +32,8 @@ pub fn gains(closure: &[u32], go: usize, m: usize, so: usize, gain: &mut [u32])
     requires { (length closure.now ≡ 8706) × (m ≤ 512) × (length gain.old ≡ 16) }
     ensures { Gained (bit_at closure.now) (row_bit gain.new) go m so 512 }
 {
-    let mut w = 0;
-    while w < ROW {
+    for w in 0..ROW {
         gain[w] = gain_word(closure, go, m, so, w);
-        w += 1;
     }
 }
 
@@ -44,9 +42,7 @@ pub fn unite(closure: &mut [u32], a: usize, gain: &[u32])
     requires { (length closure.old ≡ 8706) × (a < 512) × (length gain.now ≡ 16) }
     ensures { Joined (bit_at closure.old) (bit_at closure.new) (row_bit gain.now) a 512 }
 {
-    let mut w = 0;
-    while w < ROW {
-        closure[BITS + a * ROW + w] = closure[BITS + a * ROW + w] | gain[w];
-        w += 1;
+    for w in 0..ROW {
+        closure[BITS + a * ROW + w] |= gain[w];
     }
 }

@@ -1,86 +1,71 @@
 -- The search for the column of a term, and what its bit says. Assumes nothing.
-use mathlib.Core.Path.{◌≡◌}
+use mathlib.Core.Path.{◌≡◌, sym, ap, ◌∙◌}
 use mathlib.Core.List.{List}
-use mathlib.Core.Logic.{by_cases, ◌↔◌}
-use Prim.Native.Nat.{ℕ, ◌+◌, ◌≤◌, ◌<◌}
+use mathlib.Core.Logic.{◌↔◌, by_cases}
+use Prim.Native.Nat.{ℕ, ◌+◌, ◌-◌, ◌≤◌, ◌<◌}
 use native.Mathlib.Omega.{arith}
 use native.Mathlib.Decide.{ℕ_discrete, dec_lt}
+use Rattle.std.specs.Prelude.{Some, None, Ok, Err, length, get_or, take, drop}
+use Rattle.std.proofs.Common.{nat_cmp}
+use Rattle.std.specs.List.Sorted.{IsBinarySearchResult}
+use Rattle.std.proofs.lemmas.List.{get_or-take, get_or-drop, length-take, length-drop}
+use Rattle.std.proofs.lemmas.List.Sorted.{searched}
 use Rattle.closure_words.specs.inside.Layout.{term_at, bit_at, first_column, end_column, Shaped}
 use Rattle.closure_words.specs.inside.Closure.{LeadsTo, IsStated, IsClosure}
-use Rattle.closure_search.specs.inside.Search.{Placed, ColumnFor}
+use Rattle.closure_search.specs.inside.Search.{ColumnFor}
 use Rattle.closure_words.proofs.Columns.{stand}
 use Rattle.closure_words.proofs.Lookup.{leads_of, bit_of_lem}
 
--- ---- the binary search
+-- ---- the columns of a property
 
--- Of the columns from first to before last those before lo have terms below x, and those from hi on have not.
-pub record Between (ws : List ℕ) (first last x lo hi : ℕ) : Type 0 where
-  pub from : first ≤ lo
-  pub ordered : lo ≤ hi
-  pub within : hi ≤ last
-  pub before : (c : ℕ) → first ≤ c → c < lo → term_at ws c < x
-  pub after : (c : ℕ) → hi ≤ c → c < last → x ≤ term_at ws c
+pub first_few : (ws : List ℕ) (k : ℕ) → Shaped ws → first_column ws k ≤ end_column ws k
+first_few ws k s = (stand ws k s).ordered
 
-pub between_start : (ws : List ℕ) (k x lo hi : ℕ) → Shaped ws → lo ≡ first_column ws k → hi ≡ end_column ws k → Between ws (first_column ws k) (end_column ws k) x lo hi
-between_start ws k x lo hi s e h = let t = stand ws k s in record { from = omega arith; ordered = omega (arith, t.ordered); within = omega arith; before = λ c l g. absurd (omega arith); after = λ c l g. absurd (omega arith) }
+pub end_few : (ws : List ℕ) (k : ℕ) → Shaped ws → end_column ws k ≤ 512
+end_few ws k s = (stand ws k s).few
 
-module _ (ws : List ℕ) (k x lo hi mid : ℕ) (s : Shaped ws) (b : Between ws (first_column ws k) (end_column ws k) x lo hi) (l : lo ≤ mid) (h : mid < hi) where
-  -- The term of the column between is below x,
-  pub between_up : term_at ws mid < x → Between ws (first_column ws k) (end_column ws k) x (mid + 1) hi
-  between_up e =
-      record {
-        from = omega (arith, b.from);
-        ordered = omega arith;
-        within = b.within;
-        before = λ c f g. by_cases (ℕ_discrete c mid) (λ q. rw q e) (λ n. omega (arith, s.rising k c mid f (omega arith) (omega (arith, b.within))));
-        after = b.after;
-      }
+-- ---- the search among their terms
 
-  -- or not.
-  pub between_down : ¬ (term_at ws mid < x) → Between ws (first_column ws k) (end_column ws k) x lo mid
-  between_down e =
-      record {
-        from = b.from;
-        ordered = l;
-        within = omega (arith, b.within);
-        before = b.before;
-        after = λ c f g. by_cases (ℕ_discrete c mid) (λ q. rw q (omega arith)) (λ n. omega (arith, s.rising k mid c (omega (arith, b.from)) (omega arith) g));
-      }
+-- The terms of the columns from lo to before hi.
+abbrev terms_of : List ℕ → ℕ → ℕ → List ℕ
+terms_of ws lo hi = take (2 + hi - (2 + lo)) (drop (2 + lo) ws)
 
--- Nothing is between.
-pub between_end : (ws : List ℕ) (first last x lo hi : ℕ) → Between ws first last x lo hi → hi ≤ lo → Placed ws first last x lo
-between_end ws first last x lo hi b l = record { from = b.from; within = omega (arith, b.within, b.ordered); before = b.before; after = λ c f g. b.after c (omega arith) g }
+module _ (ws : List ℕ) (k x lo hi : ℕ) (s : Shaped ws) (e : lo ≡ first_column ws k) (f : hi ≡ end_column ws k) where
+  long : length (terms_of ws lo hi) ≡ hi - lo
+  long = simp (length-take, length-drop) (omega (arith, s.long, first_few ws k s, end_few ws k s))
 
--- ---- the column of a term
+  term_among : (i : ℕ) → i < hi - lo → get_or (terms_of ws lo hi) i 0 ≡ term_at ws (lo + i)
+  term_among i l =
+      get_or-take (2 + hi - (2 + lo)) (drop (2 + lo) ws) i 0 (omega arith)
+      ∙ (get_or-drop (2 + lo) ws i 0 ∙ ap (λ (n : ℕ). get_or ws n 0) (omega arith))
 
-module _ (ws : List ℕ) (k x c : ℕ) (s : Shaped ws) (p : Placed ws (first_column ws k) (end_column ws k) x c) where
-  -- The column has the term.
-  pub column_there : c < end_column ws k → term_at ws c ≡ x → ColumnFor ws k x c
-  column_there l e = record { there = λ _. (record { from = p.from; below = l }, e); none = λ n. absurd (omega (arith, (stand ws k s).few)) }
+  rising : (i j : ℕ) → i ≤ j → j < length (terms_of ws lo hi) → get_or (terms_of ws lo hi) i 0 ≤ get_or (terms_of ws lo hi) j 0
+  rising i j a l = by_cases (ℕ_discrete i j)
+      (λ q. rw q (omega arith))
+      (λ n. omega (arith, long, term_among i (omega (arith, long)), term_among j (omega (arith, long)), s.rising k (lo + i) (lo + j) (omega arith) (omega arith) (omega (arith, long))))
 
-  -- No column has it: the column has a greater term,
-  pub column_past : c < end_column ws k → ¬ (term_at ws c ≡ x) → ColumnFor ws k x 512
-  column_past l n =
-      record {
-        there = λ h. absurd (omega arith);
-        none = λ _ d o e. by_cases (dec_lt d c)
-            (λ b. omega (arith, p.before d o.from b))
-            (λ b. by_cases (ℕ_discrete d c)
-            (λ q. n (rw q at e))
-            (λ q. omega (arith, p.after c (omega arith) l, s.rising k c d p.from (omega arith) o.below)));
-      }
+  -- The column found has the term,
+  pub column_found : (i : ℕ) → IsBinarySearchResult (λ y. nat_cmp y x) (terms_of ws lo hi) (Ok i) → ColumnFor ws k x (Some (lo + i))
+  column_found i h =
+      let a = searched (terms_of ws lo hi) x (Ok i) h rising in
+      (record { from = omega arith; below = omega (arith, long, a.0) }, sym (term_among i (omega (arith, long, a.0))) ∙ a.1)
 
-  -- or there is none.
-  pub column_end : end_column ws k ≤ c → ColumnFor ws k x 512
-  column_end l = record { there = λ h. absurd (omega arith); none = λ _ d o e. omega (arith, p.before d o.from (omega (arith, o.below))) }
+  -- and where none is found none has it.
+  pub column_missing : (i : ℕ) → IsBinarySearchResult (λ y. nat_cmp y x) (terms_of ws lo hi) (Err i) → ColumnFor ws k x None
+  column_missing i h c o q =
+      let a = searched (terms_of ws lo hi) x (Err i) h rising in
+      let at : lo + (c - lo) ≡ c = omega (arith, o.from) in
+      let l : c - lo < hi - lo = omega (arith, o.from, o.below) in
+      let t : get_or (terms_of ws lo hi) (c - lo) 0 ≡ x = term_among (c - lo) l ∙ (ap (term_at ws) at ∙ q) in
+      by_cases (dec_lt (c - lo) i) (λ b. omega (arith, t, a.1 (c - lo) b)) (λ b. omega (arith, t, a.2 (c - lo) (omega arith) (omega (arith, long))))
 
 -- ---- its bit
 
-module _ (st ws : List ℕ) (i k : ℕ) (h : IsClosure st ws) (s : IsStated st i k) where
+module _ (st ws : List ℕ) (i k : ℕ) (h : IsClosure st ws) (s : IsStated st i k) (x : ℕ) where
   -- The column of a term has the bit exactly where the subject leads to the term,
-  pub column_leads : (x c : ℕ) → ColumnFor ws k x c → c < 512 → (bit_at ws i c ≡ 1) ↔ LeadsTo st i x
-  column_leads x c f l = let o = f.there l in (leads_of st ws i k h s c x o.0.below o.1, bit_of_lem st ws i k h s c x o.0 o.1)
+  pub column_leads : (c : ℕ) → ColumnFor ws k x (Some c) → (bit_at ws i c ≡ 1) ↔ LeadsTo st i x
+  column_leads c o = (leads_of st ws i k h s c x o.0.below o.1, bit_of_lem st ws i k h s c x o.0 o.1)
 
   -- and where no column has it the subject does not lead there.
-  pub column_none : (x c : ℕ) → ColumnFor ws k x c → ¬ (c < 512) → ¬ LeadsTo st i x
-  column_none x c f n p = let o = h.all i k x s p in f.none n o.column o.of_property o.term
+  pub column_none : ColumnFor ws k x None → ¬ LeadsTo st i x
+  column_none n p = let o = h.all i k x s p in n o.column o.of_property o.term

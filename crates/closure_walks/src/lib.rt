@@ -50,12 +50,9 @@ fn close_statement(
     requires { (m * 3 < length statements.now) × (length closure.old ≡ 8706) × (m ≤ 512) × (ns ≤ 512) × (length gain.now ≡ 16) }
     ensures { Extended statements.now m (bit_at closure.old) (bit_at closure.new) (row_bit gain.now) s ss ns }
 {
-    let mut i = 0;
-    while i < m {
-        let r = i;
-        i += 1;
-        if leads(statements, closure, r, s, ss, ns) {
-            unite(closure, r, gain);
+    for i in 0..m {
+        if leads(statements, closure, i, s, ss, ns) {
+            unite(closure, i, gain);
         }
     }
 }
@@ -68,10 +65,7 @@ pub fn close(statements: &[u32], m: usize, columns: &[u64], ns: usize, closure: 
     ensures { Closed statements.now m columns.now ns (bit_at closure.new) (edges statements.now 0 m) }
 {
     let mut gain = no_gain();
-    let mut n = 0;
-    while n < m {
-        let j = n;
-        n += 1;
+    for j in 0..m {
         if applies(statements, j, NEITHER) {
             let s = subject_node(statements, j);
             let e = object_node(statements, j);

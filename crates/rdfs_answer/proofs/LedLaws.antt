@@ -1,20 +1,19 @@
 -- What a word leads to, by the terms found for the example of its question. Assumes nothing.
-use mathlib.Core.Path.{◌≡◌, refl, sym}
+use mathlib.Core.Path.{◌≡◌, refl, sym, ap, ◌∙◌}
 use mathlib.Core.Bool.{Bool, true, false}
 use mathlib.Core.List.Memᴰ
 use mathlib.Core.List.{List, [], ◌∷◌, Memᴰ}
-use mathlib.Core.Logic.{◌↔◌, by_cases}
-use Prim.Native.Nat.{ℕ, ◌+◌, ◌≤◌}
-use native.Mathlib.Decide.{ℕ_discrete}
+use mathlib.Core.Logic.{◌↔◌}
+use Prim.Native.Nat.{ℕ, ◌+◌, ◌-◌, ◌<◌, ◌≤◌}
 use native.Mathlib.Omega.{arith}
-use lib.ListN.{get_or, drop}
-use lib.Dec.{ltb}
-use borrow.Author.Tests.{ltb-true, ltb-false, eq-eqb, ne_eqb}
+use lib.ListN.{length, get_or, take, drop}
+use lib.Dec.{eqb, ltb}
+use borrow.Author.Tests.{ltb-true, ltb-false, eqb-true, eqb-false, eq-eqb, ne_eqb}
+use Rattle.std.specs.List.{IsAnyAnswer}
+use Rattle.std.proofs.lemmas.List.{get_or-take, get_or-drop, length-take, length-drop}
 use Rattle.spec.specs.declared.Triple.{Triple}
-use Rattle.spec.specs.Terms.{type, is_literal, triple}
-use Rattle.spec.proofs.Lists.{true-not_false}
 use Rattle.spec.specs.Tables.{count, first_rows, rows}
-use Rattle.spec.specs.computed.Carried.{properties, subject_classes, object_classes}
+use Rattle.spec.specs.computed.Carried.{object_classes}
 use Rattle.rdfs_reach.specs.inside.Marks.{Within}
 use Rattle.table.specs.inside.Bounds.{Tells}
 use Rattle.table.proofs.SearchLaws.{tells_true, tells_false}
@@ -29,26 +28,22 @@ tells_iff f t = record { if_true = λ e. f.0 (t.if_true e); if_false = λ e q. t
 
 -- ---- a term among those found
 
-pub none-at : {found : List ℕ} {a x : ℕ} → ¬ Within found a a x
-none-at w = omega (arith, w.low, w.high)
+-- What the search through them tells.
+pub found_among : (found : List ℕ) (a b x : ℕ) (r : Bool) → a ≤ b → b ≤ length found → IsAnyAnswer (λ y t. eqb y x ≡ t) (take (b - a) (drop a found)) r → Tells r (Within found a b x)
+found_among found a b x r p q h = told r h
+  where
+    among : (i : ℕ) → i < b - a → get_or (take (b - a) (drop a found)) i 0 ≡ get_or found (a + i) 0
+    among i l = get_or-take (b - a) (drop a found) i 0 l ∙ get_or-drop a found i 0
 
--- Another term is passed.
-pub none_more : {found : List ℕ} {a i x : ℕ} → ¬ Within found a i x → ¬ (get_or found i 0 ≡ x) → ¬ Within found a (i + 1) x
-none_more {found} {a} {i} {x} n d w =
-    by_cases (ℕ_discrete w.at i) (λ (q : w.at ≡ i). d (rw q at w.is))
-    (λ q. n (record { at = w.at; low = w.low; high = omega (arith, w.high); is = w.is }))
+    long : length (take (b - a) (drop a found)) ≡ b - a
+    long = simp (length-take, length-drop) (omega arith)
 
--- All are passed.
-pub none_end : {found : List ℕ} {a b i x : ℕ} → ¬ Within found a i x → b ≤ i → ¬ Within found a b x
-none_end n l w = n (record { at = w.at; low = w.low; high = omega (arith, w.high); is = w.is })
-
--- ---- the example of a question
-
-pub example_class : (asked w : ℕ) → asked ≡ 3 → triple 6 type w ≡ example asked w
-example_class asked w e = rw (eq-eqb asked 3 e) refl
-
-pub example_property : (asked w : ℕ) → ¬ (asked ≡ 3) → triple 6 w 6 ≡ example asked w
-example_property asked w n = rw (ne_eqb asked 3 n) refl
+    told : (r : Bool) → IsAnyAnswer (λ y t. eqb y x ≡ t) (take (b - a) (drop a found)) r → Tells r (Within found a b x)
+    told true (k, l, e) = tells_true (record { at = a + k; low = omega arith; high = omega (arith, long); is = sym (among k (omega (arith, long))) ∙ eqb-true _ x (e 0) })
+    told false n = tells_false (λ w.
+        let at : a + (w.at - a) ≡ w.at = omega (arith, w.low) in
+        let l : w.at - a < b - a = omega (arith, w.low, w.high) in
+        eqb-false _ x (n (w.at - a) 0 (omega arith) (omega (arith, long))) (among (w.at - a) l ∙ (ap (λ (i : ℕ). get_or found i 0) at ∙ w.is)))
 
 -- ---- the answer by the terms found
 

@@ -37,14 +37,7 @@ fn is_found(found: &[u32], a: usize, b: usize, x: u32) -> bool
     requires { (a ≤ b) × (b ≤ length found.now) }
     ensures { Tells result (Within found.now a b x) }
 {
-    let mut i = a;
-    while i < b {
-        if found[i] == x {
-            return true;
-        }
-        i += 1;
-    }
-    false
+    found[a..b].contains(&x)
 }
 
 // The answer to a question, worked out.

@@ -4,16 +4,14 @@ use mathlib.Core.Bool.{true}
 use mathlib.Core.List.Memᴰ
 use mathlib.Core.List.{List, map, Memᴰ}
 use mathlib.Core.Logic.{⊎_elim, by_cases}
-use Prim.Native.Nat.{ℕ, ◌+◌, ◌*◌, ◌≤◌, ◌<◌}
-use native.Mathlib.Decide.{ℕ_discrete, dec_lt}
+use Prim.Native.Nat.{ℕ, ◌*◌, ◌≤◌, ◌<◌}
+use native.Mathlib.Decide.{dec_lt}
 use native.Mathlib.Omega.{arith}
-use lib.ListN.{length, get_or, drop, take, set, length-set}
-use lib.Seq.{get_or-set_same, get_or-set_other}
+use lib.ListN.{length, get_or, drop, take}
 use borrow.Author.Tests.{lt-ltb, le-ltb}
 use Rattle.spec.specs.declared.Triple.{Triple}
 use Rattle.spec.specs.Terms.{type, triple}
 use Rattle.spec.specs.computed.Carried.{ascend, properties, subject_classes, object_classes, conclusions, carried}
-use Rattle.spec.specs.inside.Comparison.{triple_eq}
 use Rattle.spec.proofs.Ascending.{ascend_asc, ascend_in, ascend_out, ascending_ext}
 use Rattle.spec.specs.Tables.{triple_from, first_rows, rows, count, flatten, is_statement_table}
 use Rattle.spec.proofs.TableRows.{length-first_rows, get_or-first_rows}
@@ -46,37 +44,6 @@ module _ (f : Triple) (a b x i : ℕ) where
 -- The first i conclusions are written.
 abbrev pub Written : Triple → ℕ → ℕ → List ℕ → List ℕ → ℕ → Type 0
 Written f a b found out i = (j : ℕ) → j < i → triple_from out (j * 3) ≡ conclusion_at f a b (get_or found j 0) j
-
--- Three words set.
-abbrev put : List ℕ → ℕ → Triple → List ℕ
-put out k t = set (set (set out k t.subject) (k + 1) t.property) (k + 2) t.object
-
-put_other : (out : List ℕ) (k w : ℕ) (t : Triple) → w < k → get_or (put out k t) w 0 ≡ get_or out w 0
-put_other out k w t h =
-    get_or-set_other (set (set out k t.subject) (k + 1) t.property) (k + 2) w t.object 0 (λ q. omega arith)
-    ∙ (get_or-set_other (set out k t.subject) (k + 1) w t.property 0 (λ q. omega arith) ∙ get_or-set_other out k w t.subject 0 (λ q. omega arith))
-
-put_same : (out : List ℕ) (k : ℕ) (t : Triple) → k + 3 ≤ length out → triple_from (put out k t) k ≡ t
-put_same out k t h =
-    let A : List ℕ = set out k t.subject in
-    let B : List ℕ = set A (k + 1) t.property in
-    let la : length A ≡ length out = length-set out k t.subject in
-    let lb : length B ≡ length A = length-set A (k + 1) t.property in
-    triple_eq (triple_from (put out k t) k) t
-    (get_or-set_other B (k + 2) k t.object 0 (λ q. omega arith) ∙ (get_or-set_other A (k + 1) k t.property 0 (λ q. omega arith) ∙ get_or-set_same out k t.subject 0 (omega arith)))
-    (get_or-set_other B (k + 2) (k + 1) t.object 0 (λ q. omega arith) ∙ get_or-set_same A (k + 1) t.property 0 (omega arith))
-    (get_or-set_same B (k + 2) t.object 0 (omega arith))
-
-pub written_more : (f : Triple) (a b : ℕ) (found out : List ℕ) (i : ℕ) (t : Triple) → i * 3 + 3 ≤ length out → t ≡ conclusion_at f a b (get_or found i 0) i → Written f a b found out i → Written f a b found (put out (i * 3) t) (i + 1)
-written_more f a b found out i t l e w j h =
-    by_cases (ℕ_discrete j i)
-    (λ q. rw q (put_same out (i * 3) t l ∙ e))
-    (λ q.
-    triple_eq (triple_from (put out (i * 3) t) (j * 3)) (triple_from out (j * 3)) (put_other out (i * 3) (j * 3) t (omega arith)) (put_other out (i * 3) (j * 3 + 1) t (omega arith)) (put_other out (i * 3) (j * 3 + 2) t (omega arith))
-    ∙ w j (omega arith))
-
-pub length-put : (out : List ℕ) (k : ℕ) (t : Triple) → length (put out k t) ≡ length out
-length-put out k t = simp length-set
 
 -- ---- the members
 

@@ -40,15 +40,12 @@ fn write_conclusions(fact: Triple, ends: Ends, found: &[u32], out: &mut [u32])
     requires { (ends.object ≤ length found.now) × (ends.object * 3 ≤ length out.old) }
     ensures { (i : ℕ) → i < ends.object → triple_from out.new (i * 3) ≡ conclusion_at fact ends.properties ends.subject (get_or found.now i 0) i }
 {
-    let n = ends.object;
-    let mut i = 0;
-    while i < n {
-        let t = conclusion(fact, ends, found[i], i);
+    for (i, x) in found[..ends.object].iter().enumerate() {
+        let t = conclusion(fact, ends, *x, i);
         let at = i * 3;
         out[at] = t.subject;
         out[at + 1] = t.property;
         out[at + 2] = t.object;
-        i += 1;
     }
 }
 

@@ -1,3 +1,2 @@
 pub mod MarkLaws
-pub mod Begin
 pub mod WorkLaws

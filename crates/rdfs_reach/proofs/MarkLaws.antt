@@ -14,10 +14,10 @@ use borrow.Author.Tests.{eq-eqb, eqb-true}
 use Rattle.spec.specs.declared.Triple.{Triple}
 use Rattle.spec.specs.Terms.{triple}
 use Rattle.spec.specs.inside.Comparison.{Less, by_subject, by_property, by_object, triple_eq}
-use Rattle.spec.proofs.Ascending.{is_ascending_iff, and_left, and_right}
+use Rattle.spec.proofs.Ascending.{and_left, and_right}
 use Rattle.spec.specs.Tables.{row_at, first_rows, rows, count, is_statement_table}
 use Rattle.spec.proofs.TableRows.{length-first_rows, get_or-row_at, length-rows}
-use Rattle.table.proofs.Place.{ascending-get_or, get_or-member, member-get_or}
+use Rattle.table.proofs.Place.{get_or-member, member-get_or}
 use Rattle.spec.proofs.TableFormed.{is_table_well_formed, capacity_most, ready}
 use Rattle.table.specs.inside.Bounds.{Tells, Rising}
 use Rattle.table.proofs.SearchLaws.{rows-less}

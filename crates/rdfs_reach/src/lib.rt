@@ -44,8 +44,7 @@ fn append_block(
     ensures { Extended st.now m k (λ y. y ≡ x) used.old found.old n used.new found.new result }
 {
     let mut e = n;
-    let mut j = first;
-    while j < m {
+    for j in first..m {
         if !has_subject(st, j, x, k) {
             return e;
         }
@@ -53,7 +52,6 @@ fn append_block(
         used[j] = 1;
         found[e] = st[at + 2];
         e += 1;
-        j += 1;
     }
     e
 }
@@ -115,16 +113,15 @@ pub fn append_all(
     ensures by_index { (o : ℕ) → Within found.new n result o ↔ ObjectOf st.now m k (Within found.old from to) o }
 {
     let mut e = n;
-    let mut i = from;
-    while i < to {
+    for i in from..to {
         let x = found[i];
         e = append_objects(st, m, k, x, used, found, e);
-        i += 1;
     }
     e
 }
 
-// Closes found[from..n] under the statements of the property k: appends what is reached from there. The new end.
+// Closes found[from..n] under the statements of the property k: appends what is reached from there. The new end. Counted by hand: the list grows
+// while it is gone through.
 pub fn close(
     st: &[u32],
     m: usize,

@@ -1,6 +1,5 @@
 use native.Mathlib.Omega.{arith}
 use mathlib.Core.Path.{refl}
-use Prim.Native.Nat.{◌-◌}
 use lib.ListN.{length-set}
 use Rattle.closure_words.proofs.Columns.{stand}
 use Rattle.closure_joined.proofs.JoinedLaws.{gathering_start, gathering_past, gathering_more, gathered}
@@ -9,35 +8,8 @@ use Rattle.closure_joined.proofs.find_joined.Goals as goal
 pub loop-c-init : goal.loop-c-init
 loop-c-init c = let stands = stand _ c.args.property c.requires.0 in (refl, omega (arith, stands.ordered, stands.few, c.first_column-c.ensures), stands.few, gathering_start _ _ _ _ _ _ c.first_column-c.ensures)
 
-pub next_column-c-requires : goal.next_column-c-requires
-next_column-c-requires c = (c.requires.0.long, c.requires.1, omega (arith, c.loop-c-test.true, c.end_column-hi.ensures, c.loop-c.invariant.2))
-
-pub is_set-requires : goal.is_set-requires
-is_set-requires c = (c.requires.0.long, c.requires.1, omega (arith, c.loop-c-test.true, c.end_column-hi.ensures, c.loop-c.invariant.2))
-
-pub overflow_add-found : goal.overflow_add-found
-overflow_add-found c = omega (arith, c.loop-c-test.true, c.end_column-hi.ensures, c.loop-c.invariant.2)
-
-pub offset_bounds-closure-at : goal.offset_bounds-closure-at
-offset_bounds-closure-at c = omega (arith, c.loop-c-test.true, c.end_column-hi.ensures, c.loop-c.invariant.2)
-
-pub bounds-closure-at : goal.bounds-closure-at
-bounds-closure-at c = omega (arith, c.loop-c-test.true, c.end_column-hi.ensures, c.loop-c.invariant.2, c.requires.0.long)
-
-pub bounds-found-n : goal.bounds-found-n
-bounds-found-n c = omega (arith, c.loop-c-test.true, c.end_column-hi.ensures, c.loop-c.invariant.0, c.loop-c.invariant.2, c.loop-c.invariant.3.few, c.requires.2)
-
-pub overflow_add-n : goal.overflow_add-n
-overflow_add-n c = omega (arith, c.loop-c-test.true, c.end_column-hi.ensures, c.loop-c.invariant.2, c.loop-c.invariant.3.few)
-
-pub loop-c-smaller-then-is_set : goal.loop-c-smaller-then-is_set
-loop-c-smaller-then-is_set c = omega (arith, c.next_column-c.ensures.above, c.next_column-c.ensures.within)
-
 pub loop-c-preserved-then-is_set : goal.loop-c-preserved-then-is_set
 loop-c-preserved-then-is_set c = (simp length-set (omega (arith, c.loop-c.invariant.0)), c.next_column-c.ensures.within, c.loop-c.invariant.2, gathering_more _ _ _ _ _ _ _ c.loop-c.invariant.3 c.next_column-c.ensures c.requires.0 (omega (arith, c.loop-c-test.true, c.end_column-hi.ensures)) (omega (arith, c.loop-c-test.true, c.end_column-hi.ensures, c.loop-c.invariant.0, c.loop-c.invariant.2, c.loop-c.invariant.3.few, c.requires.2)) (c.is_set.ensures.if_true c.if-is_set.true))
-
-pub loop-c-smaller : goal.loop-c-smaller
-loop-c-smaller c = omega (arith, c.next_column-c.ensures.above, c.next_column-c.ensures.within)
 
 pub loop-c-preserved : goal.loop-c-preserved
 loop-c-preserved c = (c.loop-c.invariant.0, c.next_column-c.ensures.within, c.loop-c.invariant.2, gathering_past _ _ _ _ _ _ _ c.loop-c.invariant.3 c.next_column-c.ensures (c.is_set.ensures.if_false c.if-is_set.false))

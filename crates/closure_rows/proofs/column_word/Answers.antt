@@ -1,9 +1,6 @@
 -- The bit of the column is set in its own word.
-use Rattle.closure_rows.proofs.RowLaws.{alone_here, alone_other}
+use Rattle.closure_rows.proofs.RowLaws.{alone_here}
 use Rattle.closure_rows.proofs.column_word.Goals as goal
 
 pub returns-then-c-w : goal.returns-then-c-w
 returns-then-c-w c = alone_here _ _ c.if-c-w.true
-
-pub returns-else-c-w : goal.returns-else-c-w
-returns-else-c-w c = alone_other _ _ c.if-c-w.false

@@ -11,9 +11,6 @@ use Rattle.rdfs_answer.proofs.work_out.Goals as goal
 pub bounds-statements-0 : goal.bounds-statements-0
 bounds-statements-0 c = omega (arith, (table_statements c.args.statements.now _ c.requires.statements_value refl).size)
 
-pub overflow_cast-m : goal.overflow_cast-m
-overflow_cast-m c = omega (arith, c.type_inv.statements 0)
-
 pub find_terms-ends-requires : goal.find_terms-ends-requires
 find_terms-ends-requires c = record { statements = table_statements c.args.statements.now _ c.requires.statements_value refl; in_bounds = omega (arith, ap length c.no_terms-found.ensures ∙ length-replicate {A = ℕ} 1026 0) }
 

@@ -1,4 +1,3 @@
-use Prim.Native.Nat.{◌-◌}
 use native.Mathlib.Omega.{arith}
 use Rattle.spec.specs.Tables.{row_at}
 use Rattle.rdfs_reach.proofs.MarkLaws.{block-place, block_more, block-end, block_stops}
