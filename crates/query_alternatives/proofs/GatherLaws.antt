@@ -1,4 +1,5 @@
 -- The alternatives of all sources, statement by statement, and what is given of them. Assumes nothing.
+use Rattle.std.specs.Prelude.{Err}
 use Prim.Native.Nat.{ℕ, ◌+◌, ◌-◌, ◌*◌, ◌≤◌, ◌<◌}
 use mathlib.Core.Path.{◌≡◌, sym, ap, ◌∙◌}
 use mathlib.Core.Bool.{true, false}
@@ -21,7 +22,6 @@ use Rattle.spec.specs.inside.Entailment.{NoVocabulary}
 use Rattle.spec.proofs.Entailment.{allowed_no_vocabulary}
 use Rattle.spec.specs.Rows.{words}
 use Rattle.rdfs_carry.proofs.WordRows.{ordered_words}
-use Rattle.spec.specs.declared.Reply.TheVariants.{Refused}
 use Rattle.spec.specs.Outputs.{replied, give}
 use Rattle.rows_distinct.specs.declared.Collected.{Collected}
 use Rattle.rows_distinct.specs.inside.Collected.{Collects, gathered}
@@ -124,12 +124,12 @@ module _ (S : List ℕ) (a : Triple) where
 
   module _ (len : ℕ) where
     -- Statements that are not well formed.
-    pub refused_1 : is_statement_table S ≡ false → replied (Refused 1) (replicate len 0) ≡ reformulate S a len
+    pub refused_1 : is_statement_table S ≡ false → replied (Err 1) (replicate len 0) ≡ reformulate S a len
     unfolding reformulate first_refusal give
     refused_1 e = rw e
 
     -- No atom.
-    pub refused_6 : is_statement_table S ≡ true → is_atom a ≡ false → replied (Refused 6) (replicate len 0) ≡ reformulate S a len
+    pub refused_6 : is_statement_table S ≡ true → is_atom a ≡ false → replied (Err 6) (replicate len 0) ≡ reformulate S a len
     unfolding reformulate first_refusal give
     refused_6 e f = rw (e, f)
 

@@ -6,7 +6,7 @@ ghost use Rattle.query_alternatives.specs.inside.Putting.{alternative_by, admits
 use spec::Triple;
 use terms::Term;
 
-// The kinds of alternatives, save that of an explicit triple as it is, which is 0.
+// The kinds of alternatives, save that of an explicit triple as it is, which is 0. They are words of an output, and so numbers.
 pub const BY_SUBCLASS: u32 = 1;
 
 pub const BY_DOMAIN: u32 = 2;

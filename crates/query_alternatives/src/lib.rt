@@ -40,10 +40,10 @@ pub fn alternatives(statements: &[u32], atom: Triple, out: &mut [u32]) -> Reply
 {
     clear(out);
     if !is_statement_table(statements) {
-        return Reply::Refused(1);
+        return Err(1);
     }
     if !is_atom(atom) {
-        return Reply::Refused(6);
+        return Err(6);
     }
     gather(statements, atom, out)
 }

@@ -55,11 +55,9 @@ fn put_rows(
     ensures { Puts (flat_map (given atom source) (first_rows n list.now)) out.old c0 out.new result }
 {
     let mut c = c0;
-    let mut i = 0;
-    while i < n {
+    for i in 0..n {
         let row = atom_at(list, i * 3);
         c = put_given(out, atom, source, row, c);
-        i += 1;
     }
     c
 }
@@ -146,10 +144,8 @@ pub fn put_statements(out: &mut [u32], statements: &[u32], atom: Triple, c0: Col
 {
     let n = statements[0] as usize;
     let mut c = c0;
-    let mut i = 0;
-    while i < n {
+    for i in 0..n {
         c = put_statement(out, statements, atom, i, c);
-        i += 1;
     }
     c
 }
