@@ -7,7 +7,6 @@ ghost use Rattle.spec_ntriples.specs.computed.Canonical.{is_canonical};
 
 use ntriples_bytes::is_utf8;
 use ntriples_ends::object_end;
-use ntriples_terminals::Found;
 use ntriples_text_kind::{kind_of, vocabulary_of};
 use ntriples_text_same::is_text;
 
@@ -24,8 +23,8 @@ pub fn is_canonical(text: &[u8]) -> bool
         return false;
     }
     match object_end(text, 0) {
-        Found::Nothing => false,
-        Found::End(end) => {
+        None => false,
+        Some(end) => {
             if end < text.len() {
                 return false;
             }
@@ -49,10 +48,7 @@ fn is_no_vocabulary(text: &[u8]) -> bool
 pub fn is_own_text(text: &[u8]) -> bool
     ensures { result ≡ (is_canonical text.now && eqb (vocabulary_of text.now) 0) }
 {
-    if is_canonical(text) {
-        return is_no_vocabulary(text);
-    }
-    false
+    is_canonical(text) && is_no_vocabulary(text)
 }
 
 // The kind of a canonical text: 0 URI, 1 blank, 2 literal.

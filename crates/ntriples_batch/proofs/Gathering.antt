@@ -43,13 +43,11 @@ full_line empty e = true-not (sym e)
 full_line (full t) e = record { triple = t; same = refl }
 
 -- A line that is the same has a triple or has none.
-pub wrong_none : (l : Line) → l ≡ wrong → false ≡ has_triple l
+pub none-full : (bytes : List ℕ) (l : Line) (r : code-line.Line) → IsLine bytes l r → ((k : Tokens) → r ≡ Full k → ⊥) → false ≡ has_triple l
 unfolding has_triple
-wrong_none l e = rw e
-
-pub empty_none : (l : Line) → l ≡ empty → false ≡ has_triple l
-unfolding has_triple
-empty_none l e = rw e
+none-full bytes l Wrong q n = rw q
+none-full bytes l Empty q n = rw q
+none-full bytes l (Full k) q n = absurd (n k refl)
 
 pub full-some : (l : Line) (t : TextTriple) → l ≡ full t → true ≡ has_triple l
 unfolding has_triple
@@ -197,6 +195,12 @@ full-not e = let z : ◌≡◌ {A = ℕ} 0 1 = cc in absurd (omega arith)
 full-not_empty : {C : Type 0} {t : TextTriple} → full t ≡ empty → C
 full-not_empty e = let z : ◌≡◌ {A = ℕ} 0 1 = cc in absurd (omega arith)
 
+-- A line with a triple is read as one.
+not_other : (bytes : List ℕ) (t : TextTriple) (r : code-line.Line) → IsLine bytes (full t) r → ((k : Tokens) → r ≡ Full k → ⊥) → ⊥
+not_other bytes t Wrong q n = full-not (sym q)
+not_other bytes t Empty q n = full-not_empty q
+not_other bytes t (Full k) q n = n k refl
+
 full_same : (t u : TextTriple) → full t ≡ full u → t ≡ u
 full_same t u e = cc
 
@@ -229,11 +233,8 @@ module _ (file : List ℕ) (begin end : ℕ) (I : IsLineOfTriple file begin end)
         (sym (read_as t L) ∙ line_decoded (decode bytes) chars_there.chars chars_there.same)
         (E chars_there.chars chars_there.same)
 
-    pub not-wrong : {C : Type 0} → r ≡ Wrong → C
-    not-wrong q = full-not (sym (rw q at is-line))
-
-    pub not_empty : {C : Type 0} → r ≡ Empty → C
-    not_empty q = full-not_empty (rw q at is-line)
+    pub only-full : ((k : Tokens) → r ≡ Full k → ⊥) → ⊥
+    only-full n = not_other bytes t r is-line n
 
     pub have-texts : (k : Tokens) → r ≡ Full k → HaveTexts bytes k t
     have-texts k q =

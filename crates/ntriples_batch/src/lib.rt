@@ -10,7 +10,7 @@ ghost use Rattle.ntriples_batch.specs.inside.Batches.{has_triple, LineAt, Gather
 
 use ntriples_breaks::{line_end, next_line};
 use ntriples_document::line_of;
-use ntriples_lines::{Line, Token, Tokens, read_line};
+use ntriples_lines::{Line, Tokens, read_line};
 
 // Some lines of a document that have a triple: how many, and where the line behind them begins.
 #[derive(Clone, Copy)]
@@ -23,14 +23,11 @@ pub struct Batch {
 fn has_triple(bytes: &[u8]) -> bool
     ensures { result ≡ has_triple (line_of (decode bytes.now)) }
 {
-    match line_of(bytes) {
-        Line::Wrong => false,
-        Line::Empty => false,
-        Line::Full(_) => true,
-    }
+    matches!(line_of(bytes), Line::Full(_))
 }
 
-// Notes where the lines with a triple begin, from the begin of a line on, until the file ends or there is no place left.
+// Notes where the lines with a triple begin, from the begin of a line on, until the file ends or there is no place left. No
+// `for`: a turn goes on by a line.
 pub fn gather_lines(file: &[u8], from: usize, lines: &mut [usize]) -> Batch
     requires { from ≤ length file.now }
     ensures within { result.next ≤ length file.now }
@@ -56,15 +53,8 @@ pub fn tokens_at(file: &[u8], begin: usize, end: usize) -> Tokens
     requires { IsLineOfTriple file.now begin end }
     ensures { (t : TextTriple) → LineAt file.now begin t → HaveTexts (take (end - begin) (drop begin file.now)) result t }
 {
-    let none = Token { from: 0, end: 0 };
-    let nowhere = Tokens {
-        subject: none,
-        property: none,
-        object: none,
-    };
     match read_line(&file[begin..end]) {
-        Line::Wrong => nowhere,
-        Line::Empty => nowhere,
         Line::Full(tokens) => tokens,
+        _ => unreachable!(),
     }
 }

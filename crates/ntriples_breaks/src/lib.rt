@@ -9,15 +9,13 @@ pub fn line_end(file: &[u8], from: usize) -> usize
     requires { from ≤ length file.now }
     ensures { result ≡ from + line_length (drop from file.now) }
 {
-    let mut at = from;
-    while at < file.len() {
+    for at in from..file.len() {
         let b = file[at];
         if (b == b'\r') | (b == b'\n') {
             return at;
         }
-        at += 1;
     }
-    at
+    file.len()
 }
 
 // Where the next line begins, behind one that ends at an index; the end, where there is none.

@@ -1,7 +1,7 @@
 -- Laws of the character at an index, by its bytes. Assumes nothing.
-use Prim.Native.Nat.{ℕ, zero, suc, ◌+◌, ◌-◌, ◌*◌, ◌%◌, ◌≤◌, ◌<◌}
+use Prim.Native.Nat.{ℕ, suc, ◌+◌, ◌-◌, ◌*◌, ◌%◌, ◌≤◌, ◌<◌}
 use mathlib.Core.Path.{◌≡◌, refl, sym, ap, ◌∙◌}
-use mathlib.Core.Bool.{Bool, true, false, ◌&&◌, cond}
+use mathlib.Core.Bool.{Bool, true, false, ◌&&◌}
 use mathlib.Core.List.{List, [], ◌∷◌}
 use native.Mathlib.Numerals.{add-one}
 use native.Mathlib.Omega.{arith}
@@ -10,7 +10,7 @@ use lib.Seq.{drop-cons}
 use lib.Dec.{eqb, leb, ltb}
 use borrow.Author.Tests.{lt-leb, le-leb, ne_eqb, eqb-false, lt-ltb, le-ltb, leb-true, eqb-true, ltb-true, ltb-false}
 use Rattle.spec_ntriples.specs.Utf8.{is_between}
-use Rattle.spec_ntriples.specs.computed.Decoded.{Decoded, broken, decoded, with_char, Due, bad, due, first_byte, further_byte, next_byte, no_byte, decode_from, decode}
+use Rattle.spec_ntriples.specs.computed.Decoded.{decoded, with_char, bad, due, first_byte, further_byte, next_byte, no_byte, decode_from, decode}
 use Rattle.ntriples_bytes.specs.inside.Places.{At, Utf8From, Marks}
 use Rattle.ntriples_bytes.specs.declared.Mark.{Mark}
 use Rattle.ntriples_bytes.proofs.Decoding.{broken-not, front_char, behind_front, whole, bad_stays, at_within, First, first-at}

@@ -1,11 +1,11 @@
 -- Laws of the characters of parts of bytes. Assumes nothing.
 use Prim.Native.Nat.{ℕ, zero, suc, ◌+◌, ◌-◌, ◌*◌, ◌≤◌, ◌<◌}
-use mathlib.Core.Path.{◌≡◌, refl, sym, ap, ◌∙◌}
-use mathlib.Core.Bool.{Bool, true, false, ◌&&◌, ◌||◌, cond}
+use mathlib.Core.Path.{◌≡◌, refl, ap, ◌∙◌}
+use mathlib.Core.Bool.{Bool, true, false, ◌||◌}
 use mathlib.Core.List.{List, [], ◌∷◌, ◌++◌}
 use native.Mathlib.Omega.{arith}
-use lib.Dec.{eqb, leb, ltb}
-use borrow.Author.Tests.{lt-leb, lt-ltb, eqb-true, ltb-false}
+use lib.Dec.{eqb, ltb}
+use borrow.Author.Tests.{lt-leb, lt-ltb}
 use Rattle.spec_ntriples.specs.Utf8.{is_between}
 use Rattle.spec_ntriples.specs.computed.Decoded.{Decoded, broken, decoded, with_char, Due, bad, due, first_byte, further_byte, next_byte, no_byte, decode_from, decode}
 use Rattle.ntriples_bytes.specs.inside.Parts.{joined, has_any}

@@ -21,91 +21,70 @@ pub struct Mark {
     pub next: usize,
 }
 
-// What is open inside a character: that it is broken; or how many bytes are due, and the range of the next.
+// What an open character leaves due: how many bytes, and the range of the next.
 #[derive(Clone, Copy)]
-pub enum Open {
-    Broken,
-    Due(u8, u8, u8),
+pub struct Due {
+    pub left: u8,
+    pub low: u8,
+    pub high: u8,
 }
 
 // ---- whether bytes are characters
 
-// What the first byte of a character leaves due.
-fn first_byte(b: u8) -> Open
+// What the first byte of a character leaves due; nothing, where no character begins with it.
+fn first_byte(b: u8) -> Option<Due>
     ensures { (bs : List ℕ) → are_chars (decode_from bs (first_byte b)) ≡ are_chars_from bs result }
 {
-    if b < BEHIND_ASCII {
-        return Open::Due(0, LOWEST, HIGHEST);
-    }
-    if b < 0xC2 {
-        return Open::Broken;
-    }
-    if b < 0xE0 {
-        return Open::Due(1, LOWEST, HIGHEST);
-    }
-    if b == 0xE0 {
-        return Open::Due(2, 0xA0, HIGHEST);
-    }
-    if b == 0xED {
-        return Open::Due(2, LOWEST, 0x9F);
-    }
-    if b < 0xF0 {
-        return Open::Due(2, LOWEST, HIGHEST);
-    }
-    if b == 0xF0 {
-        return Open::Due(3, 0x90, HIGHEST);
-    }
-    if b < 0xF4 {
-        return Open::Due(3, LOWEST, HIGHEST);
-    }
-    if b == 0xF4 {
-        return Open::Due(3, LOWEST, 0x8F);
-    }
-    Open::Broken
+    let (left, low, high) = match b {
+        0x00..=0x7F => (0, LOWEST, HIGHEST),
+        0xC2..=0xDF => (1, LOWEST, HIGHEST),
+        0xE0 => (2, 0xA0, HIGHEST),
+        0xED => (2, LOWEST, 0x9F),
+        0xE1..=0xEF => (2, LOWEST, HIGHEST),
+        0xF0 => (3, 0x90, HIGHEST),
+        0xF1..=0xF3 => (3, LOWEST, HIGHEST),
+        0xF4 => (3, LOWEST, 0x8F),
+        _ => return None,
+    };
+    Some(Due { left, low, high })
 }
 
-// What a byte leaves due behind an open character.
-fn next_byte(left: u8, low: u8, high: u8, b: u8) -> Open
-    ensures { (bs : List ℕ) → are_chars_from (b ∷ bs) (Open.Due left low high) ≡ are_chars_from bs result }
+// What a byte leaves due behind an open character; nothing, where it breaks that.
+fn next_byte(due: Due, b: u8) -> Option<Due>
+    ensures { (bs : List ℕ) → are_chars_from (b ∷ bs) (Some due) ≡ are_chars_from bs result }
 {
-    if left == 0 {
+    if due.left == 0 {
         return first_byte(b);
     }
-    if b < low {
-        return Open::Broken;
+    if b < due.low || due.high < b {
+        return None;
     }
-    if high < b {
-        return Open::Broken;
-    }
-    Open::Due(left - 1, LOWEST, HIGHEST)
+    Some(Due {
+        left: due.left - 1,
+        low: LOWEST,
+        high: HIGHEST,
+    })
 }
 
 // Whether bytes are UTF-8.
 pub fn is_utf8(bytes: &[u8]) -> bool
     ensures { result ≡ are_chars (decode bytes.now) }
 {
-    let mut left: u8 = 0;
-    let mut low = LOWEST;
-    let mut high = HIGHEST;
-    let mut at: usize = 0;
-    while at < bytes.len() {
-        let b = bytes[at];
-        at += 1;
-        if (left == 0) & (b < BEHIND_ASCII) {
+    let mut due = Due {
+        left: 0,
+        low: LOWEST,
+        high: HIGHEST,
+    };
+    for b in bytes {
+        if (due.left == 0) & (*b < BEHIND_ASCII) {
             continue;
         }
-        match next_byte(left, low, high, b) {
-            Open::Broken => {
-                return false;
-            }
-            Open::Due(l, from, to) => {
-                left = l;
-                low = from;
-                high = to;
-            }
-        }
+        let Some(next) = next_byte(due, *b) else {
+            return false;
+        };
+        due = next;
     }
-    left == 0
+    due.left == 0
 }
 
 // ---- the character at an index
@@ -116,7 +95,7 @@ fn byte_at(bytes: &[u8], at: usize) -> u32
     ensures value { result ≡ get_or bytes.now at 0 }
     ensures upper_bound { result < 256 }
 {
-    bytes[at] as u32
+    u32::from(bytes[at])
 }
 
 // The character at an index of bytes that are UTF-8 from there on.

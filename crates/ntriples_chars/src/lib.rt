@@ -110,7 +110,7 @@ pub fn is_pn_chars(c: u32) -> bool
                     | (((0x0300 <= c) & (c <= 0x036F)) | ((0x203F <= c) & (c <= 0x2040))))))
 }
 
-// The value of a hexadecimal digit, 16 where a character is none.
+// The value of a hexadecimal digit, 16 where a character is none: the number that the definition of that name gives.
 pub fn hex_value(c: u32) -> u32
     ensures value { result ≡ hex_value c }
     ensures upper_bound { result ≤ 16 }
@@ -127,7 +127,7 @@ pub fn hex_value(c: u32) -> u32
     16
 }
 
-// The character that a letter behind a backslash stands for.
+// The character that a letter behind a backslash stands for, NO_CHAR for any other: the number that the definition of that name gives.
 pub fn echar(c: u32) -> u32
     ensures { result ≡ echar c }
 {

@@ -11,10 +11,20 @@ pub fn copy_bytes(bytes: &[u8], from: usize, n: usize, out: &mut [u8], at: usize
     requires n_in_bounds_2 { at + n ≤ length out.old }
     ensures { out.new ≡ sets out.old at (take n (drop from bytes.now)) }
 {
-    let mut k = 0;
-    while k < n {
-        out[at + k] = bytes[from + k];
-        k += 1;
+    out[at..at + n].copy_from_slice(&bytes[from..from + n]);
+}
+
+// The text of a vocabulary URI.
+fn vocabulary_text(term: u32) -> &'static [u8]
+    requires { (1 ≤ term) × (term ≤ 5) }
+    ensures { result.now ≡ vocabulary_text term }
+{
+    match term {
+        1 => b"<http://www.w3.org/1999/02/22-rdf-syntax-ns#type>",
+        2 => b"<http://www.w3.org/2000/01/rdf-schema#subClassOf>",
+        3 => b"<http://www.w3.org/2000/01/rdf-schema#subPropertyOf>",
+        4 => b"<http://www.w3.org/2000/01/rdf-schema#domain>",
+        _ => b"<http://www.w3.org/2000/01/rdf-schema#range>",
     }
 }
 
@@ -23,16 +33,7 @@ pub fn vocabulary_length(term: u32) -> usize
     requires { (1 ≤ term) × (term ≤ 5) }
     ensures { result ≡ length (vocabulary_text term) }
 {
-    if term <= 2 {
-        return 49;
-    }
-    if term == 3 {
-        return 52;
-    }
-    if term == 4 {
-        return 45;
-    }
-    44
+    vocabulary_text(term).len()
 }
 
 // Copies the text of a vocabulary URI to an index.
@@ -41,28 +42,8 @@ pub fn write_vocabulary(term: u32, out: &mut [u8], at: usize)
     requires term_in_bounds { at + length (vocabulary_text term) ≤ length out.old }
     ensures { out.new ≡ sets out.old at (vocabulary_text term) }
 {
-    if term == 1 {
-        let rdf_type = b"<http://www.w3.org/1999/02/22-rdf-syntax-ns#type>";
-        copy_bytes(rdf_type, 0, 49, out, at);
-        return;
-    }
-    if term == 2 {
-        let sub_class = b"<http://www.w3.org/2000/01/rdf-schema#subClassOf>";
-        copy_bytes(sub_class, 0, 49, out, at);
-        return;
-    }
-    if term == 3 {
-        let sub_property = b"<http://www.w3.org/2000/01/rdf-schema#subPropertyOf>";
-        copy_bytes(sub_property, 0, 52, out, at);
-        return;
-    }
-    if term == 4 {
-        let domain = b"<http://www.w3.org/2000/01/rdf-schema#domain>";
-        copy_bytes(domain, 0, 45, out, at);
-        return;
-    }
-    let range = b"<http://www.w3.org/2000/01/rdf-schema#range>";
-    copy_bytes(range, 0, 44, out, at);
+    let text = vocabulary_text(term);
+    out[at..at + text.len()].copy_from_slice(text);
 }
 
 // Sets the bytes from an index on to zero.
@@ -70,9 +51,5 @@ pub fn clear_from(out: &mut [u8], at: usize)
     requires { at ≤ length out.old }
     ensures { out.new ≡ sets out.old at (replicate (length out.old - at) 0) }
 {
-    let mut i = at;
-    while i < out.len() {
-        out[i] = 0;
-        i += 1;
-    }
+    out[at..].fill(0);
 }

@@ -1,5 +1,5 @@
 -- Laws of texts that are compared piece by piece. Assumes nothing.
-use Prim.Native.Nat.{ℕ, zero, suc, ◌+◌, ◌-◌, ◌≤◌, ◌<◌}
+use Prim.Native.Nat.{ℕ, ◌+◌, ◌-◌, ◌≤◌, ◌<◌}
 use mathlib.Core.Path.{◌≡◌, refl, sym, ap, ◌∙◌}
 use mathlib.Core.Bool.{Bool, true, false, ◌&&◌}
 use mathlib.Core.List.{List, [], ◌∷◌, ◌++◌}
@@ -13,8 +13,8 @@ use Rattle.spec_ntriples.specs.Texts.{is_same_text}
 use Rattle.dictionary_bytes.proofs.Same.{part_split, part_length}
 use Rattle.ntriples_cursor.specs.declared.Mode.TheVariants.{Iri}
 use Rattle.ntriples_cursor.specs.declared.Piece.{Piece}
-use Rattle.ntriples_cursor.specs.inside.Coming.{IriComing, Coming, IriStepped}
-use Rattle.ntriples_cursor.proofs.Placing.{Placed, coming-placed}
+use Rattle.ntriples_cursor.specs.inside.Coming.{IriComing, IriStepped}
+use Rattle.ntriples_cursor.proofs.Placing.{coming-placed}
 
 -- A text behind another of the same length.
 append_same : (x y a b : List ℕ) → length x ≡ length a → is_same_text (x ++ y) (a ++ b) ≡ (is_same_text x a && is_same_text y b)

@@ -1,10 +1,9 @@
 -- Laws of the canonical bytes of characters. Assumes nothing.
-use Prim.Native.Nat.{ℕ, ◌+◌, ◌≤◌, ◌<◌}
-use mathlib.Core.Path.{◌≡◌, refl, sym, ap, ◌∙◌}
-use mathlib.Core.Bool.{Bool, true, false, cond}
-use mathlib.Core.List.{List, [], ◌∷◌}
-use native.Mathlib.Omega.{arith}
+use Prim.Native.Nat.{ℕ}
+use mathlib.Core.Path.{◌≡◌, refl}
+use mathlib.Core.List.{[], ◌∷◌}
 use lib.Dec.{eqb}
+use Rattle.std.specs.Prelude.{Some, None}
 use Rattle.spec_ntriples.specs.Utf8.{encode_char}
 use Rattle.spec_ntriples.specs.Characters.{codes}
 use Rattle.spec_ntriples.specs.Texts.{canonical_char}
@@ -15,25 +14,25 @@ use Rattle.ntriples_cursor.specs.inside.Coming.{Holds}
 use Rattle.ntriples_cursor.specs.inside.Letters.{letter_of}
 
 -- A character with a letter is escaped, and any other is not.
-letter-some : (c : ℕ) → 0 < letter_of c → canonical_char c ≡ 0x5C ∷ letter_of c ∷ []
+letter-some : (c l : ℕ) → letter_of c ≡ Some l → canonical_char c ≡ 0x5C ∷ l ∷ []
 unfolding canonical_char letter_of codes
-letter-some c =
-    by_test (eqb c 0x22) (λ q. rw q (λ h. refl))
-    (λ q. rw q (by_test (eqb c 0x5C) (λ r. rw r (λ h. refl))
-    (λ r. rw r (by_test (eqb c 0x0A) (λ s. rw s (λ h. refl))
-    (λ s. rw s (by_test (eqb c 0x0D) (λ t. rw t (λ h. refl)) (λ t. rw t (λ h. absurd (omega arith)))))))))
+letter-some c l =
+    by_test (eqb c 0x22) (λ q. rw q (λ h. cc))
+    (λ q. rw q (by_test (eqb c 0x5C) (λ r. rw r (λ h. cc))
+    (λ r. rw r (by_test (eqb c 0x0A) (λ s. rw s (λ h. cc))
+    (λ s. rw s (by_test (eqb c 0x0D) (λ t. rw t (λ h. cc)) (λ t. rw t (λ h. cc))))))))
 
-letter_none : (c : ℕ) → letter_of c ≤ 0 → canonical_char c ≡ encode_char c
+letter_none : (c : ℕ) → letter_of c ≡ None → canonical_char c ≡ encode_char c
 unfolding canonical_char letter_of codes
 letter_none c =
-    by_test (eqb c 0x22) (λ q. rw q (λ h. absurd (omega arith)))
-    (λ q. rw q (by_test (eqb c 0x5C) (λ r. rw r (λ h. absurd (omega arith)))
-    (λ r. rw r (by_test (eqb c 0x0A) (λ s. rw s (λ h. absurd (omega arith)))
-    (λ s. rw s (by_test (eqb c 0x0D) (λ t. rw t (λ h. absurd (omega arith))) (λ t. rw t (λ h. refl))))))))
+    by_test (eqb c 0x22) (λ q. rw q (λ h. cc))
+    (λ q. rw q (by_test (eqb c 0x5C) (λ r. rw r (λ h. cc))
+    (λ r. rw r (by_test (eqb c 0x0A) (λ s. rw s (λ h. cc))
+    (λ s. rw s (by_test (eqb c 0x0D) (λ t. rw t (λ h. cc)) (λ t. rw t (λ h. refl))))))))
 
-module _ (c l : ℕ) (next : Cursor) (p : Piece) (e : l ≡ letter_of c) where
-  pub letter_canonical : 0 < l → Holds (0x5C ∷ l ∷ []) next p → Holds (canonical_char c) next p
-  letter_canonical h H = rw (letter-some c (omega arith), ← e) H
+module _ (c : ℕ) (next : Cursor) (p : Piece) where
+  pub letter_canonical : (l : ℕ) → letter_of c ≡ Some l → Holds (0x5C ∷ l ∷ []) next p → Holds (canonical_char c) next p
+  letter_canonical l e H = rw (letter-some c l e) H
 
-  pub plain_canonical : l ≤ 0 → Holds (encode_char c) next p → Holds (canonical_char c) next p
-  plain_canonical h H = rw (letter_none c (omega arith)) H
+  pub plain_canonical : letter_of c ≡ None → Holds (encode_char c) next p → Holds (canonical_char c) next p
+  plain_canonical e H = rw (letter_none c e) H

@@ -1,23 +1,21 @@
 -- Laws of literals behind their strings, and of terms at their first characters. Assumes nothing.
-use Prim.Native.Nat.{ℕ, zero, suc, ◌+◌, ◌-◌, ◌≤◌, ◌<◌}
+use Prim.Native.Nat.{ℕ, ◌+◌, ◌≤◌}
 use Prim.Native.Char.{code}
-use mathlib.Core.Path.{◌≡◌, refl, sym, ap, ◌∙◌}
-use mathlib.Core.Bool.{Bool, true, false, cond}
-use mathlib.Core.List.{List, [], ◌∷◌, ◌++◌, append_assoc}
+use mathlib.Core.Path.{◌≡◌, ap}
+use mathlib.Core.Bool.{true, false}
+use mathlib.Core.List.{List, [], ◌∷◌, ◌++◌}
 use native.Mathlib.Omega.{arith}
-use lib.Dec.{eqb}
-use lib.ListN.{length}
-use Rattle.spec_ntriples.specs.Utf8.{utf8, encode_char}
-use Rattle.spec_ntriples.specs.Characters.{codes, is_one_of}
-use Rattle.spec_ntriples.specs.computed.Terminals.{outside, iri_step, string_step, scan, got, skip}
-use Rattle.spec_ntriples.specs.Texts.{Text, text, is_same_text, iri_text, blank_text, canonical_char, canonical_chars, xsd_string}
-use Rattle.ntriples_bytes.specs.inside.Places.{At, Utf8From, Marks, HasText, chars_at}
+use Rattle.spec_ntriples.specs.Utf8.{utf8}
+use Rattle.spec_ntriples.specs.Characters.{codes}
+use Rattle.spec_ntriples.specs.computed.Terminals.{outside, iri_step, skip}
+use Rattle.spec_ntriples.specs.Texts.{is_same_text, iri_text, xsd_string}
+use Rattle.ntriples_bytes.specs.inside.Places.{At, Marks, chars_at}
 use Rattle.ntriples_bytes.specs.declared.Mark.{Mark}
-use Rattle.ntriples_bytes.proofs.Decoding.{at_same, at_within, some_at, chars_are}
+use Rattle.ntriples_bytes.proofs.Decoding.{at_same, chars_are}
 use Rattle.dictionary_bytes.proofs.Same.{same_equal, other_differ}
 use Rattle.ntriples_cursor.specs.inside.Coming.{Typed, Tagged, Follows, plain, left_off, typed, tagged, lowered, type_tail}
 use Rattle.ntriples_cursor.proofs.Widths.{same_place}
-use Rattle.ntriples_cursor.proofs.Terms.{Before, Upto, upto_none, before_upto, before_one, upto_both, upto_before, upto-place, before-place, scan_before, skip_upto}
+use Rattle.ntriples_cursor.proofs.Terms.{Before, Upto, before_upto, before_one, upto_both, upto_before, upto-place, before-place, scan_before, skip_upto}
 
 -- ---- characters at an index
 

@@ -1,8 +1,8 @@
 -- Laws of where a literal's text goes on behind its string. Assumes nothing.
-use Prim.Native.Nat.{ℕ, ◌+◌, ◌≤◌, ◌<◌}
+use Prim.Native.Nat.{ℕ, ◌≤◌, ◌<◌}
 use Prim.Native.Char.{code}
-use mathlib.Core.Path.{◌≡◌, refl, sym, ap, ◌∙◌}
-use mathlib.Core.Bool.{Bool, true, false}
+use mathlib.Core.Path.{◌≡◌, refl}
+use mathlib.Core.Bool.{true, false}
 use mathlib.Core.List.{List, [], ◌∷◌, ◌++◌}
 use native.Mathlib.Omega.{arith}
 use lib.ListN.{length}
@@ -14,7 +14,7 @@ use Rattle.ntriples_bytes.specs.declared.Mark.{Mark}
 use Rattle.ntriples_bytes.proofs.Decoding.{at_within}
 use Rattle.ntriples_cursor.specs.inside.Coming.{Typed, Follows, IriComing, LabelComing, SuffixComing, typed_at, tagged_at, type_tail}
 use Rattle.ntriples_cursor.proofs.Terms.{upto-place, skip_upto}
-use Rattle.ntriples_cursor.proofs.Following.{Marked, follows_end, follows_mark, SomeChar, marked_char, TypeFound, TagFound, marked-type, marked-tag, type_same, type_other}
+use Rattle.ntriples_cursor.proofs.Following.{Marked, follows_end, follows_mark, marked_char, TypeFound, marked-type, marked-tag, type_same, type_other}
 use Rattle.ntriples_cursor.proofs.Placing.{follows_upto}
 
 -- A datatype's IRI, from behind its first mark on.

@@ -1,18 +1,17 @@
 -- Where a cursor stands: never behind the end of its term, and there nothing is to come. Assumes nothing.
-use Prim.Native.Nat.{ℕ, ◌+◌, ◌≤◌, ◌<◌}
+use Prim.Native.Nat.{ℕ, ◌≤◌, ◌<◌}
 use Prim.Native.Char.{code}
 use mathlib.Core.Path.{◌≡◌, refl, sym, ap, ◌∙◌}
 use mathlib.Core.List.{List, [], ◌∷◌, ◌++◌, append_assoc}
 use native.Mathlib.Omega.{arith}
-use lib.ListN.{length}
 use Rattle.spec_ntriples.specs.Utf8.{utf8}
 use Rattle.spec_ntriples.specs.computed.Terminals.{outside, iri_step, string_step, skip}
 use Rattle.spec_ntriples.specs.Texts.{Text}
-use Rattle.ntriples_bytes.specs.inside.Places.{At, HasText}
+use Rattle.ntriples_bytes.specs.inside.Places.{At}
 use Rattle.ntriples_cursor.specs.declared.Mode.{Mode}
 use Rattle.ntriples_cursor.specs.declared.Mode.TheVariants.{Term, Iri, Label, Quoted, Suffix, Tag}
 use Rattle.ntriples_cursor.specs.declared.Cursor.{Cursor}
-use Rattle.ntriples_cursor.specs.inside.Coming.{Typed, Tagged, Follows, plain, left_off, typed, tagged, lowered, ComingIn, Coming, Shown, typed_at, tagged_at}
+use Rattle.ntriples_cursor.specs.inside.Coming.{Follows, plain, left_off, typed, tagged, lowered, ComingIn, Coming, Shown, typed_at, tagged_at}
 use Rattle.ntriples_cursor.proofs.Terms.{Before, Upto, upto_none, before_upto, before_one, upto_both, upto_before, upto-place, before-place, scan_before, skip_upto, IriRead, Opened, iri, blank, literal, open-object}
 use Rattle.ntriples_cursor.proofs.Following.{typed_before, tagged_before}
 

@@ -2,23 +2,24 @@
 use Prim.Native.Nat.{ℕ, zero, suc, ◌+◌, ◌-◌, ◌*◌, ◌^◌, ◌≤◌, ◌<◌}
 use Prim.Native.Char.{code}
 use mathlib.Core.Path.{◌≡◌, refl, sym, ap, ◌∙◌}
-use mathlib.Core.Bool.{Bool, true, false, ◌&&◌, ◌||◌, not, cond}
+use mathlib.Core.Bool.{Bool, true, false, ◌&&◌, ◌||◌, not}
 use mathlib.Core.List.{List, [], ◌∷◌}
 use native.Mathlib.Nat.{pow-suc, pow-le-pow_right, lt_of_lt_of_le}
+use native.Mathlib.Numerals.{add-one}
 use native.Mathlib.Omega.{arith}
-use lib.Dec.{eqb, leb, ltb}
+use lib.Dec.{eqb, ltb}
 use lib.ListN.{length}
-use borrow.Author.Tests.{lt-ltb, le-ltb, eq-eqb, ne_eqb, eqb-true, eqb-false, ltb-true, ltb-false}
-use Rattle.spec_ntriples.specs.Utf8.{is_between, is_scalar, encode_char}
+use borrow.Author.Tests.{ne_eqb, eqb-true, ltb-true}
+use Rattle.spec_ntriples.specs.Utf8.{is_scalar, encode_char}
 use Rattle.spec_ntriples.specs.Characters.{codes, is_one_of, is_iri_char, is_string_char, hex_value, no_char, echar}
-use Rattle.spec_ntriples.specs.computed.Terminals.{State, outside, slash, digits, Step, ends, breaks, leads, gives, Got, none, got, push, digit, hex_step, iri_step, string_step, after_step, scan}
+use Rattle.spec_ntriples.specs.computed.Terminals.{State, outside, slash, digits, Step, breaks, Got, none, got, push, digit, hex_step, iri_step, string_step, after_step, scan}
 use Rattle.spec_ntriples.specs.Texts.{canonical_char}
 use Rattle.ntriples_bytes.specs.inside.Places.{At, Utf8From, Marks}
 use Rattle.ntriples_bytes.specs.declared.Mark.{Mark}
 use Rattle.ntriples_bytes.proofs.Decoding.{at_same, some_at, at_within}
 use Rattle.ntriples_bytes.proofs.Marking.{by_test, and_left, and_right, between}
-use Rattle.ntriples_cursor.specs.inside.Readers.{IsReader, Reads, NotClosed, Given, Gives, DigitsDue}
-use Rattle.ntriples_cursor.proofs.Widths.{width_one, width_some, width_most, next_place, char_small}
+use Rattle.ntriples_cursor.specs.inside.Readers.{IsReader, Reads, NotClosed, Gives, DigitsDue}
+use Rattle.ntriples_cursor.proofs.Widths.{width_one, width_most, next_place, char_small}
 
 -- ---- what was read
 
@@ -149,11 +150,11 @@ digits_first line step ds rest zero at h D = absurd (omega arith)
 digits_first line step ds rest (suc n) at h D = D
 
 -- Numbers of at most eight digits have 32 bits.
-pub value_more : (n left v d : ℕ) → 0 < left → left ≤ n → d < 16 → v < 16 ^ (n - left) → v * 16 + d < 16 ^ (n - (left - 1))
-value_more n left v d h k l b = let e : n - (left - 1) ≡ suc (n - left) = omega arith in rw (e, pow-suc 16 (n - left)) (omega arith)
+pub value_more : (n v d : ℕ) → d < 16 → v < 16 ^ n → v * 16 + d < 16 ^ (n + 1)
+value_more n v d k b = rw (add-one n, pow-suc 16 n) (omega arith)
 
-pub value_fits : (n left v : ℕ) → 0 < left → n ≤ 8 → v < 16 ^ (n - left) → v < 16 ^ 7
-value_fits n left v h k b = let l : n - left ≤ 7 = omega arith in lt_of_lt_of_le b (pow-le-pow_right (omega arith) l)
+pub value_fits : (n v : ℕ) → n ≤ 7 → v < 16 ^ n → v < 16 ^ 7
+value_fits n v l b = lt_of_lt_of_le b (pow-le-pow_right (omega arith) l)
 
 -- ---- escapes
 

@@ -1,31 +1,28 @@
 -- Laws of the steps of a cursor through a term. Assumes nothing.
-use Prim.Native.Nat.{ℕ, zero, suc, ◌+◌, ◌-◌, ◌≤◌, ◌<◌}
+use Prim.Native.Nat.{ℕ, ◌+◌, ◌≤◌, ◌<◌}
 use Prim.Native.Char.{code}
 use mathlib.Core.Path.{◌≡◌, refl, sym, ap, ◌∙◌}
-use mathlib.Core.Bool.{Bool, true, false, ◌&&◌, ◌||◌, cond}
 use mathlib.Core.List.{List, [], ◌∷◌, ◌++◌, append_assoc}
 use native.Mathlib.Omega.{arith}
-use lib.Dec.{eqb}
-use lib.ListN.{length, take, drop, length-append}
+use lib.ListN.{length}
 use lib.Seq.{length-take-le}
-use borrow.Author.Tests.{eqb-true}
 use Rattle.spec_ntriples.specs.Utf8.{is_between, utf8, encode_char}
-use Rattle.spec_ntriples.specs.Characters.{codes, is_one_of}
-use Rattle.spec_ntriples.specs.computed.Terminals.{outside, iri_step, string_step, scan, got, skip}
+use Rattle.spec_ntriples.specs.Characters.{codes}
+use Rattle.spec_ntriples.specs.computed.Terminals.{iri_step, string_step}
 use Rattle.spec_ntriples.specs.Texts.{lower_char, Text, text, iri_text, blank_text, canonical_char, canonical_chars}
-use Rattle.ntriples_bytes.specs.inside.Places.{At, Utf8From, Marks, HasText}
+use Rattle.ntriples_bytes.specs.inside.Places.{At, Marks}
 use Rattle.ntriples_bytes.specs.declared.Mark.{Mark}
-use Rattle.ntriples_bytes.proofs.Decoding.{at_same, at_within, some_at}
-use Rattle.ntriples_cursor.specs.declared.Mode.TheVariants.{Term, Iri, Label, Quoted, Suffix, Tag}
+use Rattle.ntriples_bytes.proofs.Decoding.{at_same}
+use Rattle.ntriples_cursor.specs.declared.Mode.TheVariants.{Iri, Label, Quoted, Tag}
 use Rattle.ntriples_cursor.specs.declared.Cursor.{Cursor}
 use Rattle.ntriples_cursor.specs.declared.Piece.{Piece}
-use Rattle.ntriples_cursor.specs.inside.Readers.{Reads, Gives}
-use Rattle.ntriples_cursor.specs.inside.Coming.{Coming, IriComing, LabelComing, StringComing, Holds, Splits, Stepped, IriStepped, TagComing, SuffixComing, TermComing, Typed, Tagged, Follows, plain, left_off, typed, tagged, Shown, typed_at, tagged_at, lowered, AreAscii, type_tail}
+use Rattle.ntriples_cursor.specs.inside.Readers.{Gives}
+use Rattle.ntriples_cursor.specs.inside.Coming.{Coming, IriComing, LabelComing, StringComing, Holds, Splits, Stepped, IriStepped, TagComing, SuffixComing, TermComing, Typed, Shown, typed_at, tagged_at, lowered, AreAscii}
 use Rattle.ntriples_bytes.proofs.Marking.{by_test}
 use Rattle.ntriples_cursor.proofs.Readers.{iri_reader, string_reader, outside-closed, encode_canonical}
 use Rattle.ntriples_cursor.proofs.Widths.{next_place, same_place, width_some}
-use Rattle.ntriples_cursor.proofs.Terms.{Before, upto_before, upto-place, before-place, before_upto, before_one, upto_none, scan_before, skip_upto, IriRead, Opened, iri, blank, literal, open-object}
-use Rattle.ntriples_cursor.proofs.Following.{mark_front, typed_before, tagged_before}
+use Rattle.ntriples_cursor.proofs.Terms.{Opened, iri, blank, literal, open-object}
+use Rattle.ntriples_cursor.proofs.Following.{mark_front}
 
 -- ---- pieces
 

@@ -1,12 +1,12 @@
 -- Laws of terms by their first characters, and of what stands behind what was read. Assumes nothing.
-use Prim.Native.Nat.{ℕ, zero, suc, ◌+◌, ◌≤◌, ◌<◌}
+use Prim.Native.Nat.{ℕ, ◌≤◌, ◌<◌}
 use Prim.Native.Char.{code}
 use mathlib.Core.Path.{◌≡◌, refl, sym, ap, ◌∙◌}
-use mathlib.Core.Bool.{Bool, true, false, ◌&&◌, ◌||◌, cond}
+use mathlib.Core.Bool.{Bool, true, false, ◌&&◌, ◌||◌}
 use mathlib.Core.List.{List, [], ◌∷◌, ◌++◌, append_assoc}
 use native.Mathlib.Omega.{arith}
 use lib.Dec.{eqb}
-use lib.ListN.{length, length-append}
+use lib.ListN.{length-append}
 use borrow.Author.Tests.{eqb-true}
 use Rattle.spec_ntriples.specs.Utf8.{is_between, utf8, encode_char}
 use Rattle.spec_ntriples.specs.Characters.{codes, is_one_of, is_letter, is_digit, is_letter_or_digit, is_pn_chars, is_pn_chars_u}
@@ -14,11 +14,10 @@ use Rattle.spec_ntriples.specs.computed.Terminals.{State, outside, Step, ends, b
 use Rattle.spec_ntriples.specs.Texts.{lower_char, Text, text, is_same_text, is_absolute, iri_text, blank_text, canonical_chars, string_text, tagged_text, typed_text, xsd_string}
 use Rattle.spec_ntriples.specs.computed.Lines.{Read, nothing, read, iri_of, read_iri, blank_of, read_blank, typed_of, read_type, tagged_of, suffixed, literal_of, read_subject, read_object}
 use Rattle.ntriples_bytes.specs.inside.Places.{At}
-use Rattle.ntriples_bytes.proofs.Decoding.{at_same}
-use Rattle.ntriples_bytes.proofs.Marking.{by_test, and_left, and_right, between}
+use Rattle.ntriples_bytes.proofs.Marking.{by_test, and_left, between}
 use Rattle.dictionary_bytes.proofs.Same.{same_equal, other_differ}
-use Rattle.ntriples_cursor.specs.inside.Coming.{lowered, AreAscii, Typed, Tagged, Follows, plain, left_off, typed, tagged}
-use Rattle.ntriples_cursor.proofs.Readers.{none-not, Pushed, pushed}
+use Rattle.ntriples_cursor.specs.inside.Coming.{lowered, AreAscii, Typed, Follows, plain, left_off, typed, tagged}
+use Rattle.ntriples_cursor.proofs.Readers.{none-not, pushed}
 use Rattle.ntriples_cursor.proofs.Widths.{width_some, places_apart}
 
 -- ---- what stands behind

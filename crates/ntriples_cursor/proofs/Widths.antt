@@ -1,17 +1,16 @@
 -- How many bytes characters take: laws of decoding and encoding together. Assumes nothing.
-use Prim.Native.Nat.{ℕ, zero, suc, ◌+◌, ◌-◌, ◌*◌, ◌/◌, ◌%◌, ◌≤◌, ◌<◌}
-use mathlib.Core.Path.{◌≡◌, refl, sym, ap, ◌∙◌}
-use mathlib.Core.Bool.{Bool, true, false, cond}
+use Prim.Native.Nat.{ℕ, zero, suc, ◌+◌, ◌-◌, ◌*◌, ◌≤◌, ◌<◌}
+use mathlib.Core.Path.{◌≡◌, refl, sym, ◌∙◌}
 use mathlib.Core.List.{List, [], ◌∷◌, ◌++◌, append_assoc}
 use native.Mathlib.Decide.{dec_lt}
 use native.Mathlib.Omega.{arith}
-use lib.Dec.{eqb, leb, ltb}
+use lib.Dec.{eqb, ltb}
 use lib.ListN.{length, drop, length-append, length-drop}
-use borrow.Author.Tests.{lt-ltb, le-ltb, eqb-true, eqb-false, ltb-true, ltb-false}
+use borrow.Author.Tests.{lt-ltb, le-ltb, ltb-true}
 use Rattle.spec_ntriples.specs.Utf8.{is_between, encode_char, utf8}
-use Rattle.spec_ntriples.specs.computed.Decoded.{Decoded, broken, decoded, with_char, Due, bad, due, first_byte, further_byte, next_byte, no_byte, decode_from, decode}
+use Rattle.spec_ntriples.specs.computed.Decoded.{decoded, with_char, bad, due, first_byte, further_byte, next_byte, no_byte, decode_from, decode}
 use Rattle.ntriples_bytes.specs.inside.Places.{At}
-use Rattle.ntriples_bytes.proofs.Decoding.{broken-not, front_char, behind_front, whole, bad_stays, first-at, at_start, at_within}
+use Rattle.ntriples_bytes.proofs.Decoding.{broken-not, front_char, behind_front, whole, bad_stays, first-at, at_start}
 use Rattle.ntriples_bytes.proofs.Marking.{by_test, between}
 
 -- ---- one character

@@ -18,14 +18,12 @@ fn number_char(line: &[u8], at: usize, count: u32) -> Mark
     requires le_count { (4 ≤ count) × (count ≤ 8) }
     ensures { (step : State → ℕ → Step) (close : ℕ) (ds rest : List ℕ) → IsReader step close → Reads line.now at step (digits count 0) ds rest → Gives line.now at 0 step ds rest result }
 {
-    let mut left = count;
     let mut value: u32 = 0;
     let mut place = at;
-    while 0 < left {
+    for _ in 0..count {
         let m = char_at(line, place);
         value = value * 16 + hex_value(m.code);
         place = m.next;
-        left -= 1;
     }
     Mark {
         code: value,

@@ -22,7 +22,7 @@ pub fn single(b: u8, next: Cursor) -> Piece
     Piece {
         bytes: [b, 0, 0, 0],
         len: 1,
-        next: next,
+        next,
     }
 }
 
@@ -33,7 +33,7 @@ pub fn double(a: u8, b: u8, next: Cursor) -> Piece
     Piece {
         bytes: [a, b, 0, 0],
         len: 2,
-        next: next,
+        next,
     }
 }
 
@@ -44,7 +44,7 @@ pub fn triple(a: u8, b: u8, d: u8, next: Cursor) -> Piece
     Piece {
         bytes: [a, b, d, 0],
         len: 3,
-        next: next,
+        next,
     }
 }
 
@@ -72,27 +72,27 @@ pub fn encoded(c: u32, next: Cursor) -> Piece
             last,
         ],
         len: 4,
-        next: next,
+        next,
     }
 }
 
-// The letter behind the backslash of a character that is escaped in canonical text, 0 for any other.
-fn letter_of(c: u32) -> u8
+// The letter behind the backslash of a character that is escaped in canonical text.
+fn letter_of(c: u32) -> Option<u8>
     ensures { result ≡ letter_of c }
 {
     if c == QUOTE {
-        return b'"';
+        return Some(b'"');
     }
     if c == BACKSLASH {
-        return b'\\';
+        return Some(b'\\');
     }
     if c == LINE_FEED {
-        return b'n';
+        return Some(b'n');
     }
     if c == CARRIAGE_RETURN {
-        return b'r';
+        return Some(b'r');
     }
-    0
+    None
 }
 
 // The canonical bytes of a string's character.
@@ -100,9 +100,8 @@ pub fn canonical(c: u32, next: Cursor) -> Piece
     requires { c < 0x200000 }
     ensures { Holds (canonical_char c) next result }
 {
-    let letter = letter_of(c);
-    if 0 < letter {
-        return double(b'\\', letter, next);
+    match letter_of(c) {
+        Some(letter) => double(b'\\', letter, next),
+        None => encoded(c, next),
     }
-    encoded(c, next)
 }

@@ -1,19 +1,18 @@
 -- Laws of counting the triples of a document. Assumes nothing.
-use Prim.Native.Nat.{ℕ, zero, suc, ◌+◌, ◌-◌, ◌≤◌, ◌<◌}
+use Prim.Native.Nat.{ℕ, suc, ◌+◌, ◌-◌, ◌≤◌, ◌<◌}
 use mathlib.Core.Path.{◌≡◌, refl, sym, ap, ◌∙◌}
-use mathlib.Core.Bool.{Bool, true, false}
-use mathlib.Core.List.{List, [], ◌∷◌}
+use mathlib.Core.Bool.{true, false}
+use mathlib.Core.List.{List}
 use native.Mathlib.Omega.{arith}
-use lib.ListN.{length, get_or, take, drop, drop_of_length-le, length-drop}
+use lib.ListN.{length, take, drop, drop_of_length-le, length-drop}
 use lib.Seq.{drop-drop}
 use Rattle.spec_ntriples.specs.computed.Decoded.{Decoded, broken, decoded, decode}
 use Rattle.spec_ntriples.specs.Texts.{TextTriple}
-use Rattle.spec_ntriples.specs.computed.Lines.{Line, wrong, empty, full, read_line, Document, refused, triples, with_triple, with_line, document}
+use Rattle.spec_ntriples.specs.computed.Lines.{wrong, empty, full, read_line, Document, refused, triples, with_triple, with_line, document}
 use Rattle.ntriples_bytes.specs.inside.Places.{Utf8From}
 use Rattle.ntriples_bytes.specs.inside.Whole.{are_chars}
 use Rattle.ntriples_bytes.proofs.Decoding.{at_start}
-use Rattle.ntriples_document.specs.declared.Counted.{Counted}
-use Rattle.ntriples_document.specs.declared.Counted.TheVariants.{Refused, Triples}
+use Rattle.std.specs.Prelude.{Option, Some, None}
 use Rattle.ntriples_breaks.specs.inside.Breaks.{line_length, IsNext}
 use Rattle.ntriples_breaks.proofs.Breaking.{length-within}
 use Rattle.ntriples_document.specs.inside.Bytes.{line_of, count_of, added}
@@ -50,15 +49,15 @@ unfolding count_of with_triple added
 count_full t refused = refl
 count_full t (triples ts) = let e : 1 + length ts ≡ suc (length ts) = omega arith in rw e
 
-added_one : (n : ℕ) (x : Counted) → added n (added 1 x) ≡ added (n + 1) x
+added_one : (n : ℕ) (x : Option ℕ) → added n (added 1 x) ≡ added (n + 1) x
 unfolding added
-added_one n Refused = refl
-added_one n (Triples m) = let e : n + (1 + m) ≡ n + 1 + m = omega arith in rw e
+added_one n None = refl
+added_one n (Some m) = let e : n + (1 + m) ≡ n + 1 + m = omega arith in rw e
 
-added_zero : (x : Counted) → x ≡ added 0 x
+added_zero : (x : Option ℕ) → x ≡ added 0 x
 unfolding added
-added_zero Refused = refl
-added_zero (Triples m) = let e : 0 + m ≡ m = omega arith in rw e
+added_zero None = refl
+added_zero (Some m) = let e : 0 + m ≡ m = omega arith in rw e
 
 -- ---- the walk
 
@@ -71,7 +70,7 @@ pub record Counts (file : List ℕ) (from count : ℕ) : Type 0 where
 pub none-counted : (file : List ℕ) → Counts file 0 0
 none-counted file = record { few = omega arith; within = omega arith; same = added_zero (count_of (document file)) }
 
-pub all-counted : (file : List ℕ) (from count : ℕ) → Counts file from count → length file ≤ from → Triples count ≡ count_of (document file)
+pub all-counted : (file : List ℕ) (from count : ℕ) → Counts file from count → length file ≤ from → Some count ≡ count_of (document file)
 unfolding count_of added
 all-counted file from count C h =
     let e : count + 0 ≡ count = omega arith in
@@ -94,7 +93,7 @@ module _ (file : List ℕ) (from count : ℕ) (C : Counts file from count) (h : 
   counted : count_of (document file) ≡ added count (count_of (with_line (line_of (decode (take (end - from) (drop from file)))) (document (drop (suc end) file))))
   counted = C.same ∙ ap (λ (d : Document). added count (count_of d)) (first-line file from end e)
 
-  pub wrong_line : line_of (decode (take (end - from) (drop from file))) ≡ wrong → Refused ≡ count_of (document file)
+  pub wrong_line : line_of (decode (take (end - from) (drop from file))) ≡ wrong → None ≡ count_of (document file)
   unfolding with_line count_of added
   wrong_line q = sym (counted ∙ rw q)
 

@@ -1,16 +1,16 @@
 -- Laws of the lines of a document in bytes. Assumes nothing.
 use Prim.Native.Nat.{ℕ, suc, ◌≤◌, ◌<◌}
-use mathlib.Core.Path.{◌≡◌, refl, sym, ap, ◌∙◌}
-use mathlib.Core.Bool.{Bool, true, false, ◌&&◌, ◌||◌, cond}
+use mathlib.Core.Path.{◌≡◌, refl, sym, ◌∙◌}
+use mathlib.Core.Bool.{Bool, true, false, ◌||◌}
 use mathlib.Core.List.{List, [], ◌∷◌, ◌++◌}
 use native.Mathlib.Omega.{arith}
 use lib.ListN.{take, drop}
-use lib.Dec.{eqb, leb, ltb}
+use lib.Dec.{ltb}
 use borrow.Author.Tests.{ne_eqb, ltb-true, ltb-false}
 use Rattle.spec_ntriples.specs.computed.Decoded.{Decoded, broken, decoded, with_char, decode}
 use Rattle.spec_ntriples.specs.Characters.{codes, is_one_of}
 use Rattle.spec_ntriples.specs.computed.Terminals.{skip}
-use Rattle.spec_ntriples.specs.computed.Lines.{Line, wrong, empty, full, is_rest, read_line, add_to_line, lines, Document, refused, triples, with_triple, with_line, read_lines, document_of, document}
+use Rattle.spec_ntriples.specs.computed.Lines.{Line, wrong, empty, full, is_rest, read_line, add_to_line, lines, refused, triples, with_triple, with_line, read_lines, document_of, document}
 use Rattle.ntriples_bytes.specs.inside.Parts.{joined, has_any}
 use Rattle.ntriples_bytes.proofs.Parting.{decode_parts, none_passes}
 use Rattle.ntriples_bytes.proofs.Marking.{by_test}

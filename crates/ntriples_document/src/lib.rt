@@ -11,13 +11,6 @@ use ntriples_breaks::{line_end, next_line};
 use ntriples_bytes::is_utf8;
 use ntriples_lines::{Line, read_line};
 
-// A document: refused, or with so many triples.
-#[derive(Clone, Copy)]
-pub enum Counted {
-    Refused,
-    Triples(usize),
-}
-
 // The line of some bytes without CR and LF: wrong where they are no UTF-8.
 pub fn line_of(bytes: &[u8]) -> Line
     ensures { IsLine bytes.now (line_of (decode bytes.now)) result }
@@ -28,8 +21,8 @@ pub fn line_of(bytes: &[u8]) -> Line
     read_line(bytes)
 }
 
-// How many triples a document has, or that it is refused: question 13.
-pub fn count_triples(file: &[u8]) -> Counted
+// How many triples a document has, or nothing where it is refused: question 13.
+pub fn count_triples(file: &[u8]) -> Option<usize>
     ensures { result ≡ count_of (document file.now) }
 {
     let mut count: usize = 0;
@@ -37,17 +30,11 @@ pub fn count_triples(file: &[u8]) -> Counted
     while from < file.len() {
         let end = line_end(file, from);
         match line_of(&file[from..end]) {
-            Line::Wrong => {
-                return Counted::Refused;
-            }
-            Line::Empty => {
-                from = next_line(file, end);
-            }
-            Line::Full(_) => {
-                count += 1;
-                from = next_line(file, end);
-            }
+            Line::Wrong => return None,
+            Line::Empty => {}
+            Line::Full(_) => count += 1,
         }
+        from = next_line(file, end);
     }
-    Counted::Triples(count)
+    Some(count)
 }

@@ -12,6 +12,7 @@ use Rattle.spec_ntriples.specs.Texts.{Text, text, string_text}
 use Rattle.spec_ntriples.specs.computed.Lines.{Read, nothing, read, read_iri, blank_of, read_blank, typed_of, read_type, tagged_of, suffixed, literal_of, read_subject, read_object}
 use Rattle.ntriples_bytes.proofs.Marking.{by_test}
 use Rattle.ntriples_terminals.specs.inside.Ends.{nowhere, behind, behind_head, behind_got, behind_read}
+use Rattle.ntriples_labels.specs.declared.Part.TheVariants.{First}
 use Rattle.ntriples_labels.specs.inside.Inside.{goes_on}
 use Rattle.ntriples_ends.specs.inside.Reading.{behind_labelled, behind_tag, behind_type}
 
@@ -94,11 +95,11 @@ pub type-some : (string cs ds : List ℕ) → HeadIs (λ c. eqb c (code "^")) cs
 unfolding read_type
 type-some string cs ds H = rw (H.same, H.passes) (typed_behind string (read_iri (skip ds)))
 
-pub tag_none : (cs : List ℕ) → head_is (goes_on true) cs ≡ false → behind_tag cs ≡ nowhere
+pub tag_none : (cs : List ℕ) → head_is (goes_on First) cs ≡ false → behind_tag cs ≡ nowhere
 unfolding behind_tag goes_on
 tag_none cs q = rw q
 
-pub tag-some : (cs : List ℕ) → head_is (goes_on true) cs ≡ true → behind_tag cs ≡ behind_got (tag (goes_on true) cs)
+pub tag-some : (cs : List ℕ) → head_is (goes_on First) cs ≡ true → behind_tag cs ≡ behind_got (tag (goes_on First) cs)
 unfolding behind_tag goes_on
 tag-some cs q = rw q
 

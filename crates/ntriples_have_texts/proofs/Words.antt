@@ -4,7 +4,9 @@ use mathlib.Core.Path.{◌≡◌, refl}
 use mathlib.Core.Bool.{Bool, true, false, ◌&&◌}
 use mathlib.Core.List.{List, [], ◌∷◌}
 use native.Mathlib.Omega.{arith}
-use lib.ListN.{length, get_or, take, drop, length-drop}
+use lib.ListN.{length, get_or, take, drop, length-drop, drop_of_length-le}
+use lib.Seq.{drop-cons}
+use native.Mathlib.Numerals.{add-one}
 use Rattle.spec.specs.declared.Triple.{Triple}
 use Rattle.spec.specs.Lists.{all}
 use Rattle.spec.specs.Tables.{count, flatten, rows}
@@ -12,7 +14,6 @@ use Rattle.spec.specs.inside.Laid.{Laid}
 use Rattle.spec.proofs.TableRows.{flatten-first_rows}
 use Rattle.spec_ntriples.specs.Dictionary.{Entry}
 use Rattle.spec_writing.specs.Writing.{has_text, has_texts}
-use Rattle.dictionary_bytes.proofs.Same.{part-cons}
 
 -- ---- the words of rows
 
@@ -33,32 +34,23 @@ all_words es (t ∷ ts) = go (has_text es t.subject) (has_text es t.property) (h
     go true false c e = refl
     go false b c e = refl
 
--- ---- word by word
-
--- Some words from an index on, below another.
-abbrev pub between : List ℕ → ℕ → ℕ → List ℕ
-between ws i end = take (end - i) (drop i ws)
-
-pub between_more : (ws : List ℕ) (i end : ℕ) → i < end → end ≤ length ws → between ws i end ≡ get_or ws i 0 ∷ between ws (i + 1) end
-between_more ws i end h k = let e : end - i - 1 ≡ end - (i + 1) = omega arith in rw (part-cons ws i (end - i) (omega arith) (omega arith), e)
-
-pub between_none : (ws : List ℕ) (i end : ℕ) → end ≤ i → between ws i end ≡ []
-between_none ws i end h = let e : end - i ≡ 0 = omega arith in rw e
-
 -- ---- the loop that asks for texts
 
-module _ (es : List Entry) (ws : List ℕ) (end : ℕ) where
-  pub texts_first : Laid ws → end ≡ count ws * 3 + 1 → all (has_text es) (between ws 1 end) ≡ all (has_texts es) (rows ws)
-  texts_first L e = let k : end - 1 ≡ count ws * 3 = omega arith in rw (k, ← table-words ws L) (all_words es (rows ws))
+-- The words of the rows are asked, one by one.
+pub texts_first
+    : (es : List Entry) (ws : List ℕ) (end : ℕ) → Laid ws → end ≡ count ws * 3 + 1
+    → all (has_text es) (take (end - 1) (drop 1 ws)) ≡ all (has_texts es) (rows ws)
+texts_first es ws end L e = let k : end - 1 ≡ count ws * 3 = omega arith in rw (k, ← table-words ws L) (all_words es (rows ws))
 
-  pub texts_stop : (i : ℕ) → i < end → end ≤ length ws → has_text es (get_or ws i 0) ≡ false → all (has_text es) (between ws i end) ≡ false
+module _ (es : List Entry) (xs : List ℕ) (i : ℕ) where
+  pub texts_stop : i < length xs → has_text es (get_or xs i 0) ≡ false → all (has_text es) (drop i xs) ≡ false
   unfolding all
-  texts_stop i h k e = rw (between_more ws i end h k, e)
+  texts_stop h e = rw (drop-cons xs i 0 h, e)
 
-  pub texts_more : (i : ℕ) → i < end → end ≤ length ws → has_text es (get_or ws i 0) ≡ true → all (has_text es) (between ws (i + 1) end) ≡ all (has_text es) (between ws i end)
+  pub texts_more : i < length xs → has_text es (get_or xs i 0) ≡ true → all (has_text es) (drop (i + 1) xs) ≡ all (has_text es) (drop i xs)
   unfolding all
-  texts_more i h k e = rw (between_more ws i end h k, e)
+  texts_more h e = rw (add-one i, drop-cons xs i 0 h, e)
 
-  pub texts_end : (i : ℕ) → end ≤ i → all (has_text es) (between ws i end) ≡ true
+  pub texts_end : length xs ≤ i → all (has_text es) (drop i xs) ≡ true
   unfolding all
-  texts_end i h = rw (between_none ws i end h)
+  texts_end h = rw (drop_of_length-le xs h)

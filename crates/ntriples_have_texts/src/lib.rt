@@ -30,12 +30,10 @@ pub fn have_texts(table: &[u32], f: Filled) -> bool
     ensures { (bs : List ℕ) → is_dictionary bs ≡ true → FilledBy bs f (entries bs) → result ≡ all (has_texts (entries bs)) (rows table.now) }
 {
     let end = table[0] as usize * 3 + 1;
-    let mut i = 1;
-    while i < end {
-        if !has_text(f, table[i]) {
+    for term in &table[1..end] {
+        if !has_text(f, *term) {
             return false;
         }
-        i += 1;
     }
     true
 }

@@ -2,7 +2,7 @@
 use Prim.Native.Nat.{ℕ, ◌≤◌}
 use Prim.Native.Char.{code}
 use mathlib.Core.Path.{◌≡◌, refl, ap, ◌∙◌}
-use mathlib.Core.Bool.{Bool, true, false, not}
+use mathlib.Core.Bool.{true, false}
 use mathlib.Core.List.{List, [], ◌∷◌}
 use native.Mathlib.Omega.{arith}
 use lib.ListN.{length}
@@ -16,6 +16,8 @@ use Rattle.ntriples_bytes.specs.inside.Places.{Utf8From, chars_at, Marks}
 use Rattle.ntriples_bytes.proofs.Decoding.{chars_end, chars_marked, from_marked}
 use Rattle.ntriples_bytes.proofs.Marking.{by_test}
 use Rattle.ntriples_terminals.specs.inside.Ends.{behind, behind_got, Ended}
+use Rattle.ntriples_labels.specs.declared.Part.{Part}
+use Rattle.ntriples_labels.specs.declared.Part.TheVariants.{First, Later}
 use Rattle.ntriples_labels.specs.inside.Inside.{behind_label, goes_on}
 
 -- ---- labels
@@ -101,31 +103,31 @@ tag-push c none = refl
 tag-push c (got cs rest) = refl
 
 -- Where a reader of a tag stands.
-pub record InTag (bs : List ℕ) (from : ℕ) (letters : Bool) (at : ℕ) : Type 0 where
+pub record InTag (bs : List ℕ) (from : ℕ) (part : Part) (at : ℕ) : Type 0 where
   pub utf8 : Utf8From bs at
-  pub same : behind_got (tag (goes_on true) (chars_at bs from)) ≡ behind_got (tag (goes_on letters) (chars_at bs at))
+  pub same : behind_got (tag (goes_on First) (chars_at bs from)) ≡ behind_got (tag (goes_on part) (chars_at bs at))
 
-pub tag_start : (bs : List ℕ) (from : ℕ) → Utf8From bs from → InTag bs from true from
+pub tag_start : (bs : List ℕ) (from : ℕ) → Utf8From bs from → InTag bs from First from
 tag_start bs from U = record { utf8 = U; same = refl }
 
-module _ (bs : List ℕ) (from : ℕ) (letters : Bool) (at : ℕ) (I : InTag bs from letters at) where
-  pub tag_end : length bs ≤ at → Ended bs (behind_got (tag (goes_on true) (chars_at bs from))) at
+module _ (bs : List ℕ) (from : ℕ) (part : Part) (at : ℕ) (I : InTag bs from part at) where
+  pub tag_end : length bs ≤ at → Ended bs (behind_got (tag (goes_on First) (chars_at bs from))) at
   unfolding tag behind_got
   tag_end h = record { same = I.same ∙ rw (chars_end bs at h); from = I.utf8 }
 
   module _ (m : Mark) (M : Marks bs at m) where
-    pub tag-on : goes_on letters m.code ≡ true → InTag bs from letters m.next
+    pub tag-on : goes_on part m.code ≡ true → InTag bs from part m.next
     unfolding tag
-    tag-on q = record { utf8 = from_marked M; same = I.same ∙ rw (chars_marked M, q) (tag-push (lower_char m.code) (tag (goes_on letters) (chars_at bs m.next))) }
+    tag-on q = record { utf8 = from_marked M; same = I.same ∙ rw (chars_marked M, q) (tag-push (lower_char m.code) (tag (goes_on part) (chars_at bs m.next))) }
 
-    pub tag-off : goes_on letters m.code ≡ false → (m.code ≡ code "-" → ⊥) → Ended bs (behind_got (tag (goes_on true) (chars_at bs from))) at
+    pub tag-off : goes_on part m.code ≡ false → (m.code ≡ code "-" → ⊥) → Ended bs (behind_got (tag (goes_on First) (chars_at bs from))) at
     unfolding tag behind_got
     tag-off q n = record { same = I.same ∙ rw (chars_marked M, q, ne_eqb m.code (code "-") n); from = I.utf8 }
 
-    pub tag-stop : goes_on letters m.code ≡ false → m.code ≡ code "-" → head_is (goes_on false) (chars_at bs m.next) ≡ false → Ended bs (behind_got (tag (goes_on true) (chars_at bs from))) at
+    pub tag-stop : goes_on part m.code ≡ false → m.code ≡ code "-" → head_is (goes_on Later) (chars_at bs m.next) ≡ false → Ended bs (behind_got (tag (goes_on First) (chars_at bs from))) at
     unfolding tag behind_got goes_on
     tag-stop q n k = record { same = I.same ∙ rw (chars_marked M, q, eq-eqb m.code (code "-") n, k); from = I.utf8 }
 
-    pub tag-hyphen : goes_on letters m.code ≡ false → m.code ≡ code "-" → head_is (goes_on false) (chars_at bs m.next) ≡ true → InTag bs from false m.next
+    pub tag-hyphen : goes_on part m.code ≡ false → m.code ≡ code "-" → head_is (goes_on Later) (chars_at bs m.next) ≡ true → InTag bs from Later m.next
     unfolding tag goes_on
-    tag-hyphen q n k = record { utf8 = from_marked M; same = I.same ∙ rw (chars_marked M, q, eq-eqb m.code (code "-") n, k) (tag-push m.code (tag (goes_on false) (chars_at bs m.next))) }
+    tag-hyphen q n k = record { utf8 = from_marked M; same = I.same ∙ rw (chars_marked M, q, eq-eqb m.code (code "-") n, k) (tag-push m.code (tag (goes_on Later) (chars_at bs m.next))) }

@@ -11,7 +11,7 @@ ghost use Rattle.ntriples_lines.specs.inside.Reading.{is_ended, IsLine};
 
 use ntriples_bytes::char_at;
 use ntriples_ends::{object_end, subject_end};
-use ntriples_terminals::{Found, iri_end, mark_end, skip};
+use ntriples_terminals::{iri_end, mark_end, skip};
 
 // The place of a term in a line: from its first byte to the one behind its last.
 #[derive(Clone, Copy)]
@@ -53,8 +53,8 @@ fn is_ended(line: &[u8], at: usize) -> bool
     ensures { result ≡ is_ended (skip (chars_at line.now at)) }
 {
     match mark_end(line, skip(line, at), b'.' as u32) {
-        Found::Nothing => false,
-        Found::End(next) => is_rest(line, skip(line, next)),
+        Some(next) => is_rest(line, skip(line, next)),
+        None => false,
     }
 }
 
@@ -64,20 +64,17 @@ fn after_property(line: &[u8], subject: Token, property: Token) -> Line
     ensures { (s p : Text) → HasText line.now subject.from subject.end s → HasText line.now property.from property.end p → IsLine line.now (after_object s p (read_object (skip (chars_at line.now property.end)))) result }
 {
     let from = skip(line, property.end);
-    match object_end(line, from) {
-        Found::Nothing => Line::Wrong,
-        Found::End(end) => {
-            if is_ended(line, end) {
-                Line::Full(Tokens {
-                    subject,
-                    property,
-                    object: Token { from, end },
-                })
-            } else {
-                Line::Wrong
-            }
-        }
+    let Some(end) = object_end(line, from) else {
+        return Line::Wrong;
+    };
+    if !is_ended(line, end) {
+        return Line::Wrong;
     }
+    Line::Full(Tokens {
+        subject,
+        property,
+        object: Token { from, end },
+    })
 }
 
 // The line with a subject: behind it the property.
@@ -86,10 +83,10 @@ fn after_subject(line: &[u8], subject: Token) -> Line
     ensures { (s : Text) → HasText line.now subject.from subject.end s → IsLine line.now (after_property s (read_iri (skip (chars_at line.now subject.end)))) result }
 {
     let from = skip(line, subject.end);
-    match iri_end(line, from) {
-        Found::Nothing => Line::Wrong,
-        Found::End(end) => after_property(line, subject, Token { from, end }),
-    }
+    let Some(end) = iri_end(line, from) else {
+        return Line::Wrong;
+    };
+    after_property(line, subject, Token { from, end })
 }
 
 // A line read.
@@ -101,8 +98,8 @@ pub fn read_line(line: &[u8]) -> Line
     if is_rest(line, from) {
         return Line::Empty;
     }
-    match subject_end(line, from) {
-        Found::Nothing => Line::Wrong,
-        Found::End(end) => after_subject(line, Token { from, end }),
-    }
+    let Some(end) = subject_end(line, from) else {
+        return Line::Wrong;
+    };
+    after_subject(line, Token { from, end })
 }

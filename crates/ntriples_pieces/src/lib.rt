@@ -12,6 +12,13 @@ use ntriples_chars::{
     LAST_CODE, NO_CHAR, echar, hex_value, is_iri_char, is_scalar, is_string_char,
 };
 
+// A terminal whose characters are read: an IRI, or a string.
+#[derive(Clone, Copy)]
+pub enum Terminal {
+    Iri,
+    Quoted,
+}
+
 // What stands at an index of an IRI or a string: nothing that may; its closing mark, with the index behind; or a character, as it is or
 // as an escape, with the index behind.
 #[derive(Clone, Copy)]
@@ -22,94 +29,100 @@ pub enum Piece {
 }
 
 // Whether a character may stand in an IRI, or in a string, as it is.
-fn may_stand(iri: bool, c: u32) -> bool
-    ensures { result ≡ may_stand iri c }
+#[tactic(auto, unfolding(crate::specs::inside::Pieces::may_stand))]
+fn may_stand(terminal: Terminal, c: u32) -> bool
+    ensures { result ≡ may_stand terminal c }
 {
-    if iri {
-        is_iri_char(c)
-    } else {
-        is_string_char(c)
+    match terminal {
+        Terminal::Iri => is_iri_char(c),
+        Terminal::Quoted => is_string_char(c),
     }
 }
 
 // Whether an escape may stand for a character there.
-fn may_escape(iri: bool, c: u32) -> bool
-    ensures { result ≡ may_escape iri c }
+#[tactic(auto, unfolding(crate::specs::inside::Pieces::may_escape))]
+fn may_escape(terminal: Terminal, c: u32) -> bool
+    ensures { result ≡ may_escape terminal c }
 {
-    if iri { is_iri_char(c) } else { true }
+    match terminal {
+        Terminal::Iri => is_iri_char(c),
+        Terminal::Quoted => true,
+    }
 }
 
 // The mark that closes an IRI, or a string.
-fn closing(iri: bool) -> u32
-    ensures { result ≡ closing_of iri }
+#[tactic(auto, unfolding(crate::specs::inside::Pieces::closing_of))]
+fn closing(terminal: Terminal) -> u32
+    ensures { result ≡ closing_of terminal }
 {
-    if iri { b'>' as u32 } else { b'"' as u32 }
+    match terminal {
+        Terminal::Iri => b'>' as u32,
+        Terminal::Quoted => b'"' as u32,
+    }
 }
 
 // Whether a byte is a character that may stand there as it is.
-pub fn is_plain(iri: bool, b: u8) -> bool
-    ensures { result ≡ (ltb b 0x80 && may_stand iri b) }
+pub fn is_plain(terminal: Terminal, b: u8) -> bool
+    ensures { result ≡ (ltb b 0x80 && may_stand terminal b) }
 {
-    (b < BEHIND_ASCII) & may_stand(iri, b as u32)
+    (b < BEHIND_ASCII) & may_stand(terminal, u32::from(b))
 }
 
 // The piece of an escape with a number, whose last digit stands before an index.
-fn number_piece(iri: bool, value: u32, next: usize) -> Piece
-    ensures { result ≡ cond (is_scalar value && may_escape iri value) (Piece.Gives value next) Piece.Broken }
+fn number_piece(terminal: Terminal, value: u32, next: usize) -> Piece
+    ensures { result ≡ cond (is_scalar value && may_escape terminal value) (Piece.Gives value next) Piece.Broken }
 {
-    if is_scalar(value) & may_escape(iri, value) {
+    if is_scalar(value) & may_escape(terminal, value) {
         return Piece::Gives(value, next);
     }
     Piece::Broken
 }
 
 // The piece of an escape whose count digits stand from an index on.
-fn digits_at(line: &[u8], iri: bool, from: usize, count: u32) -> Piece
+fn digits_at(line: &[u8], terminal: Terminal, from: usize, count: u32) -> Piece
     requires utf8from { Utf8From line.now from }
     requires count_nonzero { 0 < count }
-    ensures { IsPiece (step_of iri) (digits count 0) line.now from result }
+    ensures { IsPiece (step_of terminal) (digits count 0) line.now from result }
 {
-    let mut left = count;
     let mut value: u32 = 0;
     let mut at = from;
-    while at < line.len() {
+    for _ in 0..count {
+        if line.len() <= at {
+            return Piece::Broken;
+        }
         let m = char_at(line, at);
-        at = m.next;
         let h = hex_value(m.code);
         if 16 <= h {
             return Piece::Broken;
         }
         value = value * 16 + h;
-        left -= 1;
         if LAST_CODE < value {
             return Piece::Broken;
         }
-        if left == 0 {
-            return number_piece(iri, value, at);
-        }
+        at = m.next;
     }
-    Piece::Broken
+    number_piece(terminal, value, at)
 }
 
 // The piece of an escape, from behind its backslash.
-fn escape_at(line: &[u8], iri: bool, at: usize) -> Piece
+fn escape_at(line: &[u8], terminal: Terminal, at: usize) -> Piece
     requires { Utf8From line.now at }
-    ensures { IsPiece (step_of iri) slash line.now at result }
+    ensures { IsPiece (step_of terminal) slash line.now at result }
 {
     if line.len() <= at {
         return Piece::Broken;
     }
     let m = char_at(line, at);
     if m.code == b'u' as u32 {
-        return digits_at(line, iri, m.next, 4);
+        return digits_at(line, terminal, m.next, 4);
     }
     if m.code == b'U' as u32 {
-        return digits_at(line, iri, m.next, 8);
+        return digits_at(line, terminal, m.next, 8);
     }
-    if iri {
-        return Piece::Broken;
-    }
-    let c = echar(m.code);
+    let c = match terminal {
+        Terminal::Iri => return Piece::Broken,
+        Terminal::Quoted => echar(m.code),
+    };
     if c < NO_CHAR {
         return Piece::Gives(c, m.next);
     }
@@ -117,19 +130,19 @@ fn escape_at(line: &[u8], iri: bool, at: usize) -> Piece
 }
 
 // The piece at an index.
-pub fn piece_at(line: &[u8], iri: bool, at: usize) -> Piece
+pub fn piece_at(line: &[u8], terminal: Terminal, at: usize) -> Piece
     requires utf8from { Utf8From line.now at }
     requires at_in_bounds { at < length line.now }
-    ensures { IsPiece (step_of iri) outside line.now at result }
+    ensures { IsPiece (step_of terminal) outside line.now at result }
 {
     let m = char_at(line, at);
-    if m.code == closing(iri) {
+    if m.code == closing(terminal) {
         return Piece::Ends(m.next);
     }
     if m.code == b'\\' as u32 {
-        return escape_at(line, iri, m.next);
+        return escape_at(line, terminal, m.next);
     }
-    if may_stand(iri, m.code) {
+    if may_stand(terminal, m.code) {
         return Piece::Gives(m.code, m.next);
     }
     Piece::Broken

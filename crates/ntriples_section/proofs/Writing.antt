@@ -17,14 +17,22 @@ use Rattle.spec.specs.Messages.{short_bytes, word_bytes, entry_bytes, entries_by
 use Rattle.delivery_format.specs.inside.Sections.{is_right_in}
 use Rattle.spec_ntriples.proofs.Numbers.{select-append}
 use Rattle.spec_ntriples.proofs.ReadingRefused.{entries-length}
-use Rattle.ntriples_text.proofs.Writing.{sets-append}
+use borrow.Rule.Slice.PartMut.{put_mid}
+use Rattle.std.specs.Int.{to_le_bytes}
+use mir.Syntax.{w16}
+use Rattle.ntriples_text.proofs.Writing.{sets-append, part_sets}
 use Rattle.ntriples_section.specs.inside.Sections.{chosen}
 
 -- ---- numbers, words and entries
 
-pub short-written : (out : List ℕ) (at n : ℕ) → set (set out at (n % 256)) (at + 1) (n / 256) ≡ sets out at (short_bytes n)
+-- The bytes of a 16-bit number, low byte first.
+short-bytes : (n : ℕ) → n < 65536 → to_le_bytes w16 n ≡ short_bytes n
 unfolding short_bytes
-short-written out at n = rw (add-one at)
+short-bytes n h = let e : n / 256 % 256 ≡ n / 256 = omega arith in rw e
+
+pub short-written : (out ys : List ℕ) (at k n : ℕ) → n < 65536 → ys ≡ to_le_bytes w16 n → k ≡ 2 → at + 2 ≤ length out → put_mid at k out ys ≡ sets out at (short_bytes n)
+unfolding short_bytes
+short-written out ys at k n h e f l = part_sets out (short_bytes n) ys at k (e ∙ short-bytes n h) f (omega arith)
 
 pub word-written : (out a b : List ℕ) (at w : ℕ) → a ≡ sets out at (short_bytes (w % 65536)) → b ≡ sets a (at + 2) (short_bytes (w / 65536)) → b ≡ sets out at (word_bytes w)
 unfolding word_bytes short_bytes

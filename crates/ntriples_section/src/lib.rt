@@ -24,11 +24,9 @@ fn write_entries(terms: &[u32], n: usize, statements: bool, out: &mut [u8], at: 
     ensures out_after { out.new ≡ sets out.old at (entries_bytes (chosen statements n terms.now)) }
     ensures value { result ≡ at + length (chosen statements n terms.now) * 12 }
 {
-    let mut i = 0;
     let mut place = at;
-    while i < n {
+    for i in 0..n {
         let t = row_from(terms, i);
-        i += 1;
         if is_statement(t) == statements {
             write_entry(t, out, place);
             place += ENTRY_BYTES;

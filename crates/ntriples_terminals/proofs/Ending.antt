@@ -1,8 +1,8 @@
 -- Laws of where IRIs and strings end. Assumes nothing.
-use Prim.Native.Nat.{ℕ, ◌+◌, ◌≤◌, ◌<◌}
+use Prim.Native.Nat.{ℕ, ◌≤◌}
 use Prim.Native.Char.{code}
 use mathlib.Core.Path.{◌≡◌, refl, ◌∙◌}
-use mathlib.Core.Bool.{Bool, true, false, ◌&&◌, ◌||◌, not}
+use mathlib.Core.Bool.{true, false, ◌&&◌, ◌||◌, not}
 use mathlib.Core.List.{List}
 use lib.ListN.{length}
 use lib.Dec.{eqb}
@@ -17,15 +17,17 @@ use Rattle.ntriples_bytes.proofs.Decoding.{chars_end, chars_marked}
 use Rattle.ntriples_bytes.proofs.Marking.{by_test}
 use Rattle.ntriples_chars.proofs.Testing.{neither, either}
 use Rattle.ntriples_pieces.specs.inside.Pieces.{step_of, IsPiece}
-use Rattle.ntriples_terminals.specs.inside.Ends.{Behind, nowhere, behind, behind_where, behind_got, behind_read, Ended, IsEnd}
+use Rattle.ntriples_terminals.specs.inside.Ends.{Behind, nowhere, behind_where, behind_got, behind_read, Ended, IsEnd}
+use Rattle.ntriples_pieces.specs.declared.Piece.{Piece}
 use Rattle.ntriples_pieces.specs.declared.Piece.TheVariants.{Broken, Ends, Gives}
-use Rattle.ntriples_terminals.specs.declared.Found.{Found}
-use Rattle.ntriples_terminals.specs.declared.Found.TheVariants.{Nothing, End}
+use Rattle.ntriples_pieces.specs.declared.Terminal.{Terminal}
+use Rattle.ntriples_pieces.specs.declared.Terminal.TheVariants.{Iri}
+use Rattle.std.specs.Prelude.{Option, Some, None}
 
 -- Where what is behind is the same, so is its end.
-pub end_same : (bs : List ℕ) (a b : Behind) (f : Found) → a ≡ b → IsEnd bs b f → IsEnd bs a f
-end_same bs a b Nothing e q = e ∙ q
-end_same bs a b (End end) e q = record { same = e ∙ q.same; from = q.from }
+pub end_same : (bs : List ℕ) (a b : Behind) (f : Option ℕ) → a ≡ b → IsEnd bs b f → IsEnd bs a f
+end_same bs a b None e q = e ∙ q
+end_same bs a b (Some end) e q = record { same = e ∙ q.same; from = q.from }
 
 -- ---- white space
 
@@ -51,22 +53,22 @@ behind-push c none = refl
 behind-push c (got cs rest) = refl
 
 -- What is behind a closing mark that is still to come.
-abbrev pub closes : Bool → List ℕ → ℕ → Behind
-closes iri bs at = behind_got (scan (step_of iri) outside (chars_at bs at))
+abbrev pub closes : Terminal → List ℕ → ℕ → Behind
+closes terminal bs at = behind_got (scan (step_of terminal) outside (chars_at bs at))
 
-module _ (iri : Bool) (bs : List ℕ) (at : ℕ) where
-  pub closes_broken : IsPiece (step_of iri) outside bs at Broken → closes iri bs at ≡ nowhere
+module _ (terminal : Terminal) (bs : List ℕ) (at : ℕ) where
+  pub closes_broken : IsPiece (step_of terminal) outside bs at Broken → closes terminal bs at ≡ nowhere
   unfolding behind_got
   closes_broken q = rw q
 
-  pub closes_here : (next : ℕ) → IsPiece (step_of iri) outside bs at (Ends next) → Ended bs (closes iri bs at) next
+  pub closes_here : (next : ℕ) → IsPiece (step_of terminal) outside bs at (Ends next) → Ended bs (closes terminal bs at) next
   unfolding behind_got
   closes_here next q = record { same = rw q.0; from = q.1 }
 
-  pub closes_later : (c next : ℕ) → IsPiece (step_of iri) outside bs at (Gives c next) → closes iri bs at ≡ closes iri bs next
-  closes_later c next q = rw q.0 (behind-push c (scan (step_of iri) outside (chars_at bs next)))
+  pub closes_later : (c next : ℕ) → IsPiece (step_of terminal) outside bs at (Gives c next) → closes terminal bs at ≡ closes terminal bs next
+  closes_later c next q = rw q.0 (behind-push c (scan (step_of terminal) outside (chars_at bs next)))
 
-  pub closes_end : length bs ≤ at → closes iri bs at ≡ nowhere
+  pub closes_end : length bs ≤ at → closes terminal bs at ≡ nowhere
   unfolding behind_got scan
   closes_end h = rw (chars_end bs at h)
 
@@ -74,10 +76,10 @@ module _ (iri : Bool) (bs : List ℕ) (at : ℕ) where
 
 -- What is behind an IRI inside its scheme, and before it.
 abbrev pub in_scheme : List ℕ → ℕ → Behind
-in_scheme bs at = behind_where is_scheme (scan (step_of true) outside (chars_at bs at))
+in_scheme bs at = behind_where is_scheme (scan (step_of Iri) outside (chars_at bs at))
 
 abbrev pub in_absolute : List ℕ → ℕ → Behind
-in_absolute bs at = behind_where is_absolute (scan (step_of true) outside (chars_at bs at))
+in_absolute bs at = behind_where is_absolute (scan (step_of Iri) outside (chars_at bs at))
 
 -- The colon ends a scheme; other characters may stand in it or not.
 colon : (c : ℕ) (g : Got) → c ≡ code ":" → behind_where is_scheme (push c g) ≡ behind_got g
@@ -109,45 +111,41 @@ no_letter c none q = refl
 no_letter c (got cs rest) q = rw q
 
 module _ (bs : List ℕ) (at : ℕ) where
-  pub scheme_broken : IsPiece (step_of true) outside bs at Broken → in_scheme bs at ≡ nowhere
-  unfolding behind_where
-  scheme_broken q = rw q
-
-  pub scheme_cut : (next : ℕ) → IsPiece (step_of true) outside bs at (Ends next) → in_scheme bs at ≡ nowhere
+  pub scheme_stuck : (p : Piece) → IsPiece (step_of Iri) outside bs at p → ((c next : ℕ) → p ≡ Gives c next → ⊥) → in_scheme bs at ≡ nowhere
   unfolding behind_where is_scheme
-  scheme_cut next q = rw q.0
+  scheme_stuck Broken q n = rw q
+  scheme_stuck (Ends next) q n = rw q.0
+  scheme_stuck (Gives c next) q n = absurd (n c next refl)
 
   pub scheme_end : length bs ≤ at → in_scheme bs at ≡ nowhere
   unfolding behind_where scan
   scheme_end h = rw (chars_end bs at h)
 
-  pub absolute_broken : IsPiece (step_of true) outside bs at Broken → in_absolute bs at ≡ nowhere
-  unfolding behind_where
-  absolute_broken q = rw q
-
-  pub absolute_cut : (next : ℕ) → IsPiece (step_of true) outside bs at (Ends next) → in_absolute bs at ≡ nowhere
+  pub absolute_stuck : (p : Piece) → IsPiece (step_of Iri) outside bs at p → ((c next : ℕ) → p ≡ Gives c next → ⊥) → in_absolute bs at ≡ nowhere
   unfolding behind_where is_absolute
-  absolute_cut next q = rw q.0
+  absolute_stuck Broken q n = rw q
+  absolute_stuck (Ends next) q n = rw q.0
+  absolute_stuck (Gives c next) q n = absurd (n c next refl)
 
   pub absolute_end : length bs ≤ at → in_absolute bs at ≡ nowhere
   unfolding behind_where scan
   absolute_end h = rw (chars_end bs at h)
 
-  module _ (c next : ℕ) (q : IsPiece (step_of true) outside bs at (Gives c next)) where
-    pub scheme-colon : c ≡ code ":" → in_scheme bs at ≡ closes true bs next
-    scheme-colon h = rw q.0 (colon c (scan (step_of true) outside (chars_at bs next)) h)
+  module _ (c next : ℕ) (q : IsPiece (step_of Iri) outside bs at (Gives c next)) where
+    pub scheme-colon : c ≡ code ":" → in_scheme bs at ≡ closes Iri bs next
+    scheme-colon h = rw q.0 (colon c (scan (step_of Iri) outside (chars_at bs next)) h)
 
     pub scheme-on : (c ≡ code ":" → ⊥) → (is_letter_or_digit c || is_one_of (codes "+-.") c) ≡ true → in_scheme bs at ≡ in_scheme bs next
-    scheme-on n t = rw q.0 (scheme-char c (scan (step_of true) outside (chars_at bs next)) n t)
+    scheme-on n t = rw q.0 (scheme-char c (scan (step_of Iri) outside (chars_at bs next)) n t)
 
     pub scheme-off : (c ≡ code ":" → ⊥) → (is_letter_or_digit c || is_one_of (codes "+-.") c) ≡ false → in_scheme bs at ≡ nowhere
-    scheme-off n t = rw q.0 (no-scheme-char c (scan (step_of true) outside (chars_at bs next)) n t)
+    scheme-off n t = rw q.0 (no-scheme-char c (scan (step_of Iri) outside (chars_at bs next)) n t)
 
     pub absolute-on : is_letter c ≡ true → in_absolute bs at ≡ in_scheme bs next
-    absolute-on t = rw q.0 (letter c (scan (step_of true) outside (chars_at bs next)) t)
+    absolute-on t = rw q.0 (letter c (scan (step_of Iri) outside (chars_at bs next)) t)
 
     pub absolute-off : is_letter c ≡ false → in_absolute bs at ≡ nowhere
-    absolute-off t = rw q.0 (no_letter c (scan (step_of true) outside (chars_at bs next)) t)
+    absolute-off t = rw q.0 (no_letter c (scan (step_of Iri) outside (chars_at bs next)) t)
 
 -- ---- IRIs
 

@@ -1,15 +1,14 @@
 -- Laws of the first of some characters. Assumes nothing.
 use Prim.Native.Nat.{ℕ, ◌≤◌}
-use Prim.Native.Char.{code}
 use mathlib.Core.Path.{◌≡◌}
 use mathlib.Core.Bool.{Bool, true, false}
 use mathlib.Core.List.{List}
 use lib.ListN.{length}
-use Rattle.spec_ntriples.specs.computed.Terminals.{none, head_is}
+use Rattle.spec_ntriples.specs.computed.Terminals.{head_is}
 use Rattle.ntriples_bytes.specs.declared.Mark.{Mark}
 use Rattle.ntriples_bytes.specs.inside.Places.{chars_at, Marks}
 use Rattle.ntriples_bytes.proofs.Decoding.{chars_end, chars_marked, from_marked}
-use Rattle.ntriples_terminals.specs.inside.Ends.{nowhere, behind, behind_head, Ended}
+use Rattle.ntriples_terminals.specs.inside.Ends.{nowhere, behind_head, Ended}
 
 module _ (test : ℕ → Bool) (bs : List ℕ) (at : ℕ) where
   pub head_none : length bs ≤ at → head_is test (chars_at bs at) ≡ false

@@ -1,7 +1,7 @@
-// The terminals of N-Triples in bytes of UTF-8: where each ends.
+// The terminals of N-Triples in bytes of UTF-8: where each ends, or nothing where it does not stand there.
 #![tactic(auto)]
 
-ghost use Rattle.std.specs.Prelude.{true, false, ◌<◌, eqb};
+ghost use Rattle.std.specs.Prelude.{◌<◌, eqb};
 ghost use Rattle.spec_ntriples.specs.computed.Terminals.{outside, string_step, scan, skip};
 ghost use Rattle.spec_ntriples.specs.Texts.{is_scheme, is_absolute};
 ghost use Rattle.spec_ntriples.specs.computed.Lines.{read_iri};
@@ -11,14 +11,7 @@ ghost use Rattle.ntriples_terminals.specs.inside.Ends.{behind_head, behind_where
 
 use ntriples_bytes::char_at;
 use ntriples_chars::{is_letter, is_scheme_char};
-use ntriples_pieces::{Piece, is_plain, piece_at};
-
-// Where something ends; or nothing, where it does not stand there.
-#[derive(Clone, Copy)]
-pub enum Found {
-    Nothing,
-    End(usize),
-}
+use ntriples_pieces::{Piece, Terminal, is_plain, piece_at};
 
 // ---- white space
 
@@ -41,116 +34,99 @@ pub fn skip(line: &[u8], from: usize) -> usize
 // ---- marks
 
 // Behind a mark, where it stands at an index.
-pub fn mark_end(line: &[u8], at: usize, mark: u32) -> Found
+pub fn mark_end(line: &[u8], at: usize, mark: u32) -> Option<usize>
     requires { Utf8From line.now at }
     ensures { IsEnd line.now (behind_head (λ c. eqb c mark) (chars_at line.now at)) result }
 {
     if line.len() <= at {
-        return Found::Nothing;
+        return None;
     }
     let m = char_at(line, at);
     if m.code == mark {
-        return Found::End(m.next);
+        return Some(m.next);
     }
-    Found::Nothing
+    None
 }
 
 // ---- IRIs and strings
 
-// Behind the mark that closes an IRI, or a string.
-fn closing_end(line: &[u8], iri: bool, from: usize) -> Found
+// Behind the mark that closes an IRI, or a string. No `for`: a turn goes on by a byte, or by the bytes of a piece.
+fn closing_end(line: &[u8], terminal: Terminal, from: usize) -> Option<usize>
     requires { Utf8From line.now from }
-    ensures { IsEnd line.now (behind_got (scan (step_of iri) outside (chars_at line.now from))) result }
+    ensures { IsEnd line.now (behind_got (scan (step_of terminal) outside (chars_at line.now from))) result }
 {
     let mut at = from;
     while at < line.len() {
-        if is_plain(iri, line[at]) {
+        if is_plain(terminal, line[at]) {
             at += 1;
             continue;
         }
-        match piece_at(line, iri, at) {
-            Piece::Broken => {
-                return Found::Nothing;
-            }
-            Piece::Ends(next) => {
-                return Found::End(next);
-            }
-            Piece::Gives(_, next) => {
-                at = next;
-            }
+        match piece_at(line, terminal, at) {
+            Piece::Broken => return None,
+            Piece::Ends(next) => return Some(next),
+            Piece::Gives(_, next) => at = next,
         }
     }
-    Found::Nothing
+    None
 }
 
 // Where a string ends, from behind its first quote.
-pub fn string_end(line: &[u8], from: usize) -> Found
+pub fn string_end(line: &[u8], from: usize) -> Option<usize>
     requires { Utf8From line.now from }
     ensures { IsEnd line.now (behind_got (scan string_step outside (chars_at line.now from))) result }
 {
-    closing_end(line, false, from)
+    closing_end(line, Terminal::Quoted, from)
 }
 
 // Where an IRI ends, from behind the first character of its scheme.
-fn scheme_end(line: &[u8], from: usize) -> Found
+fn scheme_end(line: &[u8], from: usize) -> Option<usize>
     requires { Utf8From line.now from }
-    ensures { IsEnd line.now (behind_where is_scheme (scan (step_of true) outside (chars_at line.now from))) result }
+    ensures { IsEnd line.now (behind_where is_scheme (scan (step_of Terminal.Iri) outside (chars_at line.now from))) result }
 {
     let mut at = from;
     while at < line.len() {
-        match piece_at(line, true, at) {
-            Piece::Broken => {
-                return Found::Nothing;
-            }
-            Piece::Ends(_) => {
-                return Found::Nothing;
-            }
-            Piece::Gives(c, next) => {
-                if c == b':' as u32 {
-                    return closing_end(line, true, next);
-                }
-                if !is_scheme_char(c) {
-                    return Found::Nothing;
-                }
-                at = next;
-            }
+        let Piece::Gives(c, next) = piece_at(line, Terminal::Iri, at) else {
+            return None;
+        };
+        if c == b':' as u32 {
+            return closing_end(line, Terminal::Iri, next);
         }
+        if !is_scheme_char(c) {
+            return None;
+        }
+        at = next;
     }
-    Found::Nothing
+    None
 }
 
 // Where an absolute IRI ends, from behind its first mark.
-fn absolute_end(line: &[u8], from: usize) -> Found
+fn absolute_end(line: &[u8], from: usize) -> Option<usize>
     requires { Utf8From line.now from }
-    ensures { IsEnd line.now (behind_where is_absolute (scan (step_of true) outside (chars_at line.now from))) result }
+    ensures { IsEnd line.now (behind_where is_absolute (scan (step_of Terminal.Iri) outside (chars_at line.now from))) result }
 {
     if line.len() <= from {
-        return Found::Nothing;
+        return None;
     }
-    match piece_at(line, true, from) {
-        Piece::Broken => Found::Nothing,
-        Piece::Ends(_) => Found::Nothing,
-        Piece::Gives(c, next) => {
-            if is_letter(c) {
-                scheme_end(line, next)
-            } else {
-                Found::Nothing
-            }
-        }
+    let Piece::Gives(c, next) = piece_at(line, Terminal::Iri, from) else {
+        return None;
+    };
+    if is_letter(c) {
+        return scheme_end(line, next);
     }
+    None
 }
 
 // Where an IRI ends.
-pub fn iri_end(line: &[u8], from: usize) -> Found
+pub fn iri_end(line: &[u8], from: usize) -> Option<usize>
     requires { Utf8From line.now from }
     ensures { IsEnd line.now (behind_read (read_iri (chars_at line.now from))) result }
 {
     if line.len() <= from {
-        return Found::Nothing;
+        return None;
     }
     let m = char_at(line, from);
     if m.code != b'<' as u32 {
-        return Found::Nothing;
+        return None;
     }
     absolute_end(line, m.next)
 }

@@ -30,14 +30,13 @@ pub fn text_length(line: &[u8], from: usize, end: usize) -> usize
             n += 1;
             c = Cursor {
                 place: place + 1,
-                mode: mode,
+                mode,
             };
             continue;
         }
         let p = next_piece(line, end, c);
         n += p.len;
-        let next = p.next;
-        c = next;
+        c = p.next;
     }
     n
 }
@@ -72,14 +71,13 @@ pub fn text_hash(line: &[u8], from: usize, end: usize) -> u64
             h = hash_on(h, b);
             c = Cursor {
                 place: place + 1,
-                mode: mode,
+                mode,
             };
             continue;
         }
         let p = next_piece(line, end, c);
         h = hash_piece(h, p);
-        let next = p.next;
-        c = next;
+        c = p.next;
     }
     h
 }

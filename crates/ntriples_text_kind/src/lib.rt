@@ -14,22 +14,19 @@ const QUOTE: u32 = 0x22;
 
 const UNDERSCORE: u32 = 0x5F;
 
-// The kind of a term: 0 URI, 1 blank, 2 literal.
+// The kind of a term, by the number that texts and entries have for it: 0 URI, 1 blank, 2 literal.
 pub fn kind_of(line: &[u8], from: usize, end: usize) -> u32
     requires { IsToken line.now from end }
     ensures { (t : Text) → HasText line.now from end t → result ≡ t.kind }
 {
-    let c = char_at(line, from).code;
-    if c == QUOTE {
-        return 2;
+    match char_at(line, from).code {
+        QUOTE => 2,
+        UNDERSCORE => 1,
+        _ => 0,
     }
-    if c == UNDERSCORE {
-        return 1;
-    }
-    0
 }
 
-// The vocabulary URI that a term is, from 1 to 5, and 0 where it is none.
+// The vocabulary URI that a term is, from 1 to 5, and 0 where it is none: the number that the definition of that name gives.
 pub fn vocabulary_of(line: &[u8], from: usize, end: usize) -> u32
     requires { IsToken line.now from end }
     ensures { (t : Text) → HasText line.now from end t → result ≡ vocabulary_of t.bytes }

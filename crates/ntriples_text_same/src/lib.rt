@@ -44,7 +44,7 @@ pub fn is_text(line: &[u8], from: usize, end: usize, text: &[u8], at: usize, n: 
             i += 1;
             c = Cursor {
                 place: place + 1,
-                mode: mode,
+                mode,
             };
             continue;
         }
@@ -53,8 +53,7 @@ pub fn is_text(line: &[u8], from: usize, end: usize, text: &[u8], at: usize, n: 
             return false;
         }
         i += p.len;
-        let next = p.next;
-        c = next;
+        c = p.next;
     }
     i == n
 }

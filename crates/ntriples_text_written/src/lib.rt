@@ -18,11 +18,7 @@ fn write_piece(p: Piece, out: &mut [u8], at: usize)
     ensures { out.new ≡ sets out.old at (take p.len p.bytes) }
 {
     let bytes = p.bytes;
-    let mut k = 0;
-    while k < p.len {
-        out[at + k] = bytes[k];
-        k += 1;
-    }
+    out[at..at + p.len].copy_from_slice(&bytes[..p.len]);
 }
 
 // Writes a term's text from an index on, and gives the index behind it.
@@ -45,15 +41,14 @@ pub fn write_text(line: &[u8], from: usize, end: usize, out: &mut [u8], at: usiz
             i += 1;
             c = Cursor {
                 place: place + 1,
-                mode: mode,
+                mode,
             };
             continue;
         }
         let p = next_piece(line, end, c);
         write_piece(p, out, i);
         i += p.len;
-        let next = p.next;
-        c = next;
+        c = p.next;
     }
     i
 }

@@ -19,6 +19,7 @@ pub fn put_row(terms: &mut [u32], i: usize, t: Triple)
 }
 
 // Whether no word of a row is 0.
+#[tactic(auto, unfolding(crate::specs::inside::Named::is_named))]
 pub fn is_named(row: Triple) -> bool
     ensures { result ≡ is_named row }
 {

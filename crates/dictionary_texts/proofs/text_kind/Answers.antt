@@ -1,10 +1,8 @@
 use Rattle.dictionary_texts.proofs.Reading.{is_token, own-kind}
 use Rattle.dictionary_texts.proofs.text_kind.Goals as goal
 
--- src/lib.rt:44:5
 pub kind_of-requires : goal.kind_of-requires
 kind_of-requires c = is_token c.args.text.now c.requires
 
--- src/lib.rt:40:1
 pub returns : goal.returns
 returns c = own-kind c.args.text.now c.requires _ c.kind_of.ensures

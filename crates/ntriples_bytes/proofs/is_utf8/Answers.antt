@@ -1,24 +1,15 @@
-use Prim.Native.Nat.{◌-◌}
-use Rattle.ntriples_bytes.proofs.Scanning.{none_read, ascii-read, broken-read, due-read, all_read}
-use borrow.Author.Rules.{rules}
+use native.Mathlib.Omega.{arith}
+use Rattle.ntriples_bytes.proofs.Scanning.{none_read, ascii-read, broken-read, all_read}
 use Rattle.ntriples_bytes.proofs.is_utf8.Goals as goal
 
--- src/lib.rt:90:5
-pub loop-at-init : goal.loop-at-init
-loop-at-init c = (search rules, none_read c.args.bytes.now 0x80 0xBF)
+pub loop-b-init : goal.loop-b-init
+loop-b-init c = none_read c.args.bytes.now 0x80 0xBF
 
--- src/lib.rt:90:5
-pub loop-at-preserved-then-left-b : goal.loop-at-preserved-then-left-b
-loop-at-preserved-then-left-b c = (search rules, ascii-read c.args.bytes.now c.loop-at.at c.loop-at.left c.loop-at.low c.loop-at.high c.loop-at-test.true c.if-left-b.true c.loop-at.invariant.1)
+pub loop-b-preserved-then-due-b : goal.loop-b-preserved-then-due-b
+loop-b-preserved-then-due-b c = ascii-read c.args.bytes.now c.loop-b.b-index c.loop-b.due (omega arith) c.if-due-b.true c.loop-b.invariant
 
--- src/lib.rt:98:17
-pub returns-in-Broken : goal.returns-in-Broken
-returns-in-Broken c = broken-read c.args.bytes.now c.loop-at.at c.loop-at.left c.loop-at.low c.loop-at.high c.loop-at-test.true c.loop-at.invariant.1 _ c.next_byte.ensures c.in-Broken.is
+pub returns-in_default : goal.returns-in_default
+returns-in_default c = broken-read c.args.bytes.now c.loop-b.b-index c.loop-b.due (omega arith) c.loop-b.invariant c.in_default.ensures
 
--- src/lib.rt:90:5
-pub loop-at-preserved : goal.loop-at-preserved
-loop-at-preserved c = (search rules, due-read c.args.bytes.now c.loop-at.at c.loop-at.left c.loop-at.low c.loop-at.high c.loop-at-test.true c.loop-at.invariant.1 _ c.next_byte.ensures _ _ _ c.in-Due.is)
-
--- src/lib.rt:83:1
 pub returns : goal.returns
-returns c = all_read c.args.bytes.now c.loop-at.at c.loop-at.left c.loop-at.low c.loop-at.high (search rules) c.loop-at.invariant.1
+returns c = all_read c.args.bytes.now c.loop-b.b-index c.loop-b.due (omega arith) c.loop-b.invariant

@@ -1,21 +1,18 @@
 use native.Mathlib.Omega.{arith}
 use mathlib.Core.Path.{◌∙◌}
 use Rattle.ntriples_bytes.proofs.Scanning.{next-first, too_small, too_great, in_range}
-use borrow.Author.Rules.{rules}
 use Rattle.ntriples_bytes.proofs.next_byte.Goals as goal
+use Rattle.ntriples_bytes.proofs.next_byte.Goals.{then-b-due-via-then-b-due, then-b-due-via-else-b-due+then-due-b}
 
--- src/lib.rt:71:9
-pub returns-then-left-eq0 : goal.returns-then-left-eq0
-returns-then-left-eq0 c = λ bs. next-first c.args.left c.args.low c.args.high c.args.b (search rules) bs ∙ c.first_byte.ensures bs
+pub returns-then-due-eq0 : goal.returns-then-due-eq0
+returns-then-due-eq0 c = λ bs. next-first c.args.due.left c.args.due.low c.args.due.high c.args.b (omega arith) bs ∙ c.first_byte.ensures bs
 
--- src/lib.rt:74:9
-pub returns-then-b-low : goal.returns-then-b-low
-returns-then-b-low c = too_small c.args.left c.args.low c.args.high c.args.b (λ x. omega (arith, x)) (search rules)
+pub returns-then-b-due : goal.returns-then-b-due
+returns-then-b-due c =
+    elim c.then-b-due.branch [
+      | then-b-due-via-then-b-due w ↦ too_small c.args.due.left c.args.due.low c.args.due.high c.args.b (λ x. omega (arith, x)) (omega arith)
+      | then-b-due-via-else-b-due+then-due-b w ↦ too_great c.args.due.left c.args.due.low c.args.due.high c.args.b (λ x. omega (arith, x)) (omega arith) (omega arith)
+    ]
 
--- src/lib.rt:77:9
-pub returns-then-high-b : goal.returns-then-high-b
-returns-then-high-b c = too_great c.args.left c.args.low c.args.high c.args.b (λ x. omega (arith, x)) (search rules) (search rules)
-
--- src/lib.rt:67:1
 pub returns : goal.returns
-returns c = in_range c.args.left c.args.low c.args.high c.args.b (λ x. omega (arith, x)) (search rules) (search rules)
+returns c = in_range c.args.due.left c.args.due.low c.args.due.high c.args.b (λ x. omega (arith, x)) (omega arith) (omega arith)

@@ -4,14 +4,11 @@ use Rattle.ntriples_lines.proofs.Lines.{line_same}
 use Rattle.spec_ntriples.specs.computed.Decoded.{decode}
 use Rattle.ntriples_document.proofs.line_of.Goals as goal
 
--- src/lib.rt:50:9
 pub returns-then-not-is_utf8 : goal.returns-then-not-is_utf8
 returns-then-not-is_utf8 c = line_broken (decode c.args.bytes.now) (sym c.is_utf8.ensures ∙ c.if-not-is_utf8.true)
 
--- src/lib.rt:52:5
 pub read_line-requires : goal.read_line-requires
 read_line-requires c = utf8_whole c.args.bytes.now (sym c.is_utf8.ensures ∙ c.if-not-is_utf8.false)
 
--- src/lib.rt:46:1
 pub returns : goal.returns
 returns c = line_same c.args.bytes.now _ _ c.read_line.result (line_decoded _ _ (chars_of_lem (decode c.args.bytes.now) (sym c.is_utf8.ensures ∙ c.if-not-is_utf8.false)).same) (c.read_line.ensures _ (chars_of_lem (decode c.args.bytes.now) (sym c.is_utf8.ensures ∙ c.if-not-is_utf8.false)).same)

@@ -1,4 +1,3 @@
-use Prim.Native.Nat.{◌-◌}
 use Rattle.ntriples_terminals.proofs.Firsts.{behind_none, behind-some, behind-other}
 use mathlib.Core.Bool.{◌||◌}
 use Rattle.spec_ntriples.specs.Characters.{is_pn_chars_u, is_digit}

@@ -1,6 +1,5 @@
 use native.Mathlib.Omega.{arith}
 use mathlib.Core.Path.{sym, ◌∙◌}
-use Prim.Native.Nat.{◌-◌}
 use Rattle.ntriples_labels.proofs.Naming.{label_start, label_end, label-on, label-dotted, label-off}
 use borrow.Author.Rules.{rules}
 use Rattle.ntriples_labels.proofs.label_end.Goals as goal

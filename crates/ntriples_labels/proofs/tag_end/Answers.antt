@@ -1,6 +1,5 @@
 use native.Mathlib.Omega.{arith}
 use mathlib.Core.Path.{sym, ◌∙◌}
-use Prim.Native.Nat.{◌-◌}
 use Rattle.ntriples_bytes.proofs.Decoding.{from_marked}
 use Rattle.ntriples_labels.proofs.Naming.{tag_start, tag_end, tag-on, tag-off, tag-stop, tag-hyphen}
 use borrow.Author.Rules.{rules}
@@ -16,22 +15,22 @@ pub loop-at-smaller-then-goes_on : goal.loop-at-smaller-then-goes_on
 loop-at-smaller-then-goes_on c = omega (arith, c.loop-at-test.true, c.char_at-m.ensures.after)
 
 pub loop-at-preserved-then-goes_on : goal.loop-at-preserved-then-goes_on
-loop-at-preserved-then-goes_on c = tag-on c.args.line.now c.args.from c.loop-at.letters c.loop-at.at c.loop-at.invariant _ c.char_at-m.ensures (sym c.goes_on.ensures ∙ c.if-goes_on.true)
+loop-at-preserved-then-goes_on c = tag-on c.args.line.now c.args.from c.loop-at.part c.loop-at.at c.loop-at.invariant _ c.char_at-m.ensures (sym c.goes_on.ensures ∙ c.if-goes_on.true)
 
 pub returns-then-m : goal.returns-then-m
-returns-then-m c = tag-off c.args.line.now c.args.from c.loop-at.letters c.loop-at.at c.loop-at.invariant _ c.char_at-m.ensures (sym c.goes_on.ensures ∙ c.if-goes_on.false) c.if-m.true
+returns-then-m c = tag-off c.args.line.now c.args.from c.loop-at.part c.loop-at.at c.loop-at.invariant _ c.char_at-m.ensures (sym c.goes_on.ensures ∙ c.if-goes_on.false) c.if-m.true
 
 pub is_at_tag-requires : goal.is_at_tag-requires
 is_at_tag-requires c = from_marked c.char_at-m.ensures
 
 pub returns-then-not-is_at_tag : goal.returns-then-not-is_at_tag
-returns-then-not-is_at_tag c = tag-stop c.args.line.now c.args.from c.loop-at.letters c.loop-at.at c.loop-at.invariant _ c.char_at-m.ensures (sym c.goes_on.ensures ∙ c.if-goes_on.false) c.if-m.false (sym c.is_at_tag.ensures ∙ c.if-not-is_at_tag.true)
+returns-then-not-is_at_tag c = tag-stop c.args.line.now c.args.from c.loop-at.part c.loop-at.at c.loop-at.invariant _ c.char_at-m.ensures (sym c.goes_on.ensures ∙ c.if-goes_on.false) c.if-m.false (sym c.is_at_tag.ensures ∙ c.if-not-is_at_tag.true)
 
 pub loop-at-smaller : goal.loop-at-smaller
 loop-at-smaller c = omega (arith, c.loop-at-test.true, c.char_at-m.ensures.after)
 
 pub loop-at-preserved : goal.loop-at-preserved
-loop-at-preserved c = tag-hyphen c.args.line.now c.args.from c.loop-at.letters c.loop-at.at c.loop-at.invariant _ c.char_at-m.ensures (sym c.goes_on.ensures ∙ c.if-goes_on.false) c.if-m.false (sym c.is_at_tag.ensures ∙ c.if-not-is_at_tag.false)
+loop-at-preserved c = tag-hyphen c.args.line.now c.args.from c.loop-at.part c.loop-at.at c.loop-at.invariant _ c.char_at-m.ensures (sym c.goes_on.ensures ∙ c.if-goes_on.false) c.if-m.false (sym c.is_at_tag.ensures ∙ c.if-not-is_at_tag.false)
 
 pub returns : goal.returns
-returns c = tag_end c.args.line.now c.args.from c.loop-at.letters c.loop-at.at c.loop-at.invariant (search rules)
+returns c = tag_end c.args.line.now c.args.from c.loop-at.part c.loop-at.at c.loop-at.invariant (search rules)

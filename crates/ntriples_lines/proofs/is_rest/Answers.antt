@@ -1,10 +1,8 @@
 use Rattle.ntriples_lines.proofs.Lines.{rest_end, rest_some}
 use Rattle.ntriples_lines.proofs.is_rest.Goals as goal
 
--- src/lib.rt:48:9
 pub returns-then-line-at : goal.returns-then-line-at
 returns-then-line-at c = rest_end c.args.line.now c.args.at c.if-line-at.true
 
--- src/lib.rt:43:1
 pub returns : goal.returns
 returns c = rest_some c.args.line.now c.args.at _ c.char_at.ensures

@@ -6,7 +6,7 @@ use Rattle.ntriples_terminals.proofs.Ending.{closes}
 use Rattle.ntriples_terminals.proofs.closing_end.Given as goal
 
 abbrev pub invariant-loop-at : goal.invariant-loop-at
-invariant-loop-at l = Utf8From l.line l.at × (closes l.iri l.line l.from ≡ closes l.iri l.line l.at)
+invariant-loop-at l = Utf8From l.line l.at × (closes l.terminal l.line l.from ≡ closes l.terminal l.line l.at)
 
 abbrev pub decreases-loop-at : goal.decreases-loop-at
 decreases-loop-at l = length l.line - l.at

@@ -1,10 +1,8 @@
 -- Where what is read from the front of characters ends. Definitions only.
-use Rattle.std.specs.Prelude.{ℕ, ◌≡◌, Bool, cond, List, [], ◌∷◌}
+use Rattle.std.specs.Prelude.{ℕ, ◌≡◌, Bool, cond, List, [], ◌∷◌, Option, Some, None}
 use Rattle.spec_ntriples.specs.computed.Terminals.{Got, none, got}
 use Rattle.spec_ntriples.specs.computed.Lines.{Read, nothing, read}
 use Rattle.ntriples_bytes.specs.inside.Places.{Utf8From, chars_at}
-use Rattle.ntriples_terminals.specs.declared.Found.{Found}
-use Rattle.ntriples_terminals.specs.declared.Found.TheVariants.{Nothing, End}
 
 -- What is behind: nothing was read; or some characters.
 pub data Behind : Type 0 where
@@ -36,7 +34,7 @@ pub record Ended (bs : List ℕ) (b : Behind) (end : ℕ) : Type 0 where
   pub same : b ≡ behind (chars_at bs end)
   pub from : Utf8From bs end
 
--- What is found is where something that was read ends; nothing, where nothing was.
-abbrev pub IsEnd : List ℕ → Behind → Found → Type 0
-IsEnd bs b Nothing = b ≡ nowhere
-IsEnd bs b (End end) = Ended bs b end
+-- An index, where there is one, is where something that was read ends; there is none, where nothing was.
+abbrev pub IsEnd : List ℕ → Behind → Option ℕ → Type 0
+IsEnd bs b None = b ≡ nowhere
+IsEnd bs b (Some end) = Ended bs b end

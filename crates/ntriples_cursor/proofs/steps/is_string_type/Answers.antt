@@ -1,4 +1,3 @@
-use Prim.Native.Nat.{◌-◌}
 use mathlib.Core.Path.{refl, sym}
 use native.Mathlib.Omega.{arith}
 use Rattle.spec_ntriples.specs.Characters.{codes}
@@ -8,37 +7,29 @@ use Rattle.ntriples_cursor.proofs.Comparing.{pieces_end, iri_first, iri_again, i
 use borrow.Author.Rules.{rules}
 use Rattle.ntriples_cursor.proofs.steps.is_string_type.Goals as goal
 
--- src/steps.rt:142:5
 pub loop-place-init : goal.loop-place-init
 unfolding codes
 loop-place-init c = (omega arith, refl, λ bytes I. iri_first c.args.line.now c.args.end c.args.from bytes type_tail 40 refl I)
 
--- src/steps.rt:143:13
 pub iri_piece-p-requires : goal.iri_piece-p-requires
 iri_piece-p-requires c = record { bytes = (c.loop-place.invariant.2 c.requires.bytes c.requires.coming).left; coming = (c.loop-place.invariant.2 c.requires.bytes c.requires.coming).coming (search rules) }
 
--- src/steps.rt:144:13
 pub is_piece-requires : goal.is_piece-requires
 unfolding codes
 is_piece-requires c = record { len_bound = ((c.iri_piece-p.ensures (c.loop-place.invariant.2 c.requires.bytes c.requires.coming).left ((c.loop-place.invariant.2 c.requires.bytes c.requires.coming).coming (search rules))).splits.few, (c.iri_piece-p.ensures (c.loop-place.invariant.2 c.requires.bytes c.requires.coming).left ((c.loop-place.invariant.2 c.requires.bytes c.requires.coming).coming (search rules))).splits.four); left_in_bounds = omega arith }
 
--- src/steps.rt:145:13
 pub returns-then-not-is_piece : goal.returns-then-not-is_piece
 returns-then-not-is_piece c = λ bytes I. sym (iri_stop c.args.line.now c.args.end c.loop-place.place bytes type_tail 40 c.loop-place.i (c.loop-place.invariant.2 bytes I) (search rules) c.iri_piece-p.result (c.iri_piece-p.ensures (c.loop-place.invariant.2 bytes I).left ((c.loop-place.invariant.2 bytes I).coming (search rules))) c.is_piece.result (rw c.loop-place.invariant.1 at c.is_piece.ensures.first) c.if-not-is_piece.true)
 
--- src/steps.rt:147:9
 pub overflow_add-i : goal.overflow_add-i
 overflow_add-i c = omega (arith, (c.iri_piece-p.ensures (c.loop-place.invariant.2 c.requires.bytes c.requires.coming).left ((c.loop-place.invariant.2 c.requires.bytes c.requires.coming).coming (search rules))).splits.few)
 
--- src/steps.rt:142:5
 pub loop-place-smaller : goal.loop-place-smaller
 loop-place-smaller c = omega (arith, (c.iri_piece-p.ensures (c.loop-place.invariant.2 c.requires.bytes c.requires.coming).left ((c.loop-place.invariant.2 c.requires.bytes c.requires.coming).coming (search rules))).splits.goes)
 
--- src/steps.rt:142:5
 pub loop-place-preserved : goal.loop-place-preserved
 loop-place-preserved c = (omega (arith, c.is_piece.ensures.fits c.if-not-is_piece.false), c.loop-place.invariant.1, λ bytes I. iri_again c.args.line.now c.args.end c.loop-place.place bytes type_tail 40 c.loop-place.i (c.loop-place.invariant.2 bytes I) (search rules) c.iri_piece-p.result (c.iri_piece-p.ensures (c.loop-place.invariant.2 bytes I).left ((c.loop-place.invariant.2 bytes I).coming (search rules))) c.is_piece.result (rw c.loop-place.invariant.1 at c.is_piece.ensures.first) c.if-not-is_piece.false)
 
--- src/steps.rt:135:1
 pub returns : goal.returns
 unfolding codes
 returns c = λ bytes I. let X = c.loop-place.invariant.2 bytes I in sym (pieces_end (is_same_text bytes type_tail) X.left type_tail c.loop-place.i 40 c.loop-place.i X.same (X.done (search rules)) (omega arith) (search rules))

@@ -1,12 +1,7 @@
 use native.Mathlib.Omega.{arith}
+use mathlib.Core.Path.{◌∙◌}
 use Rattle.ntriples_section.proofs.Writing.{short-written}
-use lib.ListN.{length-set}
 use Rattle.ntriples_section.proofs.bytes.write_short.Goals as goal
 
--- src/bytes.rt:15:5
-pub bounds-out-at-2 : goal.bounds-out-at-2
-bounds-out-at-2 c = simp length-set (omega arith)
-
--- src/bytes.rt:10:1
 pub returns : goal.returns
-returns c = short-written c.args.out.now c.args.at c.args.n
+returns c = short-written c.args.out.now _ c.args.at _ c.args.n (omega arith) (c.copy_from_slice.ensures.after ∙ c.to_le_bytes.ensures) (omega arith) c.requires
