@@ -9,14 +9,10 @@ pub fn find(text: &[u8], from: usize, byte: u8) -> usize
     ensures lower_bound { from ≤ result }
     ensures upper_bound { result ≤ length text.now }
 {
-    let mut i = from;
-    while i < text.len() {
-        if text[i] == byte {
-            return i;
-        }
-        i += 1;
+    match text[from..].iter().position(|b| *b == byte) {
+        Some(i) => from + i,
+        None => text.len(),
     }
-    i
 }
 
 // Reads words, a space before each, as many as there is room for: returns how many. A number is written in decimal, and v, b or l before it
@@ -25,11 +21,8 @@ pub fn read_words(text: &[u8], words: &mut [u32]) -> usize
     ensures { result ≤ length words.new }
 {
     let mut n = 0;
-    let mut i = 0;
-    while i < text.len() {
-        let byte = text[i];
-        i += 1;
-        if byte == b' ' {
+    for byte in text {
+        if *byte == b' ' {
             if words.len() <= n {
                 return n;
             }
@@ -38,7 +31,7 @@ pub fn read_words(text: &[u8], words: &mut [u32]) -> usize
             continue;
         }
         if 0 < n {
-            words[n - 1] = longer(words[n - 1], byte);
+            words[n - 1] = longer(words[n - 1], *byte);
         }
     }
     n

@@ -1,11 +1,11 @@
 -- Laws of entries by their byte indices. Assumes nothing.
 use Prim.Native.Nat.{ℕ, zero, suc, ◌+◌, ◌-◌, ◌*◌, ◌≤◌, ◌<◌}
-use mathlib.Core.Path.{◌≡◌, refl, sym, ap, ◌∙◌}
+use mathlib.Core.Path.{◌≡◌, sym, ap, ◌∙◌}
 use mathlib.Core.Bool.{false}
 use mathlib.Core.List.{List}
 use native.Mathlib.Nat.{add-zero, add-suc}
 use native.Mathlib.Omega.{arith}
-use lib.ListN.{length, take, drop, length-take, length-drop}
+use lib.ListN.{length, take, drop}
 use Rattle.spec_ntriples.specs.Texts.{is_same_text}
 use Rattle.dictionary_bytes.specs.inside.Entries.{length_at, text_at, place_at}
 use Rattle.dictionary_bytes.proofs.Same.{part_length, lengths_differ}

@@ -6,9 +6,10 @@ use mathlib.Core.List.{List, [], ◌∷◌, ◌++◌}
 use native.Mathlib.Numerals.{add-one}
 use native.Mathlib.Omega.{arith}
 use lib.Dec.{eqb}
+use lib.Pointwise.{pointwise}
 use lib.ListN.{length, get_or, take, drop, length-take, length-drop}
 use lib.Seq.{drop-cons, take-add, drop-drop}
-use borrow.Author.Tests.{eqb-true, eq-eqb, ne_eqb}
+use borrow.Author.Tests.{eqb-true, eq-eqb}
 use Rattle.spec_ntriples.specs.Texts.{is_same_text}
 
 -- ---- parts
@@ -66,25 +67,12 @@ differ_other s t h = go (is_same_text s t) refl
 pub lengths_differ : (s t : List ℕ) → (length s ≡ length t → ⊥) → is_same_text s t ≡ false
 lengths_differ s t h = differ_other s t (λ e. h (ap length e))
 
--- ---- comparing from indices on
+-- ---- slices that are compared
 
--- Two parts, byte by byte, from index i on.
-module _ (s t : List ℕ) (from at n i : ℕ) (h : i < n) (hs : from + n ≤ length s) (ht : at + n ≤ length t) where
-  left-cons : take (n - i) (drop (from + i) s) ≡ get_or s (from + i) 0 ∷ take (n - (i + 1)) (drop (from + (i + 1)) s)
-  left-cons = let a : from + i + 1 ≡ from + (i + 1) = omega arith in let b : n - i - 1 ≡ n - (i + 1) = omega arith in part-cons s (from + i) (n - i) (omega arith) (omega arith) ∙ rw (a, b)
-
-  right-cons : take (n - i) (drop (at + i) t) ≡ get_or t (at + i) 0 ∷ take (n - (i + 1)) (drop (at + (i + 1)) t)
-  right-cons = let a : at + i + 1 ≡ at + (i + 1) = omega arith in let b : n - i - 1 ≡ n - (i + 1) = omega arith in part-cons t (at + i) (n - i) (omega arith) (omega arith) ∙ rw (a, b)
-
-  pub parts_more : get_or s (from + i) 0 ≡ get_or t (at + i) 0
-      → is_same_text (take (n - i) (drop (from + i) s)) (take (n - i) (drop (at + i) t)) ≡ is_same_text (take (n - (i + 1)) (drop (from + (i + 1)) s)) (take (n - (i + 1)) (drop (at + (i + 1)) t))
-  unfolding is_same_text
-  parts_more e = rw (left-cons, right-cons, eq-eqb _ _ e)
-
-  pub parts_stop : (get_or s (from + i) 0 ≡ get_or t (at + i) 0 → ⊥) → is_same_text (take (n - i) (drop (from + i) s)) (take (n - i) (drop (at + i) t)) ≡ false
-  unfolding is_same_text
-  parts_stop e = rw (left-cons, right-cons, ne_eqb _ _ e)
-
-pub parts_end : (s t : List ℕ) (from at n i : ℕ) → n ≤ i → is_same_text (take (n - i) (drop (from + i) s)) (take (n - i) (drop (at + i) t)) ≡ true
+-- `==` of two slices says whether their texts are the same.
+pub same_slices : (s t : List ℕ) → pointwise eqb s t ≡ is_same_text s t
 unfolding is_same_text
-parts_end s t from at n i h = let e : n - i ≡ 0 = omega arith in rw e
+same_slices [] [] = refl
+same_slices [] (b ∷ t) = refl
+same_slices (a ∷ s) [] = refl
+same_slices (a ∷ s) (b ∷ t) = ap (λ (x : Bool). eqb a b && x) (same_slices s t)

@@ -28,14 +28,7 @@ pub fn is_same(a: &[u8], from: usize, b: &[u8], at: usize, n: usize) -> bool
     requires n_in_bounds_2 { at + n ≤ length b.now }
     ensures { result ≡ is_same_text (take n (drop from a.now)) (take n (drop at b.now)) }
 {
-    let mut i = 0;
-    while i < n {
-        if a[from + i] != b[at + i] {
-            return false;
-        }
-        i += 1;
-    }
-    true
+    a[from..from + n] == b[at..at + n]
 }
 
 // The number of n bytes from an index on, the lowest first.
@@ -46,11 +39,8 @@ fn number_at(bytes: &[u8], at: usize, n: usize) -> usize
     ensures upper_bound { result < 256 ^ n }
 {
     let mut number = 0;
-    let mut left = n;
-    while 0 < left {
-        left -= 1;
-        let b = bytes[at + left] as usize;
-        number = number * 256 + b;
+    for i in (at..at + n).rev() {
+        number = number * 256 + usize::from(bytes[i]);
     }
     number
 }

@@ -9,15 +9,9 @@ use dictionary_index::index_segment;
 use dictionary_repeats::are_repeated;
 use dictionary_slots::no_slots;
 
-// What is found of a segment of entries: a text that repeats, or the index behind it, where no text of it stands in an entry behind.
-#[derive(Clone, Copy)]
-pub enum Apart {
-    Repeated,
-    Until(usize),
-}
-
-// Indexes a segment of the entries between two indexes, and searches in it for the texts of the entries behind it.
-fn next_segment(dictionary: &[u8], first: usize, last: usize) -> Apart
+// Indexes a segment of the entries between two indexes, and searches in it for the texts of the entries behind it: the index behind the segment,
+// or nothing where a text repeats.
+fn next_segment(dictionary: &[u8], first: usize, last: usize) -> Option<usize>
     requires are_entries { AreEntries dictionary.now first last }
     requires first_lt_last { first < last }
     ensures { IsApart dictionary.now first last result }
@@ -25,9 +19,9 @@ fn next_segment(dictionary: &[u8], first: usize, last: usize) -> Apart
     let mut slots = no_slots();
     let end = index_segment(&mut slots, dictionary, first, last).end;
     if are_repeated(&slots, dictionary, first, end, last) {
-        return Apart::Repeated;
+        return None;
     }
-    Apart::Until(end)
+    Some(end)
 }
 
 // Whether the texts of the entries up to an index differ.
@@ -37,14 +31,10 @@ pub fn are_distinct(dictionary: &[u8], last: usize) -> bool
 {
     let mut first = 0;
     while first < last {
-        match next_segment(dictionary, first, last) {
-            Apart::Repeated => {
-                return false;
-            }
-            Apart::Until(end) => {
-                first = end;
-            }
-        }
+        let Some(end) = next_segment(dictionary, first, last) else {
+            return false;
+        };
+        first = end;
     }
     true
 }

@@ -4,7 +4,12 @@ use mathlib.Core.Path.{◌≡◌, refl, sym, ap, ◌∙◌}
 use mathlib.Core.List.{List, [], ◌∷◌, ◌++◌, append_assoc, append-nil}
 use native.Mathlib.Numerals.{add-one}
 use native.Mathlib.Omega.{arith}
-use lib.ListN.{length, drop, set, replicate, length-append, length-replicate, replicate-append-replicate}
+use lib.ListN.{length, take, drop, set, replicate, length-append, length-replicate, replicate-append-replicate}
+use borrow.Rule.Slice.PartMut.{put_mid}
+use Rattle.std.proofs.lemmas.List.{drop_all}
+use Rattle.std.proofs.lemmas.List.Edits.{paste_all}
+use Rattle.std.proofs.lemmas.Slice.{put_mid-paste}
+use Rattle.dictionary_bytes.proofs.Same.{part_length}
 use lib.Seq.{sets, sets-eq, length-sets, take_at, drop_at, drop-append-add}
 use Rattle.spec_ntriples.specs.Dictionary.{Entry, entry, number_bytes, bytes_of_entry, bytes_of_entries, dictionary_bytes}
 use Rattle.spec_ntriples.specs.inside.Entries.{Writable, Holds}
@@ -17,25 +22,41 @@ use Rattle.dictionary_entries.proofs.Held.{held-within, held_split}
 -- ---- byte by byte
 
 -- A number's lowest byte, and the others behind it.
-pub number_more : (out : List ℕ) (at n k rest : ℕ) → k < n → sets (set out (at + k) (rest % 256)) (at + (k + 1)) (number_bytes (n - (k + 1)) (rest / 256)) ≡ sets out (at + k) (number_bytes (n - k) rest)
+pub number_more : (out : List ℕ) (n k rest : ℕ) → k < n → sets (set out k (rest % 256)) (k + 1) (number_bytes (n - (k + 1)) (rest / 256)) ≡ sets out k (number_bytes (n - k) rest)
 unfolding number_bytes
-number_more out at n k rest h =
-    let a : at + (k + 1) ≡ suc (at + k) = omega arith in
-    let b : n - k ≡ suc (n - (k + 1)) = omega arith in
-    rw (a, b)
+number_more out n k rest h =
+    let b : n - k ≡ suc (n - suc k) = omega arith in
+    rw (add-one k, b)
 
-pub number_end : (out : List ℕ) (at n k rest : ℕ) → n ≤ k → sets out (at + k) (number_bytes (n - k) rest) ≡ out
+pub number_end : (out : List ℕ) (n k rest : ℕ) → n ≤ k → sets out k (number_bytes (n - k) rest) ≡ out
 unfolding number_bytes
-number_end out at n k rest h = let e : n - k ≡ 0 = omega arith in rw e
+number_end out n k rest h = let e : n - k ≡ 0 = omega arith in rw e
 
--- One zero, and the others behind it.
-pub zeros_more : (bs : List ℕ) (i end : ℕ) → i < end → sets (set bs i 0) (i + 1) (replicate (end - (i + 1)) 0) ≡ sets bs i (replicate (end - i) 0)
-zeros_more bs i end h =
-    let b : end - i ≡ suc (end - suc i) = omega arith in
-    rw (add-one i, b)
+-- ---- parts written over
 
-pub zeros_end : (bs : List ℕ) (i end : ℕ) → end ≤ i → sets bs i (replicate (end - i) 0) ≡ bs
-zeros_end bs i end h = let e : end - i ≡ 0 = omega arith in rw e
+-- A part with other values.
+part_sets : (a k : ℕ) (xs ys : List ℕ) → length ys ≡ k → a + k ≤ length xs → put_mid a k xs ys ≡ sets xs a ys
+part_sets a k xs ys e h =
+    let s : sets xs a ys ≡ take a xs ++ ys ++ drop (a + k) xs = rw e at (sets-eq ys xs a (omega arith)) in
+    put_mid-paste a k xs ys ys k refl refl (sym e) ∙ paste_all xs a ys k (sym e) ∙ sym (s ∙ append_assoc (take a xs) ys (drop (a + k) xs))
+
+-- A whole list written over.
+sets_whole : (xs ys : List ℕ) → length ys ≡ length xs → sets xs 0 ys ≡ ys
+sets_whole xs ys e = sets-eq ys xs 0 (omega arith) ∙ rw (drop_all (0 + length ys) xs (omega arith)) (append-nil ys)
+
+-- The part that has become a number's bytes.
+pub number_over : (out part : List ℕ) (at n number : ℕ) → at + n ≤ length out → part ≡ sets (take (at + n - at) (drop at out)) 0 (number_bytes n number) → put_mid at (at + n - at) out part ≡ sets out at (number_bytes n number)
+number_over out part at n number h e =
+    let q : at + n - at ≡ n = omega arith in
+    let l : length (number_bytes n number) ≡ length (take n (drop at out)) = length-number n number ∙ sym (part_length out at n h) in
+    let p : part ≡ number_bytes n number = rw q at e ∙ sets_whole (take n (drop at out)) (number_bytes n number) l in
+    rw (q, p) (part_sets at n out (number_bytes n number) (length-number n number) h)
+
+-- The part that has become zeros.
+pub zeros_over : (bs zs : List ℕ) (at from end : ℕ) → at ≡ from → from ≤ end → end ≤ length bs → zs ≡ replicate (length (take (end - at) (drop at bs))) 0 → put_mid at (end - at) bs zs ≡ sets bs from (replicate (end - from) 0)
+zeros_over bs zs at from end e h k z =
+    let l : length (take (end - from) (drop from bs)) ≡ end - from = part_length bs from (end - from) (omega arith) in
+    rw (z, e, l) (part_sets from (end - from) bs (replicate (end - from) 0) (length-replicate (end - from) 0) (omega arith))
 
 -- ---- bytes over others
 

@@ -19,11 +19,9 @@ fn write_number(out: &mut [u8], at: usize, n: usize, number: usize)
     ensures { out.new ≡ sets out.old at (number_bytes n number) }
 {
     let mut rest = number;
-    let mut k = 0;
-    while k < n {
-        out[at + k] = (rest % 256) as u8;
+    for b in out[at..at + n].iter_mut() {
+        *b = (rest % 256) as u8;
         rest = rest / 256;
-        k += 1;
     }
 }
 
@@ -51,9 +49,5 @@ pub fn take_back(dictionary: &mut [u8], from: usize, end: usize)
     requires { end ≤ length dictionary.old }
     ensures { (ds fs : List Entry) → Holds dictionary.old end (ds ++ fs) → from ≡ length (bytes_of_entries ds) → Holds dictionary.new from ds }
 {
-    let mut i = from;
-    while i < end {
-        dictionary[i] = 0;
-        i += 1;
-    }
+    dictionary[from.min(end)..end].fill(0);
 }

@@ -28,10 +28,8 @@ pub fn hash_from(before: u64, bytes: &[u8], at: usize, n: usize) -> u64
     ensures upper_bound { result < 4294967296 }
 {
     let mut h = before;
-    let mut i = 0;
-    while i < n {
-        h = hash_on(h, bytes[at + i]);
-        i += 1;
+    for b in &bytes[at..at + n] {
+        h = hash_on(h, *b);
     }
     h
 }

@@ -1,15 +1,12 @@
 -- Laws of the search of a table of words. Assumes nothing.
-use Prim.Native.Nat.{ℕ, ◌+◌, ◌≤◌, ◌<◌, ◌-◌}
-use mathlib.Core.Path.{◌≡◌, refl, sym, ap, ◌∙◌}
+use Prim.Native.Nat.{ℕ, ◌+◌, ◌≤◌, ◌<◌}
+use mathlib.Core.Path.{◌≡◌}
 use mathlib.Core.List.{List}
 use native.Mathlib.Decide.{ℕ_discrete}
 use native.Mathlib.Omega.{arith}
 use lib.ListN.{length, get_or}
 use Rattle.dictionary_bytes.specs.inside.Entries.{text_at}
 use Rattle.dictionary_index.specs.inside.Index.{Passed, entry_of}
-use mathlib.Core.Bool.{Bool, true, false}
-use Rattle.spec_ntriples.specs.Texts.{is_same_text}
-use Rattle.dictionary_bytes.proofs.Same.{other_differ}
 
 module _ (slots bs : List ℕ) (first : ℕ) (text : List ℕ) (home : ℕ) where
   -- No slot is passed yet.

@@ -58,8 +58,7 @@ pub fn find_text(
     requires n_in_bounds { from + n ≤ length bytes.now }
     ensures { Searched slots.now dictionary.now first (take n (drop from bytes.now)) home result }
 {
-    let mut s = home;
-    while s < slots.len() {
+    for s in home..slots.len() {
         let w = slots[s] as usize;
         if w == 0 {
             return Search::Free(s);
@@ -68,7 +67,6 @@ pub fn find_text(
         if has_text(dictionary, at, bytes, from, n) {
             return Search::Found(at);
         }
-        s += 1;
     }
     Search::Past
 }
@@ -102,7 +100,8 @@ fn has_token(dictionary: &[u8], at: usize, line: &[u8], from: usize, end: usize)
     is_text(line, from, end, dictionary, at + HEADER, n)
 }
 
-// Searches for the text of a term in a line, from a slot on, in the index of a segment that begins at first.
+// Searches for the text of a term in a line, from a slot on, in the index of a segment that begins at first. It stands beside find_text: what is
+// compared differs, and one function of a closure would promise what two clauses say plainly here.
 pub fn find_token(
     slots: &[u32],
     dictionary: &[u8],
@@ -116,8 +115,7 @@ pub fn find_token(
     requires token { IsToken line.now from end }
     ensures { (t : Text) → HasText line.now from end t → Searched slots.now dictionary.now first t.bytes home result }
 {
-    let mut s = home;
-    while s < slots.len() {
+    for s in home..slots.len() {
         let w = slots[s] as usize;
         if w == 0 {
             return Search::Free(s);
@@ -126,7 +124,6 @@ pub fn find_token(
         if has_token(dictionary, at, line, from, end) {
             return Search::Found(at);
         }
-        s += 1;
     }
     Search::Past
 }

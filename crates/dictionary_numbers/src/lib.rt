@@ -31,22 +31,19 @@ pub fn filled_on(f: Filled, kind: u32, end: usize) -> Filled
         return Filled {
             end,
             uris: f.uris + 1,
-            blanks: f.blanks,
-            literals: f.literals,
+            ..f
         };
     }
     if kind == 1 {
         return Filled {
             end,
-            uris: f.uris,
             blanks: f.blanks + 1,
-            literals: f.literals,
+            ..f
         };
     }
     Filled {
         end,
-        uris: f.uris,
-        blanks: f.blanks,
         literals: f.literals + 1,
+        ..f
     }
 }

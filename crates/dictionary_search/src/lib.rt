@@ -32,7 +32,7 @@ pub fn search_index(
     find_token(slots, dictionary, first, line, from, to, home)
 }
 
-// The term of a text in a line among the entries of a segment; 0 where none has it.
+// The term of a text in a line among the entries of a segment; 0 where none has it, as term_in says: no term is 0.
 pub fn find_term(
     slots: &[u32],
     dictionary: &[u8],

@@ -8,13 +8,6 @@ use dictionary_bytes::{Filled, HEADER, length_at, term_at};
 use dictionary_numbers::{NUMBERS, filled_on, number_of};
 use dictionary_texts::{is_own_text, text_kind};
 
-// What question 1 says of bytes: they are no dictionary, or they are, filled so far.
-#[derive(Clone, Copy)]
-pub enum Checked {
-    Wrong,
-    Right(Filled),
-}
-
 // Whether an entry comes at an index: room for its header, and a term that is not 0.
 pub fn is_entry(dictionary: &[u8], at: usize) -> bool
     requires { at ≤ length dictionary.now }
@@ -27,8 +20,8 @@ pub fn is_entry(dictionary: &[u8], at: usize) -> bool
 }
 
 // Asks the entry that comes behind those that are right: it lies within the bytes, its text is canonical and none of the vocabulary, and its
-// term is the next of its kind.
-pub fn next_entry(dictionary: &[u8], f: Filled) -> Checked
+// term is the next of its kind. How far the dictionary is filled with it, or nothing where the bytes are no dictionary.
+pub fn next_entry(dictionary: &[u8], f: Filled) -> Option<Filled>
     requires filling { Filling dictionary.now f }
     requires comes { Comes dictionary.now f.end }
     ensures { IsStep dictionary.now f result }
@@ -37,19 +30,19 @@ pub fn next_entry(dictionary: &[u8], f: Filled) -> Checked
     let from = at + HEADER;
     let n = length_at(dictionary, at);
     if dictionary.len() - from < n {
-        return Checked::Wrong;
+        return None;
     }
     let end = from + n;
     if !is_own_text(&dictionary[from..end]) {
-        return Checked::Wrong;
+        return None;
     }
     let kind = text_kind(&dictionary[from..end]);
     let number = number_of(f, kind);
     if number == NUMBERS {
-        return Checked::Wrong;
+        return None;
     }
     if term_at(dictionary, at) != kind * NUMBERS + number {
-        return Checked::Wrong;
+        return None;
     }
-    Checked::Right(filled_on(f, kind, end))
+    Some(filled_on(f, kind, end))
 }

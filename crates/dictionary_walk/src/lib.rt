@@ -4,15 +4,15 @@
 ghost use Rattle.dictionary_walk.specs.inside.Walked.{IsWalk};
 
 use dictionary_bytes::Filled;
-use dictionary_step::{Checked, is_entry, next_entry};
+use dictionary_step::{is_entry, next_entry};
 
 // The first numbers of URIs, and of blanks and literals.
 const FIRST_URI: u32 = 16;
 
 const FIRST_OTHER: u32 = 1;
 
-// Asks the entries one by one.
-pub fn walk(dictionary: &[u8]) -> Checked
+// Asks the entries one by one: how far they fill the dictionary, or nothing where the bytes are none.
+pub fn walk(dictionary: &[u8]) -> Option<Filled>
     ensures { IsWalk dictionary.now result }
 {
     let mut f = Filled {
@@ -22,14 +22,7 @@ pub fn walk(dictionary: &[u8]) -> Checked
         literals: FIRST_OTHER,
     };
     while is_entry(dictionary, f.end) {
-        match next_entry(dictionary, f) {
-            Checked::Wrong => {
-                return Checked::Wrong;
-            }
-            Checked::Right(g) => {
-                f = g;
-            }
-        }
+        f = next_entry(dictionary, f)?;
     }
-    Checked::Right(f)
+    Some(f)
 }

@@ -30,8 +30,8 @@ use Rattle.dictionary_bytes.specs.inside.Entries.{FilledBy}
 use Rattle.ntriples_batch.specs.declared.Batch.{Batch}
 use Rattle.ntriples_batch.specs.inside.Batches.{no_triple, Gathered}
 use Rattle.ntriples_naming.proofs.Entries.{have_terms}
-use Rattle.ntriples_segments.specs.declared.Batched.{Batched}
-use Rattle.ntriples_segments.specs.declared.Batched.TheVariants.{Named, NoSpace}
+use Rattle.std.specs.Prelude.{Result, Ok, Err}
+use Rattle.ntriples_segments.specs.declared.NoSpace.{NoSpace}
 use Rattle.ntriples_last.specs.inside.Segments.{IsBatch, AllNamed, DoNotFit, TextsLackSpace}
 use Rattle.ntriples_segments.specs.inside.Batches.{IsBatched, CanNameBatch}
 use Rattle.ntriples_batches.specs.inside.Batches.{FileNamed}
@@ -159,11 +159,11 @@ module _ (file : List ℕ) (es : List Entry) (ts : List TextTriple) (bs : List �
           room = omega (arith, count_most, h);
         }
 
-    module _ (bs' ws' : List ℕ) (b : Batched) (N : (es : List Entry) (us : List TextTriple) → IsBatch file lines r.count us → FilledBy bs f es → IsBatched es us bs' ws' b) (F : Each HasTerm es) (g : Filled) where
+    module _ (bs' ws' : List ℕ) (b : Result Filled NoSpace) (N : (es : List Entry) (us : List TextTriple) → IsBatch file lines r.count us → FilledBy bs f es → IsBatched es us bs' ws' b) (F : Each HasTerm es) where
       -- It is named.
-      pub more-done : b ≡ Named g → 0 < left → Underway file es ts bs' r.next (left - r.count) g ws'
+      pub more-done : (g : Filled) → b ≡ Ok g → 0 < left → Underway file es ts bs' r.next (left - r.count) g ws'
       unfolding with_all
-      more-done e some =
+      more-done g e some =
           let A : AllNamed (with_all es G.done) here bs' g ws' = rw e at (N (with_all es G.done) here here-batch G.filled) in
           record {
             done = G.done ++ here;
@@ -187,9 +187,9 @@ module _ (file : List ℕ) (es : List Entry) (ts : List TextTriple) (bs : List �
           }
 
       -- A text of it has no space.
-      pub more-lacks : b ≡ NoSpace g → TextsLackSpace es ts bs' g
-      more-lacks e =
-          let A : TextsLackSpace (with_all es G.done) here bs' g = rw e at (N (with_all es G.done) here here-batch G.filled) in
+      pub more-lacks : (s : NoSpace) → b ≡ Err s → TextsLackSpace es ts bs' s.filled
+      more-lacks s e =
+          let A : TextsLackSpace (with_all es G.done) here bs' s.filled = rw e at (N (with_all es G.done) here here-batch G.filled) in
           let D = all_grown es G.done F done-right in
           let K = all_terms es G.done F done-right in
           let X = all_grown (with_all (with_all es G.done) here) later (all_terms (with_all es G.done) here K here-right) later-right in

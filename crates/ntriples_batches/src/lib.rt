@@ -10,7 +10,7 @@ ghost use Rattle.ntriples_batches.specs.inside.Batches.{CanNameFile, IsFile};
 
 use dictionary_bytes::Filled;
 use ntriples_batch::gather_lines;
-use ntriples_segments::{Batched, name_batch};
+use ntriples_segments::{NoSpace, name_batch};
 
 // The most lines of a batch: the triples that a delivery has room for.
 pub const MOST_LINES: usize = 5460;
@@ -23,14 +23,14 @@ fn no_lines() -> [usize; MOST_LINES]
 }
 
 // Names the texts of the n lines of a file that have a triple: each gets its term, and an entry behind those of the dictionary where it has
-// none. The terms of the last batch are those of its lines.
+// none. The terms of the last batch are those of its lines. How far the dictionary is filled then.
 pub fn name_file(
     file: &[u8],
     n: usize,
     dictionary: &mut [u8],
     f: Filled,
     terms: &mut [u32],
-) -> Batched
+) -> Result<Filled, NoSpace>
     requires { CanNameFile file.now n dictionary.old f terms.old }
     ensures { (es : List Entry) (ts : List TextTriple) → document file.now ≡ triples ts → n ≡ length ts → FilledBy dictionary.old f es → IsFile es ts dictionary.new terms.new result }
 {
@@ -42,14 +42,7 @@ pub fn name_file(
         let batch = gather_lines(file, from, &mut lines);
         from = batch.next;
         left -= batch.count;
-        match name_batch(file, &lines, batch.count, dictionary, filled, terms) {
-            Batched::NoSpace(g) => {
-                return Batched::NoSpace(g);
-            }
-            Batched::Named(g) => {
-                filled = g;
-            }
-        }
+        filled = name_batch(file, &lines, batch.count, dictionary, filled, terms)?;
     }
-    Batched::Named(filled)
+    Ok(filled)
 }

@@ -1,5 +1,5 @@
 -- Laws of naming a batch in one segment more. Assumes nothing.
-use Prim.Native.Nat.{ℕ, ◌+◌, ◌-◌, ◌*◌, ◌≤◌, ◌<◌}
+use Prim.Native.Nat.{ℕ, ◌+◌, ◌*◌, ◌≤◌, ◌<◌}
 use mathlib.Core.Path.{◌≡◌, refl, sym, ap, ◌∙◌}
 use mathlib.Core.List.{List, [], ◌++◌, append_assoc, append-nil}
 use native.Mathlib.Omega.{arith}
@@ -24,8 +24,9 @@ use Rattle.dictionary_names.specs.inside.Naming.{LastSegment}
 use Rattle.dictionary_names.proofs.Segments.{segment_index, segment_ends, segment_last}
 use Rattle.ntriples_terms.specs.inside.Words.{triple_by, found_row, RowsBy}
 use Rattle.ntriples_naming.specs.declared.Last.{Last}
-use Rattle.ntriples_naming.specs.declared.Progress.{Progress}
-use Rattle.ntriples_naming.specs.declared.Progress.TheVariants.{Going, Full, NoSpace}
+use Rattle.std.specs.Prelude.{Result, Ok, Err}
+use Rattle.ntriples_naming.specs.declared.Stopped.{Stopped}
+use Rattle.ntriples_naming.specs.declared.Stopped.TheVariants.{Full, NoSpace}
 use Rattle.ntriples_naming.specs.inside.Progress.{lines_texts, with_each, Stands, Reached, Begins}
 use Rattle.ntriples_naming.proofs.Entries.{have_terms, each-lines}
 use Rattle.ntriples_naming.proofs.Outcomes.{all_entered, all-rows, lacks-ground}
@@ -159,7 +160,7 @@ module _ (es : List Entry) (ts : List TextTriple) (bs : List ℕ) (first : ℕ) 
       last_within = held-within bs' l.filled.end all S.last.filled.holds
 
     -- What naming did.
-    reached-all : (l : Last) → Reached L.before L.behind texts (n * 3) slots' bs' first ws' (Going l) → AllNamed es ts bs' l.filled ws'
+    reached-all : (l : Last) → Reached L.before L.behind texts (n * 3) slots' bs' first ws' (Ok l) → AllNamed es ts bs' l.filled ws'
     reached-all l (S, N) =
         let m : n * 3 ≡ length ts * 3 = ap (λ (k : ℕ). k * 3) B.counted in
         let N' = rw m at N in
@@ -169,7 +170,7 @@ module _ (es : List Entry) (ts : List TextTriple) (bs : List ℕ) (first : ℕ) 
           rows = rw e at (all-rows L.before L.behind ts slots' bs' first ws' l S N');
         }
 
-    reached-lacks : (l : Last) → Reached L.before L.behind texts (n * 3) slots' bs' first ws' (NoSpace l) → TextsLackSpace es ts bs' l.filled
+    reached-lacks : (l : Last) → Reached L.before L.behind texts (n * 3) slots' bs' first ws' (Err (NoSpace l)) → TextsLackSpace es ts bs' l.filled
     reached-lacks l (S, K) =
         let e : with_each (all l S) texts ≡ with_all es ts = each-lines (all l S) ts ∙ all_same l S in
         record {
@@ -184,21 +185,21 @@ module _ (es : List Entry) (ts : List TextTriple) (bs : List ℕ) (first : ℕ) 
   pub last_begins : Begins L.before L.behind ts slots bs first l file lines n ws
   last_begins = begins es ts bs first l.filled ws L slots file lines n l B S
 
-  module _ (slots' bs' ws' : List ℕ) (p : Progress) (R : Reached L.before L.behind (lines_texts ts) (n * 3) slots' bs' first ws' p) (k : Last) where
-    pub last_done : p ≡ Going k → IsSegmentStep es ts bs' first ws' (Done k.filled)
+  module _ (slots' bs' ws' : List ℕ) (p : Result Last Stopped) (R : Reached L.before L.behind (lines_texts ts) (n * 3) slots' bs' first ws' p) (k : Last) where
+    pub last_done : p ≡ Ok k → IsSegmentStep es ts bs' first ws' (Done k.filled)
     last_done e = reached-all es ts bs first l.filled ws L file lines n B slots' bs' ws' k (rw e at R)
 
-    pub last-lacks : p ≡ NoSpace k → IsSegmentStep es ts bs' first ws' (Lacks k.filled)
+    pub last-lacks : p ≡ Err (NoSpace k) → IsSegmentStep es ts bs' first ws' (Lacks k.filled)
     last-lacks e = reached-lacks es ts bs first l.filled ws L file lines n B slots' bs' ws' k (rw e at R)
 
-    pub full-leads : p ≡ Full k → LeadWithin slots' bs' first
+    pub full-leads : p ≡ Err (Full k) → LeadWithin slots' bs' first
     full-leads e =
-        let F : Reached L.before L.behind (lines_texts ts) (n * 3) slots' bs' first ws' (Full k) = rw e at R in
+        let F : Reached L.before L.behind (lines_texts ts) (n * 3) slots' bs' first ws' (Err (Full k)) = rw e at R in
         index_leads slots' bs' first F.0.entries F.0.last.index
 
-    pub last-next : p ≡ Full k → (vs : List ℕ) → ((fs : List Entry) → IndexOf slots' bs' first fs → RowsBy (found_row fs) ts n ws' vs) → IsSegmentStep es ts bs' first vs (Next k.filled.end k.filled)
+    pub last-next : p ≡ Err (Full k) → (vs : List ℕ) → ((fs : List Entry) → IndexOf slots' bs' first fs → RowsBy (found_row fs) ts n ws' vs) → IsSegmentStep es ts bs' first vs (Next k.filled.end k.filled)
     last-next e vs f =
-        let F : Reached L.before L.behind (lines_texts ts) (n * 3) slots' bs' first ws' (Full k) = rw e at R in (
+        let F : Reached L.before L.behind (lines_texts ts) (n * 3) slots' bs' first ws' (Err (Full k)) = rw e at R in (
           last_some es ts bs first l.filled ws L file lines n B slots' bs' ws' k F.0 F.1,
           last_within es ts bs first l.filled ws L file lines n B slots' bs' ws' k F.0,
           looked-last es ts bs first l.filled ws L file lines n B slots' bs' ws' k F.0 vs (f F.0.entries F.0.last.index),

@@ -9,7 +9,7 @@ ghost use Rattle.ntriples_last.specs.inside.Segments.{IsBatch, Looked, CanNameLa
 
 use dictionary_bytes::Filled;
 use ntriples_names::name_terms;
-use ntriples_naming::{Last, Progress};
+use ntriples_naming::{Last, Stopped};
 use ntriples_terms::find_terms;
 
 // What naming a batch in a segment gives: all texts have terms; or one has no space; or the next segment begins at an index.
@@ -35,15 +35,15 @@ pub fn name_last(
     ensures { (es : List Entry) (ts : List TextTriple) → IsBatch file.now lines.now n ts → (L : Looked es ts dictionary.old first last.filled terms.old) → LastSegment slots.old dictionary.old first last.count last.filled L.before L.behind → IsSegmentStep es ts dictionary.new first terms.new result }
 {
     match name_terms(slots, dictionary, first, last, file, lines, n, terms) {
-        Progress::Going(l) => {
+        Ok(l) => {
             let f = l.filled;
             Step::Done(f)
         }
-        Progress::NoSpace(l) => {
+        Err(Stopped::NoSpace(l)) => {
             let f = l.filled;
             Step::Lacks(f)
         }
-        Progress::Full(l) => {
+        Err(Stopped::Full(l)) => {
             find_terms(slots, dictionary, first, file, lines, n, terms);
             let f = l.filled;
             Step::Next(f.end, f)

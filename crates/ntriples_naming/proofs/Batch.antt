@@ -1,7 +1,7 @@
 -- Laws of naming the texts of lines. Assumes nothing.
 use Prim.Native.Nat.{ℕ, zero, suc, ◌+◌, ◌*◌}
 use mathlib.Core.Path.{◌≡◌, refl, sym, ◌∙◌}
-use mathlib.Core.Bool.{Bool, true, false}
+use mathlib.Core.Bool.{Bool, true}
 use mathlib.Core.List.{List, [], ◌∷◌, append-nil, flat_map}
 use native.Mathlib.Omega.{arith}
 use lib.ListN.{length, get_or}
@@ -14,9 +14,8 @@ use Rattle.ntriples_batch.specs.inside.Batches.{no_triple, HaveTexts}
 use Rattle.ntriples_words.specs.inside.Named.{is_named}
 use Rattle.ntriples_terms.proofs.Found.{Named, named-words}
 use Rattle.ntriples_naming.specs.declared.Last.{Last}
-use Rattle.ntriples_naming.specs.declared.Progress.{Progress}
-use Rattle.ntriples_naming.specs.declared.Progress.TheVariants.{Going, Full, NoSpace}
-use Rattle.ntriples_naming.specs.inside.Progress.{line_texts, lines_texts, no_text, NamedTo, Reached, TextsIn, is_going, Begins}
+use Rattle.std.specs.Prelude.{Ok}
+use Rattle.ntriples_naming.specs.inside.Progress.{line_texts, lines_texts, no_text, NamedTo, Reached, TextsIn, Begins}
 use Rattle.ntriples_naming.proofs.Steps.{named_more}
 
 -- ---- the texts of lines
@@ -48,20 +47,6 @@ texts_in line k ts i H =
     let T = texts-at ts i in
     record { subject = rw T.subject H.subject; property = rw T.property H.property; object = rw T.object H.object }
 
--- ---- whether naming goes on
-
-pub going_on : (p : Progress) (l : Last) → p ≡ Going l → true ≡ is_going p
-unfolding is_going
-going_on p l e = rw e
-
-pub not_full : (p : Progress) (l : Last) → p ≡ Full l → false ≡ is_going p
-unfolding is_going
-not_full p l e = rw e
-
-pub not_lacking : (p : Progress) (l : Last) → p ≡ NoSpace l → false ≡ is_going p
-unfolding is_going
-not_lacking p l e = rw e
-
 -- ---- rows
 
 module _ (ds es : List Entry) (xs : List Text) (slots bs : List ℕ) (first : ℕ) (ws : List ℕ) where
@@ -75,28 +60,14 @@ module _ (ds es : List Entry) (xs : List Text) (slots bs : List ℕ) (first : �
       let f : j + 2 + 1 ≡ j + 3 = omega arith in
       rw f at (named_more (j + 2) ws (rw e at b) M.object)
 
-  pub passed_over : (p : Progress) (j : ℕ) (r : Triple) (q : Bool) → r ≡ triple_from ws j → q ≡ is_named r → q ≡ true → Reached ds es xs j slots bs first ws p → Reached ds es xs (j + 3) slots bs first ws p
-  passed_over (Going l) j r q a b c R = (R.0, row_passed j R.1 (rw (← a) (sym b ∙ c)))
-  passed_over (Full l) j r q a b c R = R
-  passed_over (NoSpace l) j r q a b c R = R
-
-  -- Where naming has stopped, it has for all further lines.
-  pub stopped : (p : Progress) (n m : ℕ) → is_going p ≡ false → Reached ds es xs n slots bs first ws p → Reached ds es xs m slots bs first ws p
-  unfolding is_going
-  stopped (Going l) n m e R = let z : ◌≡◌ {A = ℕ} 0 1 = cc in absurd (omega arith)
-  stopped (Full l) n m e R = R
-  stopped (NoSpace l) n m e R = R
+  pub passed_over : (l : Last) (j : ℕ) (r : Triple) (q : Bool) → r ≡ triple_from ws j → q ≡ is_named r → q ≡ true → Reached ds es xs j slots bs first ws (Ok l) → Reached ds es xs (j + 3) slots bs first ws (Ok l)
+  passed_over l j r q a b c R = (R.0, row_passed j R.1 (rw (← a) (sym b ∙ c)))
 
 -- Before naming.
-begin-reached
+pub begin-reached
     : (ds es : List Entry) (ts : List TextTriple) (slots bs : List ℕ) (first : ℕ) (l : Last) (file lines : List ℕ) (n : ℕ) (ws : List ℕ)
-    → Begins ds es ts slots bs first l file lines n ws → Reached ds es (lines_texts ts) 0 slots bs first ws (Going l)
+    → Begins ds es ts slots bs first l file lines n ws → Reached ds es (lines_texts ts) 0 slots bs first ws (Ok l)
 begin-reached ds es ts slots bs first l file lines n ws B = (
   record { entries = es; more = []; grown = sym (append-nil es); last = B.last; same = refl; words = B.words },
   λ i h. absurd (omega (arith, h)),
 )
-
-pub begin-as
-    : (ds es : List Entry) (ts : List TextTriple) (slots bs : List ℕ) (first : ℕ) (l : Last) (file lines : List ℕ) (n : ℕ) (ws : List ℕ) (p : Progress)
-    → p ≡ Going l → Begins ds es ts slots bs first l file lines n ws → Reached ds es (lines_texts ts) 0 slots bs first ws p
-begin-as ds es ts slots bs first l file lines n ws p e B = rw e (begin-reached ds es ts slots bs first l file lines n ws B)

@@ -23,8 +23,9 @@ use Rattle.dictionary_names.specs.declared.Named.TheVariants as named
 use Rattle.dictionary_names.specs.inside.Naming.{LastSegment, NamedIn, HasNoSpace}
 use Rattle.dictionary_names.proofs.Naming.{last_ends, last_within}
 use Rattle.ntriples_naming.specs.declared.Last.{Last}
-use Rattle.ntriples_naming.specs.declared.Progress.{Progress}
-use Rattle.ntriples_naming.specs.declared.Progress.TheVariants.{Going, Full, NoSpace}
+use Rattle.std.specs.Prelude.{Result, Ok, Err}
+use Rattle.ntriples_naming.specs.declared.Stopped.{Stopped}
+use Rattle.ntriples_naming.specs.declared.Stopped.TheVariants.{Full, NoSpace}
 use Rattle.ntriples_naming.specs.inside.Progress.{no_text, with_each, IsWord, AreWords, NamedTo, Stands, LacksSpace, Reached}
 use Rattle.ntriples_naming.proofs.Entries.{have_terms, term_behind, term-added, with_new, added-first}
 
@@ -139,53 +140,45 @@ last_term : (ds es : List Entry) (e : Entry) → Each Writable (ds ++ (es ++ (e 
 last_term ds es e h = (each_back Writable es (e ∷ []) (each_back Writable ds (es ++ (e ∷ [])) h)).0.some
 
 Stands-same
-    : (ds es : List Entry) (xs : List Text) (slots bs slots' bs' : List ℕ) (first : ℕ) (ws : List ℕ) (p : Progress) (n : ℕ)
+    : (ds es : List Entry) (xs : List Text) (slots bs slots' bs' : List ℕ) (first : ℕ) (ws : List ℕ) (p : Result Last Stopped) (n : ℕ)
     → slots' ≡ slots → bs' ≡ bs → Reached ds es xs n slots bs first ws p → Reached ds es xs n slots' bs' first ws p
 Stands-same ds es xs slots bs slots' bs' first ws p n a b R = rw (a, b) R
 
-module _ (ds es : List Entry) (xs : List Text) (slots bs slots' bs' : List ℕ) (first : ℕ) (ws : List ℕ) (l : Last) (j : ℕ) (R : Reached ds es xs j slots bs first ws (Going l)) (h : j < length xs) (r : j < length ws) where
+module _ (ds es : List Entry) (xs : List Text) (slots bs slots' bs' : List ℕ) (first : ℕ) (ws : List ℕ) (l : Last) (j : ℕ) (R : Reached ds es xs j slots bs first ws (Ok l)) (h : j < length xs) (r : j < length ws) where
   -- It had its word.
-  pub had-word : 0 < get_or ws j 0 → Reached ds es xs (j + 1) slots bs first ws (Going l)
+  pub had-word : 0 < get_or ws j 0 → Reached ds es xs (j + 1) slots bs first ws (Ok l)
   had-word p = (R.0, named_more j ws R.1 p)
 
   abbrev text : Text
   text = get_or xs j no_text
 
   module _ (z : get_or ws j 0 ≡ 0) (a : names.Named) (M : NamedIn slots slots' bs bs' first l.count ds R.0.entries text a) where
-    pub reached-known : (w : ℕ) → a ≡ named.Known w → Reached ds es xs (j + 1) slots' bs' first (set ws j w) (Going l)
+    pub reached-known : (w : ℕ) → a ≡ named.Known w → Reached ds es xs (j + 1) slots' bs' first (set ws j w) (Ok l)
     reached-known w e =
         let K : NamedIn slots slots' bs bs' first l.count ds R.0.entries text (named.Known w) = rw e at M in
-        Stands-same ds es xs slots bs slots' bs' first (set ws j w) (Going l) (j + 1) K.2 K.3
+        Stands-same ds es xs slots bs slots' bs' first (set ws j w) (Ok l) (j + 1) K.2 K.3
         (stands-known ds es xs slots bs first ws l R.0 j h z r R.1 w K.1 K.0, set_named j ws w r R.1 K.1)
 
-    pub reached-new : (w : ℕ) (f : Filled) → a ≡ named.New w f → kind_of text.bytes ≡ text.kind → Reached ds es xs (j + 1) slots' bs' first (set ws j w) (Going (record { count = l.count + 1; filled = f }))
+    pub reached-new : (w : ℕ) (f : Filled) → a ≡ named.New w f → kind_of text.bytes ≡ text.kind → Reached ds es xs (j + 1) slots' bs' first (set ws j w) (Ok (record { count = l.count + 1; filled = f }))
     reached-new w f e k =
         let K : NamedIn slots slots' bs bs' first l.count ds R.0.entries text (named.New w f) = rw e at M in
         let p : 0 < w = last_term ds R.0.entries (entry w text.bytes) K.2.filled.holds.writable in
         (stands-new ds es xs slots bs first ws l R.0 j h z r R.1 w p K.0 K.1 k slots' bs' f K.2, set_named j ws w r R.1 p)
 
-    pub reached-full : a ≡ named.Full → Reached ds es xs (j + 1) slots' bs' first ws (Full l)
+    pub reached-full : a ≡ named.Full → Reached ds es xs (j + 1) slots' bs' first ws (Err (Full l))
     reached-full e =
         let K : NamedIn slots slots' bs bs' first l.count ds R.0.entries text named.Full = rw e at M in
-        Stands-same ds es xs slots bs slots' bs' first ws (Full l) (j + 1) K.2 K.3 (R.0, K.1)
+        Stands-same ds es xs slots bs slots' bs' first ws (Err (Full l)) (j + 1) K.2 K.3 (R.0, K.1)
 
-    pub reached-no-space : a ≡ named.NoSpace → kind_of text.bytes ≡ text.kind → Reached ds es xs (j + 1) slots' bs' first ws (NoSpace l)
+    pub reached-no-space : a ≡ named.NoSpace → kind_of text.bytes ≡ text.kind → Reached ds es xs (j + 1) slots' bs' first ws (Err (NoSpace l))
     reached-no-space e k =
         let K : NamedIn slots slots' bs bs' first l.count ds R.0.entries text named.NoSpace = rw e at M in
-        Stands-same ds es xs slots bs slots' bs' first ws (NoSpace l) (j + 1) K.2 K.3
+        Stands-same ds es xs slots bs slots' bs' first ws (Err (NoSpace l)) (j + 1) K.2 K.3
         (R.0, lacks-space ds es xs slots bs first ws l R.0 j h z (length bs) R.1 k K.0 K.1)
 
 -- ---- further texts
 
 -- Where naming has stopped, it has for further texts too.
-pub stopped_full : (ds es : List Entry) (xs : List Text) (slots bs : List ℕ) (first : ℕ) (ws : List ℕ) (p : Progress) (l : Last) (n m : ℕ) → p ≡ Full l → Reached ds es xs n slots bs first ws p → Reached ds es xs m slots bs first ws (Full l)
-stopped_full ds es xs slots bs first ws p l n m e R = rw e at R
-
-pub stopped_no_space : (ds es : List Entry) (xs : List Text) (slots bs : List ℕ) (first : ℕ) (ws : List ℕ) (p : Progress) (l : Last) (n m : ℕ) → p ≡ NoSpace l → Reached ds es xs n slots bs first ws p → Reached ds es xs m slots bs first ws (NoSpace l)
-stopped_no_space ds es xs slots bs first ws p l n m e R = rw e at R
-
-pub still-going : (ds es : List Entry) (xs : List Text) (slots bs : List ℕ) (first : ℕ) (ws : List ℕ) (p : Progress) (l : Last) (n : ℕ) → p ≡ Going l → Reached ds es xs n slots bs first ws p → Reached ds es xs n slots bs first ws (Going l)
-still-going ds es xs slots bs first ws p l n e R = rw e at R
-
-pub reached-at : (ds es : List Entry) (xs : List Text) (slots bs : List ℕ) (first : ℕ) (ws : List ℕ) (p : Progress) (n m : ℕ) → n ≡ m → Reached ds es xs n slots bs first ws p → Reached ds es xs m slots bs first ws p
-reached-at ds es xs slots bs first ws p n m e R = rw (← e) R
+pub stopped : (ds es : List Entry) (xs : List Text) (slots bs : List ℕ) (first : ℕ) (ws : List ℕ) (s : Stopped) (n m : ℕ) → Reached ds es xs n slots bs first ws (Err s) → Reached ds es xs m slots bs first ws (Err s)
+stopped ds es xs slots bs first ws (Full l) n m R = R
+stopped ds es xs slots bs first ws (NoSpace l) n m R = R

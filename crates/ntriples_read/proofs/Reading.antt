@@ -1,4 +1,5 @@
 -- Laws of a reading by its questions. Assumes nothing.
+use Rattle.std.specs.Prelude.{Option, Some, None, Result, Ok, Err}
 use Prim.Native.Nat.{ℕ, ◌+◌, ◌-◌, ◌*◌, ◌≤◌, ◌<◌, min}
 use mathlib.Core.Path.{◌≡◌, refl, sym, ap, ◌∙◌}
 use mathlib.Core.Bool.{true, false, ◌&&◌}
@@ -12,7 +13,6 @@ use Rattle.spec.specs.declared.Triple.{Triple}
 use Rattle.spec.specs.Tables.{first_rows}
 use Rattle.spec.specs.Lists.{padded}
 use Rattle.spec.specs.Messages.{most_bytes, encode}
-use Rattle.spec_ntriples.specs.declared.ByteReply.TheVariants.{Length, Refused}
 use Rattle.spec_ntriples.specs.Texts.{TextTriple}
 use Rattle.spec_ntriples.specs.computed.Lines.{Document, refused, triples, document}
 use Rattle.spec_ntriples.specs.Dictionary.{Entry, bytes_of_entries, dictionary_bytes, entries, are_numbers_enough, is_dictionary}
@@ -24,10 +24,8 @@ use Rattle.spec_ntriples.proofs.ReadingRefused.{additions-length, length-map, ac
 use Rattle.dictionary_bytes.specs.declared.Filled.{Filled}
 use Rattle.dictionary_bytes.specs.inside.Entries.{FilledBy}
 use Rattle.dictionary_entries.proofs.Held.{held-within}
-use Rattle.ntriples_document.specs.declared.Counted.TheVariants as counted
 use Rattle.ntriples_document.specs.inside.Bytes.{count_of}
-use Rattle.ntriples_segments.specs.declared.Batched.{Batched}
-use Rattle.ntriples_segments.specs.declared.Batched.TheVariants.{Named, NoSpace}
+use Rattle.ntriples_segments.specs.declared.NoSpace.{NoSpace}
 use Rattle.ntriples_last.specs.inside.Segments.{TextsLackSpace}
 use Rattle.ntriples_batches.specs.inside.Batches.{CanNameFile, FileNamed, IsFile}
 use Rattle.ntriples_batches.proofs.Files.{Grown, all_grown, filled_have}
@@ -47,7 +45,7 @@ room-some n len h =
 
 -- ---- documents
 
-pub wrong-document : (d : Document) → count_of d ≡ counted.Refused → d ≡ refused
+pub wrong-document : (d : Document) → count_of d ≡ None → d ≡ refused
 unfolding count_of
 wrong-document refused e = refl
 wrong-document (triples ts) e = let z : ◌≡◌ {A = ℕ} 0 1 = cc in absurd (omega arith)
@@ -58,7 +56,7 @@ pub record Lines (d : Document) (n : ℕ) : Type 0 where
   pub said : d ≡ triples lines
   pub counted : n ≡ length lines
 
-pub counted-lines : (d : Document) (n : ℕ) → count_of d ≡ counted.Triples n → Lines d n
+pub counted-lines : (d : Document) (n : ℕ) → count_of d ≡ Some n → Lines d n
 unfolding count_of
 counted-lines refused n e = let z : ◌≡◌ {A = ℕ} 0 1 = cc in absurd (omega arith)
 counted-lines (triples ts) n e = record { lines = ts; said = refl; counted = cc }
@@ -67,13 +65,13 @@ counted-lines (triples ts) n e = record { lines = ts; said = refl; counted = cc 
 
 pub refused-reading
     : (dictionary file : List ℕ) (len n : ℕ) (d m : List ℕ) → RefusedBy dictionary file len n → d ≡ dictionary → m ≡ replicate len 0
-    → read_file (Refused n) d m ≡ read_nTriples dictionary file len
+    → read_file (Err n) d m ≡ read_nTriples dictionary file len
 refused-reading dictionary file len n d m R e z = rw (e, z) (sym (reading_refused_leaves dictionary file len n ((reading_refused dictionary file len n).1 R)))
 
-pub refused_1 : (dictionary file : List ℕ) (len : ℕ) (m : List ℕ) → is_dictionary dictionary ≡ false → m ≡ replicate len 0 → read_file (Refused 1) dictionary m ≡ read_nTriples dictionary file len
+pub refused_1 : (dictionary file : List ℕ) (len : ℕ) (m : List ℕ) → is_dictionary dictionary ≡ false → m ≡ replicate len 0 → read_file (Err 1) dictionary m ≡ read_nTriples dictionary file len
 refused_1 dictionary file len m h z = refused-reading dictionary file len 1 dictionary m (RefusedBy.no_dictionary refl h) refl z
 
-pub refused_13 : (dictionary file : List ℕ) (len : ℕ) (m : List ℕ) → is_dictionary dictionary ≡ true → count_of (document file) ≡ counted.Refused → m ≡ replicate len 0 → read_file (Refused 13) dictionary m ≡ read_nTriples dictionary file len
+pub refused_13 : (dictionary file : List ℕ) (len : ℕ) (m : List ℕ) → is_dictionary dictionary ≡ true → count_of (document file) ≡ None → m ≡ replicate len 0 → read_file (Err 13) dictionary m ≡ read_nTriples dictionary file len
 refused_13 dictionary file len m h c z = refused-reading dictionary file len 13 dictionary m (RefusedBy.wrong_line refl h (wrong-document (document file) c)) refl z
 
 -- The bytes that hold a dictionary's entries are its bytes.
@@ -87,15 +85,15 @@ module _ (file : List ℕ) (n : ℕ) (bs : List ℕ) (f : Filled) (delivery : Li
   pub can_name : (ws : List ℕ) → length ws ≡ 16380 → CanNameFile file n bs f ws
   can_name ws e = record { lines = C.lines; said = C.said; counted = C.counted; old = entries bs; filled = C.filled; room = omega (arith, e) }
 
-  module _ (bs' ws : List ℕ) (b : Batched) (N : IsFile (entries bs) C.lines bs' ws b) (long : length bs' ≡ length bs) (g : Filled) where
+  module _ (bs' ws : List ℕ) (b : Result Filled NoSpace) (N : IsFile (entries bs) C.lines bs' ws b) (long : length bs' ≡ length bs) where
     -- ---- question 14
 
-    module _ (e : b ≡ NoSpace g) where
-      lacking : TextsLackSpace (entries bs) C.lines bs' g
+    module _ (s : NoSpace) (e : b ≡ Err s) where
+      lacking : TextsLackSpace (entries bs) C.lines bs' s.filled
       lacking = rw e at N
 
-      pub lacking-within : g.end ≤ length bs'
-      lacking-within = held-within bs' g.end (entries bs ++ lacking.more) lacking.filled.holds
+      pub lacking-within : s.filled.end ≤ length bs'
+      lacking-within = held-within bs' s.filled.end (entries bs ++ lacking.more) lacking.filled.holds
 
       no_space : RefusedBy bs file (length delivery) 14
       no_space =
@@ -106,8 +104,8 @@ module _ (file : List ℕ) (n : ℕ) (bs : List ℕ) (f : Filled) (delivery : Li
           (λ p. RefusedBy.no_space refl C.formed C.lines C.said (leb-false (length (bytes_of_entries es)) (length bs) p))
 
       pub refused-14
-          : (cs : List ℕ) → length cs ≡ length bs' → ((ds fs : List Entry) → Holds bs' g.end (ds ++ fs) → f.end ≡ length (bytes_of_entries ds) → Holds cs f.end ds)
-          → read_file (Refused 14) cs delivery ≡ read_nTriples bs file (length delivery)
+          : (cs : List ℕ) → length cs ≡ length bs' → ((ds fs : List Entry) → Holds bs' s.filled.end (ds ++ fs) → f.end ≡ length (bytes_of_entries ds) → Holds cs f.end ds)
+          → read_file (Err 14) cs delivery ≡ read_nTriples bs file (length delivery)
       refused-14 cs l T =
           refused-reading bs file (length delivery) 14 cs delivery no_space
           (same_bytes bs cs f C.filled (T (entries bs) lacking.more lacking.filled.holds C.filled.holds.ends) (l ∙ long))
@@ -115,7 +113,7 @@ module _ (file : List ℕ) (n : ℕ) (bs : List ℕ) (f : Filled) (delivery : Li
 
     -- ---- question 15
 
-    module _ (e : b ≡ Named g) where
+    module _ (g : Filled) (e : b ≡ Ok g) where
       named : FileNamed (entries bs) C.lines bs' g ws
       named = rw e at N
 
@@ -131,7 +129,7 @@ module _ (file : List ℕ) (n : ℕ) (bs : List ℕ) (f : Filled) (delivery : Li
       pub refused-15
           : (room : leb (10 + 12 * n) (min (length delivery) most_bytes) ≡ false) (cs : List ℕ) → length cs ≡ length bs'
           → ((ds fs : List Entry) → Holds bs' g.end (ds ++ fs) → f.end ≡ length (bytes_of_entries ds) → Holds cs f.end ds)
-          → read_file (Refused 15) cs delivery ≡ read_nTriples bs file (length delivery)
+          → read_file (Err 15) cs delivery ≡ read_nTriples bs file (length delivery)
       refused-15 room cs l T =
           let r : min (length delivery) most_bytes < 10 + 12 * length C.lines = rw C.counted at (leb-false (10 + 12 * n) (min (length delivery) most_bytes) room) in
           refused-reading bs file (length delivery) 15 cs delivery
@@ -174,15 +172,15 @@ module _ (file : List ℕ) (n : ℕ) (bs : List ℕ) (f : Filled) (delivery : Li
 
         pub read_whole
             : (r : ℕ) (m : List ℕ) → r ≡ 10 + 12 * n → m ≡ padded (length delivery) (encode (additions (first_rows n ws)))
-            → read_file (Length r) bs' m ≡ read_nTriples bs file (length delivery)
+            → read_file (Ok r) bs' m ≡ read_nTriples bs file (length delivery)
         unfolding conclude_reading accepted
         read_whole r m q w =
             let a : r ≡ length (encode (additions ts)) = q ∙ sym bytes-long in
             let d : bs' ≡ dictionary_bytes (length bs) es = named.filled.holds.same ∙ ap (λ (k : ℕ). dictionary_bytes k es) long in
             let p : m ≡ padded (length delivery) (encode (additions ts)) = w ∙ ap (λ (l : List Triple). padded (length delivery) (encode (additions l))) rows_are in
-            ap (λ (k : ℕ). read_file (Length k) bs' m) a
-            ∙ ap (λ (l : List ℕ). read_file (Length (length (encode (additions ts)))) l m) d
-            ∙ ap (λ (l : List ℕ). read_file (Length (length (encode (additions ts)))) (dictionary_bytes (length bs) es) l) p
+            ap (λ (k : ℕ). read_file (Ok k) bs' m) a
+            ∙ ap (λ (l : List ℕ). read_file (Ok (length (encode (additions ts)))) l m) d
+            ∙ ap (λ (l : List ℕ). read_file (Ok (length (encode (additions ts)))) (dictionary_bytes (length bs) es) l) p
             ∙ sym (accepted_is bs file (length delivery) (10 + 12 * n) accepted)
 
 -- ---- the delivery's bytes

@@ -9,13 +9,11 @@ ghost use Rattle.ntriples_read.specs.inside.Reading.{CanRead};
 use dictionary_bytes::Filled;
 use dictionary_check::check_dictionary;
 use dictionary_entries::take_back;
-use dictionary_step::Checked;
 use ntriples_batches::{MOST_LINES, name_file};
 use ntriples_delivery::write_delivery;
-use ntriples_document::{Counted, count_triples};
-use ntriples_segments::Batched;
+use ntriples_document::count_triples;
 use ntriples_zero::clear;
-use spec_ntriples::ByteReply;
+use spec::Reply;
 
 // The words of as many triples as a delivery has room for.
 const WORDS: usize = 16380;
@@ -49,37 +47,37 @@ fn read_triples(
     dictionary: &mut [u8],
     f: Filled,
     delivery: &mut [u8],
-) -> ByteReply
+) -> Reply
     requires { CanRead file.now n dictionary.old f delivery.old }
     ensures { read_file result dictionary.new delivery.new ≡ read_nTriples dictionary.old file.now (length delivery.old) }
 {
     let mut terms = no_terms();
     match name_file(file, n, dictionary, f, &mut terms) {
-        Batched::NoSpace(tried) => {
-            take_back(dictionary, f.end, tried.end);
-            ByteReply::Refused(14)
+        Err(tried) => {
+            take_back(dictionary, f.end, tried.filled.end);
+            Err(14)
         }
-        Batched::Named(named) => {
+        Ok(named) => {
             if has_room(n, delivery.len()) {
-                return ByteReply::Length(write_delivery(&terms, n, delivery));
+                return Ok(write_delivery(&terms, n, delivery));
             }
             take_back(dictionary, f.end, named.end);
-            ByteReply::Refused(15)
+            Err(15)
         }
     }
 }
 
 // Reads a file of N-Triples with a dictionary (the term book of document 02) into a delivery: questions 1, 13, 14 and 15, each of the whole
 // file before the next. Refused, the dictionary is as it was and the delivery is zero.
-pub fn read_ntriples(file: &[u8], dictionary: &mut [u8], delivery: &mut [u8]) -> ByteReply
+pub fn read_ntriples(file: &[u8], dictionary: &mut [u8], delivery: &mut [u8]) -> Reply
     ensures { read_file result dictionary.new delivery.new ≡ read_nTriples dictionary.old file.now (length delivery.old) }
 {
     clear(delivery);
-    match check_dictionary(dictionary) {
-        Checked::Wrong => ByteReply::Refused(1),
-        Checked::Right(f) => match count_triples(file) {
-            Counted::Refused => ByteReply::Refused(13),
-            Counted::Triples(n) => read_triples(file, n, dictionary, f, delivery),
-        },
-    }
+    let Some(f) = check_dictionary(dictionary) else {
+        return Err(1);
+    };
+    let Some(n) = count_triples(file) else {
+        return Err(13);
+    };
+    read_triples(file, n, dictionary, f, delivery)
 }

@@ -1,4 +1,5 @@
 -- Laws of lines that are written one behind the other, as long as they fit. Assumes nothing.
+use Rattle.std.specs.Prelude.{Ok, Err}
 use Prim.Native.Nat.{ℕ, ◌+◌, ◌-◌, ◌≤◌, ◌<◌}
 use mathlib.Core.Path.{◌≡◌, refl, sym, ap, subst, ◌∙◌}
 use mathlib.Core.Bool.{true}
@@ -14,7 +15,6 @@ use Rattle.spec.specs.declared.Triple.{Triple}
 use Rattle.spec.specs.Lists.{all, padded}
 use Rattle.spec.specs.Tables.{count, row_at, rows}
 use Rattle.spec.specs.inside.Laid.{Laid}
-use Rattle.spec_ntriples.specs.declared.ByteReply.TheVariants.{Length, Refused}
 use Rattle.spec_ntriples.specs.Characters.{codes}
 use Rattle.spec_ntriples.specs.Dictionary.{Entry}
 use Rattle.spec_ntriples.specs.Sights.{text_of}
@@ -145,16 +145,16 @@ all_stored : (out vs : List ℕ) → length vs ≡ length out → sets out 0 vs 
 all_stored out vs e = sets-eq vs out 0 (omega arith) ∙ ap (λ (l : List ℕ). vs ++ l) (drop_of_length-le out {i = 0 + length vs} (omega arith)) ∙ append-nil vs
 
 -- Bytes that do not fit an output, which became zero from its first byte on.
-pub given_none : (bs out out' after : List ℕ) → length out < length bs → length out' ≡ length out → after ≡ sets out' 0 (replicate (length out' - 0) 0) → written (Refused 8) after ≡ given_room bs (length out)
+pub given_none : (bs out out' after : List ℕ) → length out < length bs → length out' ≡ length out → after ≡ sets out' 0 (replicate (length out' - 0) 0) → written (Err 8) after ≡ given_room bs (length out)
 unfolding given_room give_bytes
 given_none bs out out' after h k e =
     let z : length out' - 0 ≡ length out = omega arith in
     let n : length (replicate {A = ℕ} (length out) 0) ≡ length out' = length-replicate {A = ℕ} (length out) 0 ∙ sym k in
-    rw (lt-leb (length bs) (length out) h) (ap (written (Refused 8)) (e ∙ ap (λ (m : ℕ). sets out' 0 (replicate m 0)) z ∙ all_stored out' (replicate (length out) 0) n))
+    rw (lt-leb (length bs) (length out) h) (ap (written (Err 8)) (e ∙ ap (λ (m : ℕ). sets out' 0 (replicate m 0)) z ∙ all_stored out' (replicate (length out) 0) n))
 
 -- Bytes that fit, with zeros behind them.
 pub given-all : (bs out out' after : List ℕ) (at : ℕ) → out' ≡ sets out 0 bs → at ≡ length bs → at ≤ length out' → after ≡ sets out' at (replicate (length out' - at) 0)
-    → written (Length at) after ≡ given_room bs (length out)
+    → written (Ok at) after ≡ given_room bs (length out)
 unfolding given_room give_bytes
 given-all bs out out' after at p e h f =
     let k : length out' ≡ length out = ap length p ∙ length-sets out 0 bs in

@@ -18,8 +18,7 @@ use dictionary_bytes::Filled;
 use dictionary_places::place_of;
 use ntriples_copy::clear_from;
 use ntriples_room::{put_end, put_entry, put_vocabulary};
-use spec::Triple;
-use spec_ntriples::ByteReply;
+use spec::{Reply, Triple};
 use table::row_at;
 use terms::Term;
 
@@ -81,24 +80,22 @@ pub fn write_rows(
     f: Filled,
     places: &[usize],
     out: &mut [u8],
-) -> ByteReply
+) -> Reply
     requires laid { Laid table.now }
     requires are_places { ArePlaces dictionary.now f places.now }
     requires table_value { all (has_texts (entries dictionary.now)) (rows table.now) ≡ true }
     ensures { written result out.new ≡ given_room (rows_bytes (entries dictionary.now) (rows table.now)) (length out.old) }
 {
     let n = table[0] as usize;
-    let mut i = 0;
     let mut at = 0;
-    while i < n {
+    for i in 0..n {
         let end = put_row(row_at(table, i), dictionary, f, places, out, at);
         if end == 0 {
             clear_from(out, 0);
-            return ByteReply::Refused(8);
+            return Err(8);
         }
         at = end;
-        i += 1;
     }
     clear_from(out, at);
-    ByteReply::Length(at)
+    Ok(at)
 }

@@ -13,15 +13,14 @@ use ntriples_last::Step;
 use ntriples_segment::name_segment;
 use ntriples_terms::name_vocabulary;
 
-// What naming a batch gives: how far the dictionary is filled; or, where a text has no space, how far it was filled before that.
+// A text has no space in the dictionary: how far that was filled before it.
 #[derive(Clone, Copy)]
-pub enum Batched {
-    Named(Filled),
-    NoSpace(Filled),
+pub struct NoSpace {
+    pub filled: Filled,
 }
 
 // Names the texts of the first n lines of a batch: the vocabulary's, those in a segment of the dictionary, and, entered behind its entries,
-// all others.
+// all others. How far the dictionary is filled then.
 pub fn name_batch(
     file: &[u8],
     lines: &[usize],
@@ -29,7 +28,7 @@ pub fn name_batch(
     dictionary: &mut [u8],
     f: Filled,
     terms: &mut [u32],
-) -> Batched
+) -> Result<Filled, NoSpace>
     requires { CanNameBatch dictionary.old f file.now lines.now n terms.old }
     ensures { (es : List Entry) (ts : List TextTriple) → IsBatch file.now lines.now n ts → FilledBy dictionary.old f es → IsBatched es ts dictionary.new terms.new result }
 {
@@ -39,10 +38,10 @@ pub fn name_batch(
     loop {
         match name_segment(file, lines, n, dictionary, first, filled, terms) {
             Step::Done(g) => {
-                return Batched::Named(g);
+                return Ok(g);
             }
             Step::Lacks(g) => {
-                return Batched::NoSpace(g);
+                return Err(NoSpace { filled: g });
             }
             Step::Next(end, g) => {
                 first = end;

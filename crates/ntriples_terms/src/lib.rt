@@ -47,11 +47,9 @@ pub fn name_vocabulary(file: &[u8], lines: &[usize], n: usize, terms: &mut [u32]
     requires { CanBeNamed file.now lines.now n terms.old }
     ensures { (ts : List TextTriple) → LinesAt file.now lines.now n ts → RowsBy (λ t r. triple_by vocabulary_of t) ts n terms.old terms.new }
 {
-    let mut i = 0;
-    while i < n {
+    for i in 0..n {
         let row = vocabulary_at(file, lines[i]);
         put_row(terms, i, row);
-        i += 1;
     }
 }
 
@@ -132,10 +130,8 @@ pub fn find_terms(
     requires can_be_named { CanBeNamed file.now lines.now n terms.old }
     ensures { (es : List Entry) (ts : List TextTriple) → IndexOf slots.now dictionary.now first es → LinesAt file.now lines.now n ts → RowsBy (found_row es) ts n terms.old terms.new }
 {
-    let mut i = 0;
-    while i < n {
+    for i in 0..n {
         let row = find_at(slots, dictionary, first, file, lines[i], row_from(terms, i));
         put_row(terms, i, row);
-        i += 1;
     }
 }

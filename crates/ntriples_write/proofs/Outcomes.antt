@@ -1,4 +1,5 @@
 -- What a writing gives, by the first question that says no, or by none. Assumes nothing.
+use Rattle.std.specs.Prelude.{Err}
 use Prim.Native.Nat.{ℕ}
 use mathlib.Core.Path.{◌≡◌}
 use mathlib.Core.Bool.{Bool, true, false}
@@ -7,7 +8,6 @@ use lib.ListN.{replicate}
 use Rattle.spec.specs.Lists.{all}
 use Rattle.spec.specs.Refusals.{first_refusal}
 use Rattle.spec.specs.Tables.{rows}
-use Rattle.spec_ntriples.specs.declared.ByteReply.TheVariants.{Refused}
 use Rattle.spec_ntriples.specs.Dictionary.{entries, is_dictionary}
 use Rattle.spec_writing.specs.Writing.{Written, has_texts, rows_bytes, written, give_bytes, write_rows}
 use Rattle.ntriples_rows.specs.inside.Fitting.{given_room}
@@ -18,17 +18,17 @@ module _ (table dictionary : List ℕ) (len : ℕ) (w : Written) where
   formed-written formed h k = rw h k
 
   -- 1: the table, or the dictionary.
-  pub no_table : (formed : Bool) → formed ≡ false → w ≡ written (Refused 1) (replicate len 0) → w ≡ write_rows formed table dictionary len
+  pub no_table : (formed : Bool) → formed ≡ false → w ≡ written (Err 1) (replicate len 0) → w ≡ write_rows formed table dictionary len
   unfolding write_rows give_bytes first_refusal
   no_table formed h k = rw h k
 
-  pub no_dictionary : (formed : Bool) → formed ≡ true → is_dictionary dictionary ≡ false → w ≡ written (Refused 1) (replicate len 0) → w ≡ write_rows formed table dictionary len
+  pub no_dictionary : (formed : Bool) → formed ≡ true → is_dictionary dictionary ≡ false → w ≡ written (Err 1) (replicate len 0) → w ≡ write_rows formed table dictionary len
   unfolding write_rows give_bytes first_refusal
   no_dictionary formed f h k = rw (f, h) k
 
   -- 16, and the rest.
   module _ (d : is_dictionary dictionary ≡ true) where
-    pub no_text_lem : all (has_texts (entries dictionary)) (rows table) ≡ false → w ≡ written (Refused 16) (replicate len 0) → w ≡ write_rows true table dictionary len
+    pub no_text_lem : all (has_texts (entries dictionary)) (rows table) ≡ false → w ≡ written (Err 16) (replicate len 0) → w ≡ write_rows true table dictionary len
     unfolding write_rows give_bytes first_refusal
     no_text_lem h k = rw (d, h) k
 

@@ -5,8 +5,10 @@ use mathlib.Core.Path.{◌≡◌, refl, sym, ap, ◌∙◌, subst}
 use mathlib.Core.List.{List, [], ◌∷◌, ◌++◌, append-nil, append_assoc}
 use native.Mathlib.Numerals.{add-one}
 use native.Mathlib.Omega.{arith}
-use lib.ListN.{length, get_or, take, drop, set, length-append}
-use lib.Seq.{take-suc, take-suc-set, drop-set-lt, drop-drop, take_all, length-take-le}
+use lib.ListN.{length, take, drop, set, length-append}
+use lib.Seq.{take-suc-set, drop-set-lt, drop-drop}
+use borrow.Rule.Slice.PartMut.{put_mid}
+use Rattle.std.proofs.lemmas.Slice.{take-put_mid, drop-put_mid}
 use Rattle.report_text.specs.Text.{decimal}
 use Rattle.report_text.specs.inside.Appended.{Appended}
 use Rattle.report_text.proofs.Decimal.{decimal_small, decimal_large}
@@ -43,18 +45,14 @@ both_appended {s} {t} {out} {out'} {out''} {at} {mid} {end} A B =
 pub text_appended : {s t out out' : List ℕ} {at end : ℕ} → s ≡ t → Appended s at out out' end → Appended t at out out' end
 text_appended {s} {t} {out} {out'} {at} {end} e A = subst (λ (l : List ℕ). Appended l at out out' end) e A
 
--- ---- a word, byte by byte
-
-pub word_more : (word : List ℕ) (i : ℕ) {out out' out'' : List ℕ} {at mid end : ℕ} → i < length word
-    → Appended (take i word) at out out' mid → Appended (get_or word i 0 ∷ []) mid out' out'' end → Appended (take (i + 1) word) at out out'' end
-word_more word i h A B = text_appended (rw (add-one i) (sym (take-suc word i 0 h))) (both_appended A B)
-
-pub word_whole : (word : List ℕ) (i : ℕ) {out out' : List ℕ} {at end : ℕ} → length word ≤ i → Appended (take i word) at out out' end → Appended word at out out' end
-word_whole word i h A = text_appended (take_all i word h) A
-
--- The place of the next byte is within.
-pub word-place : (word : List ℕ) (i : ℕ) {out out' : List ℕ} {at end : ℕ} → i ≤ length word → Appended (take i word) at out out' end → end ≡ at + i
-word-place word i h A = omega (arith, A.ends, length-take-le i word h)
+-- The part from an index on.
+pub part_appended : (word out : List ℕ) (at k : ℕ) → length word ≡ k → at + k ≤ length out → Appended word at out (put_mid at k out word) (at + k)
+part_appended word out at k e h =
+    record {
+      ends = omega (arith, e);
+      start_and_text = take-put_mid at k out word (at + k) (omega (arith, e)) (omega arith);
+      rest = drop-put_mid at k out word (at + k) (omega arith) (omega arith) e;
+    }
 
 -- ---- a number, digit by digit
 

@@ -1,6 +1,4 @@
-use Prim.Native.Nat.{◌-◌}
 use mathlib.Core.Path.{sym, ◌∙◌}
-use Rattle.dictionary_bytes.specs.inside.Entries.{length_at}
 use Rattle.dictionary_bytes.proofs.Entry.{other_length, same_length}
 use Rattle.dictionary_bytes.proofs.has_text.Goals as goal
 

@@ -1,4 +1,3 @@
-use Prim.Native.Nat.{◌-◌}
 use mathlib.Core.Path.{◌∙◌}
 use lib.Seq.{drop-drop}
 use Rattle.dictionary_bytes.specs.inside.Entries.{length_at}

@@ -1,30 +1,24 @@
 use Prim.Native.Nat.{◌+◌, ◌-◌}
+use mathlib.Core.Path.{◌≡◌, refl}
 use native.Mathlib.Omega.{arith}
-use Rattle.dictionary_bytes.proofs.Numbers.{bound_more, bound_whole, number_fits, number_more, number_none, number_whole}
-use native.Mathlib.Nat.{one-le-pow}
-use borrow.Author.Rules.{rules}
+use Rattle.spec_ntriples.specs.Dictionary.{bytes_number}
+use Rattle.dictionary_bytes.proofs.Numbers.{bound_more, number_fits, number_more}
 use Rattle.dictionary_bytes.proofs.number_at.Goals as goal
 
--- src/lib.rt:81:5
-pub loop-left-init : goal.loop-left-init
-loop-left-init c = (omega arith, number_none c.args.bytes.now c.args.at c.args.n, one-le-pow (c.args.n - c.args.n) 256 (omega arith))
+pub loop-i-init : goal.loop-i-init
+unfolding bytes_number
+loop-i-init c = let e : c.args.at + c.args.n - (c.args.at + c.args.n) ≡ 0 = omega arith in rw e (omega arith, refl, omega arith)
 
--- src/lib.rt:83:17
-pub overflow_cast-b : goal.overflow_cast-b
-overflow_cast-b c = omega (arith, c.type_inv.bytes (c.args.at + (c.loop-left.left - 1)))
-
--- src/lib.rt:84:18
 pub overflow_mul-number : goal.overflow_mul-number
-overflow_mul-number c = omega (arith, number_fits c.args.n c.loop-left.left c.loop-left.number (search rules) (search rules) c.loop-left.invariant.2)
+overflow_mul-number c = omega (arith, number_fits (c.args.at + c.args.n - c.loop-i.i) c.loop-i.number (omega arith) c.loop-i.invariant.2)
 
--- src/lib.rt:84:18
 pub overflow_add-number : goal.overflow_add-number
-overflow_add-number c = omega (arith, number_fits c.args.n c.loop-left.left c.loop-left.number (search rules) (search rules) c.loop-left.invariant.2, c.type_inv.bytes (c.args.at + (c.loop-left.left - 1)))
+overflow_add-number c = omega (arith, number_fits (c.args.at + c.args.n - c.loop-i.i) c.loop-i.number (omega arith) c.loop-i.invariant.2, c.type_inv.bytes (c.loop-i.i - 1))
 
--- src/lib.rt:81:5
-pub loop-left-preserved : goal.loop-left-preserved
-loop-left-preserved c = (omega arith, number_more c.args.bytes.now c.args.at c.args.n c.loop-left.left c.loop-left.number (search rules) (search rules) (search rules) c.loop-left.invariant.1, bound_more c.args.n c.loop-left.left c.loop-left.number _ (search rules) (search rules) c.loop-left.invariant.2 (omega (arith, c.type_inv.bytes (c.args.at + (c.loop-left.left - 1)))))
-
--- src/lib.rt:73:1
-pub returns : goal.returns
-returns c = record { value = number_whole c.args.bytes.now c.args.at c.args.n c.loop-left.left c.loop-left.number (search rules) c.loop-left.invariant.1; upper_bound = bound_whole c.args.n c.loop-left.left c.loop-left.number (search rules) c.loop-left.invariant.2 }
+pub loop-i-preserved : goal.loop-i-preserved
+loop-i-preserved c =
+    let p : c.loop-i.i - 1 + 1 ≡ c.loop-i.i = omega arith in
+    let q : c.args.at + c.args.n - (c.loop-i.i - 1) ≡ c.args.at + c.args.n - c.loop-i.i + 1 = omega arith in
+    let h = number_more c.args.bytes.now (c.loop-i.i - 1) (c.args.at + c.args.n - c.loop-i.i) (omega arith) in
+    let m = rw p at h in
+    rw q (omega arith, cc, bound_more _ _ _ c.loop-i.invariant.2 (omega (arith, c.type_inv.bytes (c.loop-i.i - 1))))

@@ -4,8 +4,5 @@ use lib.ListN.{take, drop}
 use Rattle.spec_ntriples.specs.Dictionary.{bytes_number}
 use Rattle.dictionary_bytes.proofs.number_at.Given as goal
 
-abbrev pub invariant-loop-left : goal.invariant-loop-left
-invariant-loop-left l = (l.left ≤ l.n) × (l.number ≡ bytes_number (take (l.n - l.left) (drop (l.at + l.left) l.bytes))) × (l.number < 256 ^ (l.n - l.left))
-
-abbrev pub decreases-loop-left : goal.decreases-loop-left
-decreases-loop-left l = l.left
+abbrev pub invariant-loop-i : goal.invariant-loop-i
+invariant-loop-i l = (l.at ≤ l.i) × (l.number ≡ bytes_number (take (l.at + l.n - l.i) (drop l.i l.bytes))) × (l.number < 256 ^ (l.at + l.n - l.i))

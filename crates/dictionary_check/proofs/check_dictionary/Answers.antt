@@ -2,8 +2,8 @@ use Rattle.dictionary_check.proofs.check_dictionary.Goals as goal
 
 -- src/lib.rt:166:30
 pub settle-requires : goal.settle-requires
-settle-requires c = rw c.in-Right.is at c.walk.ensures
+settle-requires c = rw c.in_ok-walk.was at c.walk.ensures
 
 -- src/lib.rt:161:1
-pub returns-in-Wrong : goal.returns-in-Wrong
-returns-in-Wrong c = rw c.in-Wrong.is at c.walk.ensures
+pub returns-in_err-walk : goal.returns-in_err-walk
+returns-in_err-walk c = rw c.from_residual.ensures c.in_err-walk.ensures

@@ -1,4 +1,3 @@
-use Prim.Native.Nat.{◌-◌}
 use Rattle.dictionary_distinct.proofs.Apartness.{apart-less, compared_none, compared_repeat, compared_more, compared_all}
 use Rattle.dictionary_distinct.proofs.are_distinct.Goals as goal
 
@@ -11,16 +10,16 @@ pub next_segment-requires : goal.next_segment-requires
 next_segment-requires c = record { are_entries = c.loop-first.invariant.behind; first_lt_last = c.loop-first-test.true }
 
 -- src/lib.rt:85:17
-pub returns-in-Repeated : goal.returns-in-Repeated
-returns-in-Repeated c = compared_repeat c.args.dictionary.now c.args.last c.loop-first.first c.loop-first.invariant (rw c.in-Repeated.is at c.next_segment.ensures)
+pub returns-in_default : goal.returns-in_default
+returns-in_default c = compared_repeat c.args.dictionary.now c.args.last c.loop-first.first c.loop-first.invariant c.in_default.ensures
 
 -- src/lib.rt:82:5
 pub loop-first-smaller : goal.loop-first-smaller
-loop-first-smaller c = apart-less c.args.dictionary.now c.loop-first.first c.args.last _ (rw c.in-Until.is at c.next_segment.ensures)
+loop-first-smaller c = apart-less c.args.dictionary.now c.loop-first.first c.args.last _ (rw c.in-Some.is at c.next_segment.ensures)
 
 -- src/lib.rt:82:5
 pub loop-first-preserved : goal.loop-first-preserved
-loop-first-preserved c = compared_more c.args.dictionary.now c.args.last c.loop-first.first c.loop-first.invariant _ (rw c.in-Until.is at c.next_segment.ensures)
+loop-first-preserved c = compared_more c.args.dictionary.now c.args.last c.loop-first.first c.loop-first.invariant _ (rw c.in-Some.is at c.next_segment.ensures)
 
 -- src/lib.rt:77:1
 pub returns : goal.returns

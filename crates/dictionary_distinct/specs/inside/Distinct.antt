@@ -1,9 +1,7 @@
 -- Entries of a dictionary whose texts differ. Definitions only.
-use Rattle.std.specs.Prelude.{ℕ, ◌≤◌, ◌<◌, ◌≡◌, Bool, true, false, List}
+use Rattle.std.specs.Prelude.{ℕ, ◌≤◌, ◌<◌, ◌≡◌, Bool, true, false, List, Option, None, Some}
 use Rattle.dictionary_bytes.specs.inside.Entries.{text_at, place_at}
 use Rattle.dictionary_index.specs.inside.Index.{AreEntries}
-use Rattle.dictionary_distinct.specs.declared.Apart.{Apart}
-use Rattle.dictionary_distinct.specs.declared.Apart.TheVariants.{Repeated, Until}
 
 -- Two of the entries between two byte indexes have one text.
 pub record Repeat (bs : List ℕ) (first last : ℕ) : Type 0 where
@@ -26,10 +24,10 @@ pub record ApartTo (bs : List ℕ) (first last end : ℕ) : Type 0 where
   pub differ : Differ bs first last count
   pub behind : AreEntries bs end last
 
--- What is found of a segment.
-abbrev pub IsApart : (bs : List ℕ) (first last : ℕ) → Apart → Type 0
-IsApart bs first last Repeated = Repeat bs first last
-IsApart bs first last (Until end) = ApartTo bs first last end
+-- What is found of a segment: the index behind it, or nothing where a text repeats.
+abbrev pub IsApart : (bs : List ℕ) (first last : ℕ) → Option ℕ → Type 0
+IsApart bs first last None = Repeat bs first last
+IsApart bs first last (Some end) = ApartTo bs first last end
 
 -- The texts of all entries up to a byte index differ.
 abbrev pub Distinct : List ℕ → ℕ → Type 0

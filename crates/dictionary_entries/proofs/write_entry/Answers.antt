@@ -1,4 +1,3 @@
-use Prim.Native.Nat.{◌-◌}
 use native.Mathlib.Omega.{arith}
 use Rattle.dictionary_entries.proofs.Writing.{entry-written}
 use Rattle.dictionary_entries.proofs.write_entry.Goals as goal

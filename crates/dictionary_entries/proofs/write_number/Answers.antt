@@ -1,20 +1,23 @@
-use Prim.Native.Nat.{◌-◌}
-use mathlib.Core.Path.{refl, sym, ◌∙◌}
-use native.Mathlib.Nat.{add-zero, sub-zero}
+use Prim.Native.Nat.{◌+◌, ◌-◌}
+use mathlib.Core.Path.{◌≡◌, sym, ◌∙◌}
 use native.Mathlib.Omega.{arith}
-use lib.ListN.{length-set}
-use Rattle.dictionary_entries.proofs.Writing.{number_more, number_end}
-use borrow.Author.Rules.{rules}
+use native.Mathlib.Nat.{sub-zero}
+use lib.ListN.{length, take, drop}
+use Rattle.dictionary_bytes.proofs.Same.{part_length}
+use Rattle.dictionary_entries.proofs.Writing.{number_more, number_end, number_over}
 use Rattle.dictionary_entries.proofs.write_number.Goals as goal
 
--- src/lib.rt:25:5
-pub loop-k-init : goal.loop-k-init
-loop-k-init c = (omega arith, refl, rw (add-zero, sub-zero))
+pub loop-b-init : goal.loop-b-init
+loop-b-init c = rw sub-zero
 
--- src/lib.rt:25:5
-pub loop-k-preserved : goal.loop-k-preserved
-loop-k-preserved c = (omega arith, simp length-set c.loop-k.invariant.1, number_more c.loop-k.out c.args.at c.args.n c.loop-k.k c.loop-k.rest (search rules) ∙ c.loop-k.invariant.2)
+pub loop-b-preserved : goal.loop-b-preserved
+loop-b-preserved c =
+    let q : c.args.at + c.args.n - c.args.at ≡ c.args.n = omega arith in
+    let l : length (take (c.args.at + c.args.n - c.args.at) (drop c.args.at c.args.out.now)) ≡ c.args.n = rw q (part_length c.args.out.now c.args.at c.args.n c.requires) in
+    number_more c.loop-b.b-items c.args.n c.loop-b.b-index c.loop-b.rest (omega arith) ∙ c.loop-b.invariant
 
--- src/lib.rt:19:1
 pub returns : goal.returns
-returns c = sym (number_end c.loop-k.out c.args.at c.args.n c.loop-k.k c.loop-k.rest (search rules)) ∙ c.loop-k.invariant.2
+returns c =
+    let q : c.args.at + c.args.n - c.args.at ≡ c.args.n = omega arith in
+    let l : length (take (c.args.at + c.args.n - c.args.at) (drop c.args.at c.args.out.now)) ≡ c.args.n = rw q (part_length c.args.out.now c.args.at c.args.n c.requires) in
+    number_over c.args.out.now c.loop-b.b-items c.args.at c.args.n c.args.number c.requires (sym (number_end c.loop-b.b-items c.args.n c.loop-b.b-index c.loop-b.rest (omega arith)) ∙ c.loop-b.invariant)

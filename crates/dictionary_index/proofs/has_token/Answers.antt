@@ -1,4 +1,3 @@
-use Prim.Native.Nat.{◌-◌}
 use mathlib.Core.Path.{◌∙◌}
 use Rattle.dictionary_bytes.specs.inside.Entries.{text_at}
 use Rattle.dictionary_index.proofs.has_token.Goals as goal

@@ -1,6 +1,4 @@
-use Prim.Native.Nat.{◌-◌}
 use native.Mathlib.Omega.{arith}
-use Rattle.dictionary_bytes.specs.inside.Entries.{length_at}
 use Rattle.dictionary_index.proofs.Indexing.{entry-within, first_before}
 use Rattle.dictionary_index.proofs.Segments.{segment_none, segment-next, segment-more, segment-known, segment-full, segment_end, segment_limit, count_below}
 use borrow.Author.Rules.{rules}

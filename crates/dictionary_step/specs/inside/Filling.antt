@@ -1,13 +1,11 @@
 -- A dictionary whose entries are asked one by one. Definitions only.
-use Rattle.std.specs.Prelude.{ℕ, ◌+◌, ◌≤◌, ◌<◌, ◌≡◌, Bool, true, false, List, [], ◌++◌, length, get_or, take, drop, eqb}
+use Rattle.std.specs.Prelude.{ℕ, ◌+◌, ◌≤◌, ◌<◌, ◌≡◌, Bool, true, false, List, [], ◌++◌, length, get_or, take, drop, eqb, Option, None, Some}
 use Rattle.spec.specs.inside.Each.{Each}
 use Rattle.spec_ntriples.specs.Dictionary.{Entry, entry, bytes_of_entries, front_term, entries, vocabulary_of, are_numbered, is_dictionary}
 use Rattle.spec_ntriples.specs.computed.Canonical.{is_canonical}
 use Rattle.dictionary_bytes.specs.inside.Entries.{text_at, place_at, entries_at}
 use Rattle.dictionary_bytes.specs.declared.Filled.{Filled}
 use Rattle.dictionary_numbers.specs.inside.Numbers.{Counts}
-use Rattle.dictionary_step.specs.declared.Checked.{Checked}
-use Rattle.dictionary_step.specs.declared.Checked.TheVariants.{Wrong, Right}
 
 -- All are bytes.
 abbrev pub AreBytes : List ℕ → Type 0
@@ -45,6 +43,6 @@ IsEntry bs at true = Comes bs at
 IsEntry bs at false = entries (drop at bs) ≡ []
 
 -- The same with the entry that comes; or what makes the bytes no dictionary.
-abbrev pub IsStep : List ℕ → Filled → Checked → Type 0
-IsStep bs f Wrong = is_dictionary bs ≡ false
-IsStep bs f (Right g) = Filling bs g × (f.end < g.end)
+abbrev pub IsStep : List ℕ → Filled → Option Filled → Type 0
+IsStep bs f None = is_dictionary bs ≡ false
+IsStep bs f (Some g) = Filling bs g × (f.end < g.end)

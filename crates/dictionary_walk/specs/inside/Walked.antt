@@ -1,9 +1,7 @@
 -- A dictionary whose entries were all asked. Definitions only.
-use Rattle.std.specs.Prelude.{ℕ, ◌≡◌, false, List, [], drop}
+use Rattle.std.specs.Prelude.{ℕ, ◌≡◌, false, List, [], drop, Option, None, Some}
 use Rattle.spec_ntriples.specs.Dictionary.{entries, is_dictionary}
 use Rattle.dictionary_bytes.specs.declared.Filled.{Filled}
-use Rattle.dictionary_step.specs.declared.Checked.{Checked}
-use Rattle.dictionary_step.specs.declared.Checked.TheVariants.{Wrong, Right}
 use Rattle.dictionary_step.specs.inside.Filling.{Filling}
 
 -- All entries are asked.
@@ -12,6 +10,6 @@ pub record Walked (bs : List ℕ) (f : Filled) : Type 0 where
   pub none : entries (drop f.end bs) ≡ []
 
 -- So; or what makes the bytes no dictionary.
-abbrev pub IsWalk : List ℕ → Checked → Type 0
-IsWalk bs Wrong = is_dictionary bs ≡ false
-IsWalk bs (Right f) = Walked bs f
+abbrev pub IsWalk : List ℕ → Option Filled → Type 0
+IsWalk bs None = is_dictionary bs ≡ false
+IsWalk bs (Some f) = Walked bs f

@@ -1,5 +1,5 @@
 -- A file whose texts get their terms batch by batch. Definitions only.
-use Rattle.std.specs.Prelude.{ℕ, ◌≤◌, ◌≡◌, List, map, length}
+use Rattle.std.specs.Prelude.{ℕ, ◌≤◌, ◌≡◌, List, map, length, Result, Ok, Err}
 use Rattle.spec.specs.Tables.{first_rows}
 use Rattle.spec_ntriples.specs.Texts.{TextTriple}
 use Rattle.spec_ntriples.specs.computed.Lines.{triples, document}
@@ -7,8 +7,7 @@ use Rattle.spec_ntriples.specs.Dictionary.{Entry}
 use Rattle.spec_ntriples.specs.Reading.{with_all, triple_of}
 use Rattle.dictionary_bytes.specs.declared.Filled.{Filled}
 use Rattle.dictionary_bytes.specs.inside.Entries.{FilledBy}
-use Rattle.ntriples_segments.specs.declared.Batched.{Batched}
-use Rattle.ntriples_segments.specs.declared.Batched.TheVariants.{Named, NoSpace}
+use Rattle.ntriples_segments.specs.declared.NoSpace.{NoSpace}
 use Rattle.ntriples_last.specs.inside.Segments.{TextsLackSpace}
 
 -- The file is a document of n triples; the dictionary has some entries; and there are words for the triples of a batch.
@@ -27,6 +26,6 @@ pub record FileNamed (es : List Entry) (ts : List TextTriple) (bs : List ℕ) (f
   pub rows : length ts ≤ 5460 → first_rows (length ts) ws ≡ map (triple_of (with_all es ts)) ts
 
 -- They have; or the entries with them do not fit.
-abbrev pub IsFile : (es : List Entry) (ts : List TextTriple) (bs ws : List ℕ) → Batched → Type 0
-IsFile es ts bs ws (Named f) = FileNamed es ts bs f ws
-IsFile es ts bs ws (NoSpace f) = TextsLackSpace es ts bs f
+abbrev pub IsFile : (es : List Entry) (ts : List TextTriple) (bs ws : List ℕ) → Result Filled NoSpace → Type 0
+IsFile es ts bs ws (Ok f) = FileNamed es ts bs f ws
+IsFile es ts bs ws (Err s) = TextsLackSpace es ts bs s.filled

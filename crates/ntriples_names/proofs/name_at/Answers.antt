@@ -10,7 +10,7 @@ use Rattle.ntriples_names.proofs.name_at.Goals as goal
 
 -- src/lib.rt:140:9
 pub returns-then-is_named : goal.returns-then-is_named
-returns-then-is_named c = λ ds es ts h L R. passed_over ds es (lines_texts ts) c.args.slots.now c.args.dictionary.now c.args.first c.args.terms.now c.args.p (c.args.i * 3) c.row_from.result c.is_named.result c.row_from.ensures c.is_named.ensures c.if-is_named.true R
+returns-then-is_named c = λ ds es ts h L R. passed_over ds es (lines_texts ts) c.args.slots.now c.args.dictionary.now c.args.first c.args.terms.now c.args.last (c.args.i * 3) c.row_from.result c.is_named.result c.row_from.ensures c.is_named.ensures c.if-is_named.true R
 
 -- src/lib.rt:142:9
 pub line_end-end-requires : goal.line_end-end-requires

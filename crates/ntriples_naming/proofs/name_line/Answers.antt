@@ -1,24 +1,36 @@
 use native.Mathlib.Omega.{arith}
-use Prim.Native.Nat.{◌+◌, ◌-◌}
-use Rattle.ntriples_naming.proofs.Steps.{reached-at}
+use Prim.Native.Nat.{◌+◌}
+use mathlib.Core.Path.{◌≡◌}
+use Rattle.std.proofs.lemmas.Result.{err_from_is_err_and}
+use Rattle.ntriples_naming.proofs.Steps.{stopped}
 use Rattle.ntriples_naming.proofs.name_line.Goals as goal
 
--- src/lib.rt:107:9
-pub name_word-a-requires : goal.name_word-a-requires
-name_word-a-requires c = record { before = c.requires.before; old = c.requires.old; texts = c.requires.texts; reached = c.requires.reached; within = omega (arith, c.requires.within); has = c.requires.has.subject; enough = c.requires.enough; room = omega (arith, c.requires.room) }
+pub name_word-requires : goal.name_word-requires
+name_word-requires c = record { before = c.requires.before; old = c.requires.old; texts = c.requires.texts; reached = c.requires.reached; within = omega (arith, c.requires.within); has = c.requires.has.subject; enough = c.requires.enough; room = omega (arith, c.requires.room) }
 
--- src/lib.rt:108:9
-pub name_word-b-requires : goal.name_word-b-requires
-name_word-b-requires c = record { before = c.requires.before; old = c.requires.old; texts = c.requires.texts; reached = (c.name_word-a.ensures c.requires.before c.requires.old c.requires.texts (omega (arith, c.requires.within)) c.requires.has.subject c.requires.reached); within = omega (arith, c.requires.within); has = c.requires.has.property; enough = omega (arith, c.requires.enough, c.name_word-a.auto.slots); room = omega (arith, c.requires.room, c.name_word-a.auto.terms) }
+pub name_word-requires-2 : goal.name_word-requires-2
+name_word-requires-2 c = record { before = c.requires.before; old = c.requires.old; texts = c.requires.texts; reached = c.in_ok-a.ensures c.requires.before c.requires.old c.requires.texts (omega (arith, c.requires.within)) c.requires.has.subject c.requires.reached; within = omega (arith, c.requires.within); has = c.requires.has.property; enough = omega (arith, c.requires.enough, c.name_word.auto.slots); room = omega (arith, c.requires.room, c.name_word.auto.terms) }
 
--- src/lib.rt:109:65
 pub overflow_add-j-2 : goal.overflow_add-j-2
 overflow_add-j-2 c = omega (arith, c.requires.room)
 
--- src/lib.rt:109:5
-pub name_word-requires : goal.name_word-requires
-name_word-requires c = record { before = c.requires.before; old = c.requires.old; texts = c.requires.texts; reached = ((reached-at c.requires.before c.requires.old c.requires.texts c.name_word-b.new.slots c.name_word-b.new.dictionary c.args.first c.name_word-b.new.terms c.name_word-b.result (c.args.j + 1 + 1) (c.args.j + 2) (omega arith) (c.name_word-b.ensures c.requires.before c.requires.old c.requires.texts (omega (arith, c.requires.within)) c.requires.has.property (c.name_word-a.ensures c.requires.before c.requires.old c.requires.texts (omega (arith, c.requires.within)) c.requires.has.subject c.requires.reached)))); within = omega (arith, c.requires.within); has = c.requires.has.object; enough = omega (arith, c.requires.enough, c.name_word-a.auto.slots, c.name_word-b.auto.slots); room = omega (arith, c.requires.room, c.name_word-a.auto.terms, c.name_word-b.auto.terms) }
+pub name_word-requires-3 : goal.name_word-requires-3
+name_word-requires-3 c =
+    let q : c.args.j + 1 + 1 ≡ c.args.j + 2 = omega arith in
+    let A = c.in_ok-a.ensures c.requires.before c.requires.old c.requires.texts (omega (arith, c.requires.within)) c.requires.has.subject c.requires.reached in
+    let B = c.in_ok-b.ensures c.requires.before c.requires.old c.requires.texts (omega (arith, c.requires.within)) c.requires.has.property A in
+    record { before = c.requires.before; old = c.requires.old; texts = c.requires.texts; reached = rw q at B; within = omega (arith, c.requires.within); has = c.requires.has.object; enough = omega (arith, c.requires.enough, c.name_word.auto.slots, c.name_word-2.auto.slots); room = omega (arith, c.requires.room, c.name_word.auto.terms, c.name_word-2.auto.terms) }
 
--- src/lib.rt:91:1
+pub returns-in_err-a : goal.returns-in_err-a
+returns-in_err-a c = λ ds es xs h T R. let p = err_from_is_err_and c.from_residual.result c.from_residual.ensures.1 in rw (p.1, p.2) (stopped ds es xs _ _ _ _ _ (c.args.j + 1) (c.args.j + 3) (c.in_err-a.ensures ds es xs (omega (arith, h)) T.subject R))
+
+pub returns-in_err-b : goal.returns-in_err-b
+returns-in_err-b c = λ ds es xs h T R. let p = err_from_is_err_and c.from_residual-in_err-b.result c.from_residual-in_err-b.ensures.1 in rw (p.1, p.2) (stopped ds es xs _ _ _ _ _ (c.args.j + 1 + 1) (c.args.j + 3) (c.in_err-b.ensures ds es xs (omega (arith, h)) T.property (c.in_ok-a.ensures ds es xs (omega (arith, h)) T.subject R)))
+
 pub returns : goal.returns
-returns c = λ ds es xs h T R. (reached-at ds es xs c.name_word.new.slots c.name_word.new.dictionary c.args.first c.name_word.new.terms c.name_word.result (c.args.j + 2 + 1) (c.args.j + 3) (omega arith) (c.name_word.ensures ds es xs (omega (arith, h)) T.object (reached-at ds es xs c.name_word-b.new.slots c.name_word-b.new.dictionary c.args.first c.name_word-b.new.terms c.name_word-b.result (c.args.j + 1 + 1) (c.args.j + 2) (omega arith) (c.name_word-b.ensures ds es xs (omega (arith, h)) T.property (c.name_word-a.ensures ds es xs (omega (arith, h)) T.subject R)))))
+returns c = λ ds es xs h T R.
+    let q : c.args.j + 1 + 1 ≡ c.args.j + 2 = omega arith in
+    let r : c.args.j + 2 + 1 ≡ c.args.j + 3 = omega arith in
+    let A = c.in_ok-a.ensures ds es xs (omega (arith, h)) T.subject R in
+    let B = c.in_ok-b.ensures ds es xs (omega (arith, h)) T.property A in
+    rw r at (c.name_word-3.ensures ds es xs (omega (arith, h)) T.object (rw q at B))

@@ -1,5 +1,5 @@
 -- Texts that get their terms one behind the other. Definitions only.
-use Rattle.std.specs.Prelude.{ℕ, ◌+◌, ◌*◌, ◌≤◌, ◌<◌, ◌≡◌, Bool, true, false, length, get_or}
+use Rattle.std.specs.Prelude.{ℕ, ◌+◌, ◌*◌, ◌≤◌, ◌<◌, ◌≡◌, length, get_or, Result, Ok, Err}
 use mathlib.Core.List.{List, [], ◌∷◌, ◌++◌, flat_map}
 use Rattle.spec_ntriples.specs.Texts.{Text, text, TextTriple}
 use Rattle.spec_ntriples.specs.Dictionary.{Entry, term_of, kind_of}
@@ -11,8 +11,8 @@ use Rattle.ntriples_batch.specs.inside.Batches.{LineAt, no_triple}
 use Rattle.ntriples_terms.specs.inside.Words.{LinesAt}
 use Rattle.dictionary_names.specs.inside.Naming.{LastSegment, HasNoSpace}
 use Rattle.ntriples_naming.specs.declared.Last.{Last}
-use Rattle.ntriples_naming.specs.declared.Progress.{Progress}
-use Rattle.ntriples_naming.specs.declared.Progress.TheVariants.{Going, Full, NoSpace}
+use Rattle.ntriples_naming.specs.declared.Stopped.{Stopped}
+use Rattle.ntriples_naming.specs.declared.Stopped.TheVariants.{Full, NoSpace}
 
 -- ---- texts
 
@@ -70,17 +70,17 @@ pub record LacksSpace (len : ℕ) (all : List Entry) (xs : List Text) : Type 0 w
   pub lacks : HasNoSpace len all (get_or xs place no_text)
 
 -- So far naming came: the first n texts are named; or a new segment has to begin, and this one has entries; or a text has no space.
-abbrev pub Reached : (ds es : List Entry) (xs : List Text) (n : ℕ) (slots bs : List ℕ) (first : ℕ) (ws : List ℕ) → Progress → Type 0
-Reached ds es xs n slots bs first ws (Going l) = Stands ds es xs slots bs first ws l × NamedTo n ws
-Reached ds es xs n slots bs first ws (Full l) = (S : Stands ds es xs slots bs first ws l) × (0 < length S.entries)
-Reached ds es xs n slots bs first ws (NoSpace l) = (S : Stands ds es xs slots bs first ws l) × LacksSpace (length bs) (ds ++ S.entries) xs
+abbrev pub Reached : (ds es : List Entry) (xs : List Text) (n : ℕ) (slots bs : List ℕ) (first : ℕ) (ws : List ℕ) → Result Last Stopped → Type 0
+Reached ds es xs n slots bs first ws (Ok l) = Stands ds es xs slots bs first ws l × NamedTo n ws
+Reached ds es xs n slots bs first ws (Err (Full l)) = (S : Stands ds es xs slots bs first ws l) × (0 < length S.entries)
+Reached ds es xs n slots bs first ws (Err (NoSpace l)) = (S : Stands ds es xs slots bs first ws l) × LacksSpace (length bs) (ds ++ S.entries) xs
 
 -- Naming came so far, and the text of a word is that of a term in a line.
-pub record CanNameWord (slots bs : List ℕ) (first : ℕ) (p : Progress) (line : List ℕ) (token : Token) (ws : List ℕ) (j : ℕ) : Type 0 where
+pub record CanNameWord (slots bs : List ℕ) (first : ℕ) (l : Last) (line : List ℕ) (token : Token) (ws : List ℕ) (j : ℕ) : Type 0 where
   pub before : List Entry
   pub old : List Entry
   pub texts : List Text
-  pub reached : Reached before old texts j slots bs first ws p
+  pub reached : Reached before old texts j slots bs first ws (Ok l)
   pub within : j < length texts
   pub has : HasText line token.from token.end (get_or texts j no_text)
   pub enough : 65536 ≤ length slots
@@ -93,11 +93,11 @@ pub record TextsIn (line : List ℕ) (k : Tokens) (xs : List Text) (j : ℕ) : T
   pub object : HasText line k.object.from k.object.end (get_or xs (j + 2) no_text)
 
 -- Naming came so far, and the texts of three words are those of a line.
-pub record CanNameLine (slots bs : List ℕ) (first : ℕ) (p : Progress) (line : List ℕ) (k : Tokens) (ws : List ℕ) (j : ℕ) : Type 0 where
+pub record CanNameLine (slots bs : List ℕ) (first : ℕ) (l : Last) (line : List ℕ) (k : Tokens) (ws : List ℕ) (j : ℕ) : Type 0 where
   pub before : List Entry
   pub old : List Entry
   pub texts : List Text
-  pub reached : Reached before old texts j slots bs first ws p
+  pub reached : Reached before old texts j slots bs first ws (Ok l)
   pub within : j + 3 ≤ length texts
   pub has : TextsIn line k texts j
   pub enough : 65536 ≤ length slots
@@ -105,18 +105,12 @@ pub record CanNameLine (slots bs : List ℕ) (first : ℕ) (p : Progress) (line 
 
 -- ---- lines
 
--- Whether naming goes on.
-unfoldable pub is_going : Progress → Bool
-is_going (Going l) = true
-is_going (Full l) = false
-is_going (NoSpace l) = false
-
 -- Naming came to a line that begins at a byte index.
-pub record CanNameAt (slots bs : List ℕ) (first : ℕ) (p : Progress) (file : List ℕ) (begin : ℕ) (ws : List ℕ) (i : ℕ) : Type 0 where
+pub record CanNameAt (slots bs : List ℕ) (first : ℕ) (l : Last) (file : List ℕ) (begin : ℕ) (ws : List ℕ) (i : ℕ) : Type 0 where
   pub before : List Entry
   pub old : List Entry
   pub triples : List TextTriple
-  pub reached : Reached before old (lines_texts triples) (i * 3) slots bs first ws p
+  pub reached : Reached before old (lines_texts triples) (i * 3) slots bs first ws (Ok l)
   pub within : i < length triples
   pub line : LineAt file begin (get_or triples i no_triple)
   pub enough : 65536 ≤ length slots

@@ -6,7 +6,4 @@ use Rattle.ntriples_rows.proofs.Lines.{Left}
 use Rattle.ntriples_rows.proofs.write_rows.Given as goal
 
 abbrev pub invariant-loop-i : goal.invariant-loop-i
-invariant-loop-i l = (l.i ≤ l.n) × Left (entries l.dictionary) (rows l.table) (drop l.i (rows l.table)) l.initial.out l.out l.at
-
-abbrev pub decreases-loop-i : goal.decreases-loop-i
-decreases-loop-i l = l.n - l.i
+invariant-loop-i l = Left (entries l.dictionary) (rows l.table) (drop l.i (rows l.table)) l.initial.out l.out l.at

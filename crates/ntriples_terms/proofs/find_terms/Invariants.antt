@@ -10,7 +10,4 @@ use Rattle.ntriples_terms.proofs.Rows.{Written}
 use Rattle.ntriples_terms.proofs.find_terms.Given as goal
 
 abbrev pub invariant-loop-i : goal.invariant-loop-i
-invariant-loop-i l = (l.i ≤ l.n) × (length l.terms ≡ length l.initial.terms) × ((es : List Entry) (ts : List TextTriple) → IndexOf l.slots l.dictionary l.first es → LinesAt l.file l.lines l.n ts → Written (found_row es) ts l.i l.initial.terms l.terms)
-
-abbrev pub decreases-loop-i : goal.decreases-loop-i
-decreases-loop-i l = l.n - l.i
+invariant-loop-i l = (length l.terms ≡ length l.initial.terms) × ((es : List Entry) (ts : List TextTriple) → IndexOf l.slots l.dictionary l.first es → LinesAt l.file l.lines l.n ts → Written (found_row es) ts l.i l.initial.terms l.terms)

@@ -9,7 +9,4 @@ use Rattle.ntriples_terms.proofs.Rows.{Written}
 use Rattle.ntriples_terms.proofs.name_vocabulary.Given as goal
 
 abbrev pub invariant-loop-i : goal.invariant-loop-i
-invariant-loop-i l = (l.i ≤ l.n) × (length l.terms ≡ length l.initial.terms) × ((ts : List TextTriple) → LinesAt l.file l.lines l.n ts → Written (λ t r. triple_by vocabulary_of t) ts l.i l.initial.terms l.terms)
-
-abbrev pub decreases-loop-i : goal.decreases-loop-i
-decreases-loop-i l = l.n - l.i
+invariant-loop-i l = (length l.terms ≡ length l.initial.terms) × ((ts : List TextTriple) → LinesAt l.file l.lines l.n ts → Written (λ t r. triple_by vocabulary_of t) ts l.i l.initial.terms l.terms)

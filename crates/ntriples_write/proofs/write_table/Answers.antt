@@ -8,12 +8,12 @@ returns-then-not-formed c = no_table c.args.table.now c.args.dictionary.now (len
 
 -- src/lib.rt:55:30
 pub write_lines-requires : goal.write_lines-requires
-write_lines-requires c = record { laid = c.requires c.if-not-formed.false; dictionary_value = rw c.in-Right.is at c.check_dictionary.ensures }
+write_lines-requires c = record { laid = c.requires c.if-not-formed.false; dictionary_value = rw c.in-Some.is at c.check_dictionary.ensures }
 
 -- src/lib.rt:46:1
-pub returns-in-Wrong : goal.returns-in-Wrong
-returns-in-Wrong c = no_dictionary c.args.table.now c.args.dictionary.now (length c.args.out.now) _ c.args.formed c.if-not-formed.false (rw c.in-Wrong.is at c.check_dictionary.ensures) c.refuse-in-Wrong.ensures
+pub returns-in-None : goal.returns-in-None
+returns-in-None c = no_dictionary c.args.table.now c.args.dictionary.now (length c.args.out.now) _ c.args.formed c.if-not-formed.false (rw c.in-None.is at c.check_dictionary.ensures) c.refuse-in-None.ensures
 
 -- src/lib.rt:46:1
-pub returns-in-Right : goal.returns-in-Right
-returns-in-Right c = formed-written c.args.table.now c.args.dictionary.now (length c.args.out.now) _ c.args.formed c.if-not-formed.false c.write_lines.ensures
+pub returns-in-Some : goal.returns-in-Some
+returns-in-Some c = formed-written c.args.table.now c.args.dictionary.now (length c.args.out.now) _ c.args.formed c.if-not-formed.false c.write_lines.ensures
