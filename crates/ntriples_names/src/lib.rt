@@ -36,7 +36,7 @@ fn name_at(
         slots,
         dictionary,
         first,
-        last,
+        Ok(last),
         &file[begin..end],
         k,
         terms,

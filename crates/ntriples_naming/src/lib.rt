@@ -62,20 +62,21 @@ fn name_word(
     }
 }
 
-// The same for the three texts of a line, whose words begin at an index.
+// The same for the three texts of a line, whose words begin at an index, where naming goes on; where it has stopped, nothing is named.
 pub fn name_line(
     slots: &mut [u32],
     dictionary: &mut [u8],
     first: usize,
-    last: Last,
+    so_far: Result<Last, Stopped>,
     line: &[u8],
     k: Tokens,
     terms: &mut [u32],
     j: usize,
 ) -> Result<Last, Stopped>
-    requires { CanNameLine slots.old dictionary.old first last line.now k terms.old j }
-    ensures { (ds es : List Entry) (xs : List Text) → j + 3 ≤ length xs → TextsIn line.now k xs j → Reached ds es xs j slots.old dictionary.old first terms.old (Ok last) → Reached ds es xs (j + 3) slots.new dictionary.new first terms.new result }
+    requires { CanNameLine slots.old dictionary.old first so_far line.now k terms.old j }
+    ensures { (ds es : List Entry) (xs : List Text) → j + 3 ≤ length xs → TextsIn line.now k xs j → Reached ds es xs j slots.old dictionary.old first terms.old so_far → Reached ds es xs (j + 3) slots.new dictionary.new first terms.new result }
 {
+    let last = so_far?;
     let subject = k.subject;
     let property = k.property;
     let object = k.object;

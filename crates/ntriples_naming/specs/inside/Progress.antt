@@ -92,12 +92,12 @@ pub record TextsIn (line : List ℕ) (k : Tokens) (xs : List Text) (j : ℕ) : T
   pub property : HasText line k.property.from k.property.end (get_or xs (j + 1) no_text)
   pub object : HasText line k.object.from k.object.end (get_or xs (j + 2) no_text)
 
--- Naming came so far, and the texts of three words are those of a line.
-pub record CanNameLine (slots bs : List ℕ) (first : ℕ) (l : Last) (line : List ℕ) (k : Tokens) (ws : List ℕ) (j : ℕ) : Type 0 where
+-- Naming came so far or stopped, and the texts of three words are those of a line.
+pub record CanNameLine (slots bs : List ℕ) (first : ℕ) (p : Result Last Stopped) (line : List ℕ) (k : Tokens) (ws : List ℕ) (j : ℕ) : Type 0 where
   pub before : List Entry
   pub old : List Entry
   pub texts : List Text
-  pub reached : Reached before old texts j slots bs first ws (Ok l)
+  pub reached : Reached before old texts j slots bs first ws p
   pub within : j + 3 ≤ length texts
   pub has : TextsIn line k texts j
   pub enough : 65536 ≤ length slots
