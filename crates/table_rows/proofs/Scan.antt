@@ -131,3 +131,18 @@ tested-is_less x y = by (compare_triples x y)
     by (less l) = tested-less x y l ∙ sym (less-is_less l)
     by (same e) = rw e (tested_same y) ∙ sym (same-is_less e)
     by (more l) = tested_more x y l ∙ sym (more-is_less l)
+
+or_right : (b : Bool) → b ≡ (b || false)
+or_right true = refl
+or_right false = refl
+
+-- Word by word: the first that differ decide.
+pub before_subject : (x y : Triple) → ¬ (x.subject ≡ y.subject) → ltb x.subject y.subject ≡ is_less x y
+before_subject x y n = or_right (ltb x.subject y.subject) ∙ (rw (ne_eqb x.subject y.subject n) at (tested-is_less x y))
+
+pub before_property : (x y : Triple) → x.subject ≡ y.subject → ¬ (x.property ≡ y.property) → ltb x.property y.property ≡ is_less x y
+before_property x y e n =
+    or_right (ltb x.property y.property) ∙ (rw (le-ltb x.subject y.subject (omega arith), eq-eqb x.subject y.subject e, ne_eqb x.property y.property n) at (tested-is_less x y))
+
+pub before_object : (x y : Triple) → x.subject ≡ y.subject → x.property ≡ y.property → ltb x.object y.object ≡ is_less x y
+before_object x y e f = rw (le-ltb x.subject y.subject (omega arith), eq-eqb x.subject y.subject e, le-ltb x.property y.property (omega arith), eq-eqb x.property y.property f) at (tested-is_less x y)

@@ -22,6 +22,19 @@ fn is_less(x: Triple, y: Triple) -> bool
             & ((x.property < y.property) | ((x.property == y.property) & (x.object < y.object))))
 }
 
+// The same, up to the first words that differ. Rows of statements mostly differ in the first, and this is then faster.
+fn is_before(x: Triple, y: Triple) -> bool
+    ensures { result ≡ is_less x y }
+{
+    if x.subject != y.subject {
+        return x.subject < y.subject;
+    }
+    if x.property != y.property {
+        return x.property < y.property;
+    }
+    x.object < y.object
+}
+
 // Whether the first n rows are statements and ascend.
 pub fn are_statement_rows(t: &[u32], n: usize) -> bool
     requires { n * 3 < length t.now }
@@ -32,7 +45,7 @@ pub fn are_statement_rows(t: &[u32], n: usize) -> bool
         if !is_allowed_statement(row) {
             return false;
         }
-        if 0 < i && !is_less(row_at(t, i - 1), row) {
+        if 0 < i && !is_before(row_at(t, i - 1), row) {
             return false;
         }
     }
