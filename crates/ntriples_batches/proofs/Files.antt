@@ -1,5 +1,5 @@
 -- Laws of naming a file in one batch more. Assumes nothing.
-use Prim.Native.Nat.{ℕ, ◌+◌, ◌-◌, ◌^◌, ◌≤◌, ◌<◌}
+use Prim.Native.Nat.{ℕ, ◌-◌, ◌^◌, ◌≤◌, ◌<◌}
 use mathlib.Core.Path.{◌≡◌, refl, sym, ap, ◌∙◌}
 use mathlib.Core.List.{List, [], ◌∷◌, ◌++◌, map, append_assoc, append-nil}
 use mathlib.Core.Bool.{true, ◌&&◌}
@@ -16,7 +16,7 @@ use Rattle.spec.specs.inside.Each.{Each}
 use Rattle.spec_ntriples.specs.Texts.{TextTriple}
 use Rattle.spec_ntriples.specs.computed.Lines.{triples, document}
 use Rattle.spec_ntriples.specs.Dictionary.{Entry, bytes_of_entries, first_number, next_number, are_numbers_enough}
-use Rattle.spec_ntriples.specs.Reading.{with_texts, with_all, triple_of}
+use Rattle.spec_ntriples.specs.Reading.{with_all, triple_of}
 use Rattle.spec.proofs.Each.{each_front, each_back}
 use Rattle.spec_ntriples.proofs.Numbers.{texts_of_kind, Enough, numbers_enough, enough_front}
 use Rattle.spec_ntriples.specs.Sights.{first_sights, known_texts, file_texts}

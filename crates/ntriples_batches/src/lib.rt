@@ -42,7 +42,10 @@ pub fn name_file(
         let batch = gather_lines(file, from, &mut lines);
         from = batch.next;
         left -= batch.count;
-        filled = name_batch(file, &lines, batch.count, dictionary, filled, terms)?;
+        filled = match name_batch(file, &lines, batch.count, dictionary, filled, terms) {
+            Ok(more) => more,
+            Err(lacks) => return Err(lacks),
+        };
     }
     Ok(filled)
 }

@@ -1,7 +1,6 @@
 use native.Mathlib.Omega.{arith}
 use mathlib.Core.Path.{refl, ◌∙◌}
 use Rattle.ntriples_batches.proofs.Files.{none_done, all_done, count-few, count-some, can_name, more-done, more-lacks, filled_have}
-use Rattle.std.proofs.lemmas.Result.{err_from_is_err_and}
 use Rattle.ntriples_batches.proofs.name_file.Goals as goal
 
 -- src/lib.rt:40:5
@@ -21,8 +20,8 @@ pub name_batch-requires : goal.name_batch-requires
 name_batch-requires c = can_name c.args.file.now c.requires.old c.requires.lines c.loop-left.dictionary c.loop-left.from c.loop-left.left c.loop-left.filled c.loop-left.terms (c.loop-left.invariant.4 c.requires.old c.requires.lines c.requires.said c.requires.counted c.requires.filled) c.requires.said c.gather_lines-batch.new.lines c.gather_lines-batch.result (c.gather_lines-batch.auto.lines ∙ c.loop-left.invariant.2) (c.gather_lines-batch.ensures.gathered (c.loop-left.invariant.4 c.requires.old c.requires.lines c.requires.said c.requires.counted c.requires.filled).rest (c.loop-left.invariant.4 c.requires.old c.requires.lines c.requires.said c.requires.counted c.requires.filled).behind) (omega (arith, c.requires.room, c.loop-left.invariant.1))
 
 -- src/lib.rt:46:17
-pub returns-in_err-filled : goal.returns-in_err-filled
-returns-in_err-filled c = λ es ts e k F. let p = err_from_is_err_and c.from_residual.result c.from_residual.ensures.1 in rw (p.1, p.2) (more-lacks c.args.file.now es ts c.loop-left.dictionary c.loop-left.from c.loop-left.left c.loop-left.filled c.loop-left.terms (c.loop-left.invariant.4 es ts e k F) e c.gather_lines-batch.new.lines c.gather_lines-batch.result (c.gather_lines-batch.auto.lines ∙ c.loop-left.invariant.2) (c.gather_lines-batch.ensures.gathered (c.loop-left.invariant.4 es ts e k F).rest (c.loop-left.invariant.4 es ts e k F).behind) c.name_batch.new.dictionary c.name_batch.new.terms c.name_batch.result c.name_batch.ensures (filled_have c.args.dictionary.now c.args.f es F) _ c.in_err-filled.was)
+pub returns-in-Err : goal.returns-in-Err
+returns-in-Err c = λ es ts e k F. more-lacks c.args.file.now es ts c.loop-left.dictionary c.loop-left.from c.loop-left.left c.loop-left.filled c.loop-left.terms (c.loop-left.invariant.4 es ts e k F) e c.gather_lines-batch.new.lines c.gather_lines-batch.result (c.gather_lines-batch.auto.lines ∙ c.loop-left.invariant.2) (c.gather_lines-batch.ensures.gathered (c.loop-left.invariant.4 es ts e k F).rest (c.loop-left.invariant.4 es ts e k F).behind) c.name_batch.new.dictionary c.name_batch.new.terms c.name_batch.result c.name_batch.ensures (filled_have c.args.dictionary.now c.args.f es F) _ c.in-Err.is
 
 -- src/lib.rt:40:5
 pub loop-left-smaller : goal.loop-left-smaller
@@ -30,7 +29,7 @@ loop-left-smaller c = omega (arith, count-few c.args.file.now c.requires.old c.r
 
 -- src/lib.rt:40:5
 pub loop-left-preserved : goal.loop-left-preserved
-loop-left-preserved c = (c.name_batch.auto.dictionary ∙ c.loop-left.invariant.0, c.name_batch.auto.terms ∙ c.loop-left.invariant.1, (c.gather_lines-batch.auto.lines ∙ c.loop-left.invariant.2), c.gather_lines-batch.ensures.within, λ es ts e k F. more-done c.args.file.now es ts c.loop-left.dictionary c.loop-left.from c.loop-left.left c.loop-left.filled c.loop-left.terms (c.loop-left.invariant.4 es ts e k F) e c.gather_lines-batch.new.lines c.gather_lines-batch.result (c.gather_lines-batch.auto.lines ∙ c.loop-left.invariant.2) (c.gather_lines-batch.ensures.gathered (c.loop-left.invariant.4 es ts e k F).rest (c.loop-left.invariant.4 es ts e k F).behind) c.name_batch.new.dictionary c.name_batch.new.terms c.name_batch.result c.name_batch.ensures (filled_have c.args.dictionary.now c.args.f es F) _ c.in_ok-filled.was c.loop-left-test.true)
+loop-left-preserved c = (c.name_batch.auto.dictionary ∙ c.loop-left.invariant.0, c.name_batch.auto.terms ∙ c.loop-left.invariant.1, (c.gather_lines-batch.auto.lines ∙ c.loop-left.invariant.2), c.gather_lines-batch.ensures.within, λ es ts e k F. more-done c.args.file.now es ts c.loop-left.dictionary c.loop-left.from c.loop-left.left c.loop-left.filled c.loop-left.terms (c.loop-left.invariant.4 es ts e k F) e c.gather_lines-batch.new.lines c.gather_lines-batch.result (c.gather_lines-batch.auto.lines ∙ c.loop-left.invariant.2) (c.gather_lines-batch.ensures.gathered (c.loop-left.invariant.4 es ts e k F).rest (c.loop-left.invariant.4 es ts e k F).behind) c.name_batch.new.dictionary c.name_batch.new.terms c.name_batch.result c.name_batch.ensures (filled_have c.args.dictionary.now c.args.f es F) _ c.in-Ok.is c.loop-left-test.true)
 
 -- src/lib.rt:26:1
 pub returns : goal.returns
