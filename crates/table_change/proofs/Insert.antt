@@ -79,7 +79,7 @@ put len at x ts h k =
     let l : length (take at ts) ≡ at = length-take-le at ts h in
     rw e at (put_split len (take at ts) (drop at ts) x (at * 3 + 1) (length ts * 3 + 1) (rw l) (rw e) (rw e k))
 
--- The same, as `insert_at` leaves the words: v is what `move_up` left of ws.
+-- The same, as `insert_at` leaves the words: v is what `copy_within` left of ws.
 pub put-row : (ws v : List ℕ) (at : ℕ) (x : Triple) → Laid ws → length (rows ws) * 3 + 3 < length ws → at ≤ length (rows ws) → v ≡ moved_up (at * 3 + 1) (count ws * 3 + 1) ws
     → set (set (set (set v (at * 3 + 1) x.subject) (at * 3 + 1 + 1) x.property) (at * 3 + 1 + 2) x.object) 0 (count ws + 1)
     ≡ layout (length ws) (insert_at at x (rows ws))

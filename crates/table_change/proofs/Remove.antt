@@ -62,7 +62,7 @@ drop_split len a b x k e three m i j o l h =
     let z : len - (length (a ++ b) * 3 + 1) ≡ suc (suc (suc (len - (n * 3 + 1)))) = omega arith in
     rw (s₀, filled (P ++ Q) Z C.0 C.1 C.2 e three both o, l, z, flatten-append)
 
--- The words as `remove_at` leaves them: v is what `move_down` left of ws, and zs the n zeros that `fill` wrote.
+-- The words as `remove_at` leaves them: v is what `copy_within` left of ws, and zs the n zeros that `fill` wrote.
 pub drop-row : (ws v zs : List ℕ) (at n : ℕ) → Laid ws → at < length (rows ws) → n ≡ 3 → v ≡ moved_down (at * 3 + 1) (count ws * 3 - 2) ws
     → zs ≡ replicate (length (take n (drop (count ws * 3 - 2) v))) 0
     → set (put_mid (count ws * 3 - 2) n v zs) 0 (count ws - 1) ≡ layout (length ws) (remove_at at (rows ws))

@@ -4,7 +4,7 @@
 ghost use Rattle.std.specs.Prelude.{◌≡◌, ◌+◌, ◌*◌, ◌≤◌, ◌<◌, length};
 ghost use Rattle.spec.specs.Tables.{rows, layout};
 ghost use Rattle.spec.specs.inside.Laid.{Laid, Spare};
-ghost use Rattle.table_change.specs.inside.Words.{Entered, moved_up, moved_down, insert_at, remove_at};
+ghost use Rattle.table_change.specs.inside.Words.{Entered, insert_at, remove_at};
 
 use spec::Triple;
 
@@ -20,26 +20,6 @@ pub fn put_entry(kept: &mut [u32], supports: &mut [u16], i: usize, x: Triple, su
     supports[i] = support;
 }
 
-// Moves the words from index a to index e three up. One by one: `copy_within` would have the library need `memmove` from outside.
-fn move_up(t: &mut [u32], a: usize, e: usize)
-    requires { (a ≤ e) × (e + 3 ≤ length t.old) }
-    ensures { t.new ≡ moved_up a e t.old }
-{
-    for i in (a..e).rev() {
-        t[i + 3] = t[i];
-    }
-}
-
-// Moves the words from index a + 3 to index e + 3 three down. One by one, as above.
-fn move_down(t: &mut [u32], a: usize, e: usize)
-    requires { (a ≤ e) × (e + 3 ≤ length t.old) }
-    ensures { t.new ≡ moved_down a e t.old }
-{
-    for i in a..e {
-        t[i] = t[i + 3];
-    }
-}
-
 // Puts x before row at.
 pub fn insert_at(t: &mut [u32], at: usize, x: Triple)
     requires spare { Spare t.old }
@@ -48,7 +28,7 @@ pub fn insert_at(t: &mut [u32], at: usize, x: Triple)
 {
     let n = t[0];
     let k = at * 3 + 1;
-    move_up(t, k, n as usize * 3 + 1);
+    t.copy_within(k..n as usize * 3 + 1, k + 3);
     t[k] = x.subject;
     t[k + 1] = x.property;
     t[k + 2] = x.object;
@@ -64,7 +44,7 @@ pub fn remove_at(t: &mut [u32], at: usize)
     let n = t[0];
     let k = at * 3 + 1;
     let e = n as usize * 3 - 2;
-    move_down(t, k, e);
+    t.copy_within(k + 3..e + 3, k);
     t[e..e + 3].fill(0);
     t[0] = n - 1;
 }
