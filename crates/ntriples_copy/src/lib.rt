@@ -5,13 +5,15 @@ ghost use Rattle.std.specs.Prelude.{◌≡◌, ◌+◌, ◌-◌, ◌≤◌, leng
 ghost use Rattle.std.proofs.lemmas.List.Edits.{sets};
 ghost use Rattle.ntriples_copy.specs.inside.Vocabulary.{vocabulary_text};
 
-// Copies n bytes, from one index on, to another.
+// Copies n bytes, from one index on, to another. One by one: with `copy_from_slice` the exported library would need `memmove` from outside.
 pub fn copy_bytes(bytes: &[u8], from: usize, n: usize, out: &mut [u8], at: usize)
     requires n_in_bounds { from + n ≤ length bytes.now }
     requires n_in_bounds_2 { at + n ≤ length out.old }
     ensures { out.new ≡ sets out.old at (take n (drop from bytes.now)) }
 {
-    out[at..at + n].copy_from_slice(&bytes[from..from + n]);
+    for k in 0..n {
+        out[at + k] = bytes[from + k];
+    }
 }
 
 // The text of a vocabulary URI.
