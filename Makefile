@@ -3,7 +3,7 @@
 SHELL := /bin/bash
 .SHELLFLAGS := -eu -o pipefail -c
 CATALOGUE := crates/kept_ntriples/catalogue.nt
-.PHONY: run test crate trial tried trial-of-binding trial-of-programs bench bench-docs library programs deps jena rapper serdi prolog postgres valgrind cargo toolchain
+.PHONY: run test crate trial tried trial-of-binding trial-of-programs trial-of-needs bench bench-docs library programs deps jena rapper serdi prolog postgres valgrind cargo toolchain
 
 run: programs
 	@echo "families, on the worked example's delivery (crates/families/stdin):" >&2
@@ -34,6 +34,9 @@ SHELF_STDOUT := bindings/rust/examples/shelf.stdout
 # What tools/programs must print.
 PROGRAMS_STDOUT := tests/cases/programs.stdout
 
+# What the exported library calls that whoever links it must have.
+NEEDS := tests/cases/needs.stdout
+
 trial: library programs
 	@$(MAKE) --no-print-directory tried
 
@@ -41,7 +44,7 @@ trial: library programs
 tried: cargo jena rapper serdi valgrind
 	@mkdir -p $(LOGS) && tools/chain >$(LOGS)/chain.log || exit 1
 	@CARGO_TARGET_DIR=target/tests cargo build --release --offline --quiet --manifest-path tests/Cargo.toml
-	@$(MAKE) --no-print-directory -j$$(nproc) $(TRIED:%=trial-%) trial-of-binding trial-of-programs
+	@$(MAKE) --no-print-directory -j$$(nproc) $(TRIED:%=trial-%) trial-of-binding trial-of-programs trial-of-needs
 
 $(TRIED:%=trial-%): trial-%:
 	@echo "trial, part $*: its log is $(LOGS)/$*.log" >&2; $(TRIAL) --part $* >$(LOGS)/$*.log 2>&1 \
@@ -52,6 +55,10 @@ trial-of-binding:
 
 trial-of-programs:
 	@echo "trial, the programs" >&2; tools/programs | diff $(PROGRAMS_STDOUT) - || { echo "tools/programs does not print $(PROGRAMS_STDOUT)" >&2; exit 1; }
+
+trial-of-needs:
+	@echo "trial, what the exported library needs" >&2; nm -u target/staticlib/libcapi.a | awk '$$1 == "U" { print $$2 }' | sort -u | diff $(NEEDS) - \
+		|| { echo "the exported library does not need from outside what $(NEEDS) has" >&2; exit 1; }
 
 # The exported library beside the peers named, and alone: target/bench/report.md and target/bench/plot.svg. `make bench BENCH_PEERS=` runs
 # it alone; `make bench BENCH_OPTIONS=--quick` takes a small workload, `make bench BENCH_OPTIONS=--only=reading` measures one part of the
